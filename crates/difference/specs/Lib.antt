@@ -1,0 +1,2 @@
+-- Difference, median and interval difference of rows (document 01, "Differences, medians, intervals").
+pub mod Rows

@@ -1,0 +1,44 @@
+-- The difference of two rows, the median of three, and the interval difference (Farris 1970).
+-- A row is a list of whole-number codes, one for each character.
+use mathlib.Core.List.{List, [], _∷_}
+use mathlib.Core.Bool.{cond}
+use Prim.Native.Nat.{ℕ, _+_, _-_, _/_}
+use lib.IntN.{ℤ, _-ℤ_, natAbs}
+use lib.Signed.{leZ}
+
+-- the absolute difference of two codes
+unfoldable pub apart : ℤ → ℤ → ℕ
+apart a b = natAbs (a -ℤ b)
+
+unfoldable pub lower : ℤ → ℤ → ℤ
+lower a b = cond (leZ a b) a b
+
+unfoldable pub higher : ℤ → ℤ → ℤ
+higher a b = cond (leZ a b) b a
+
+-- the middle one of three codes
+unfoldable pub median : ℤ → ℤ → ℤ → ℤ
+median a b c = higher (lower a b) (lower (higher a b) c)
+
+-- the sum over characters of the absolute difference of two rows' codes
+unfoldable pub difference : List ℤ → List ℤ → ℕ
+difference [] ys = 0
+difference (x ∷ xs) [] = 0
+difference (x ∷ xs) (y ∷ ys) = apart x y + difference xs ys
+
+-- the median of three rows, character by character
+unfoldable pub medians : List ℤ → List ℤ → List ℤ → List ℤ
+medians [] ys zs = []
+medians (x ∷ xs) [] zs = []
+medians (x ∷ xs) (y ∷ ys) [] = []
+medians (x ∷ xs) (y ∷ ys) (z ∷ zs) = median x y z ∷ medians xs ys zs
+
+-- the interval difference of b from the interval between c and d: half of d(b,c) + d(b,d) - d(c,d)
+unfoldable pub intervalDifference : List ℤ → List ℤ → List ℤ → ℕ
+intervalDifference b c d = (difference b c + difference b d - difference c d) / 2
+
+-- a list with others written over its front, as far as it goes
+unfoldable pub overwritten : List ℤ → List ℤ → List ℤ
+overwritten [] old = old
+overwritten (x ∷ xs) [] = []
+overwritten (x ∷ xs) (o ∷ old) = x ∷ overwritten xs old

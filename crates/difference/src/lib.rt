@@ -1,0 +1,1 @@
+// Difference, median and interval difference.

@@ -1,0 +1,66 @@
+-- The questions put to a lent matrix, in document 01's order: a "no" ends them with its refusal.
+use mathlib.Core.List.{List, [], _∷_}
+use mathlib.Core.Bool.{Bool, true, false, _&&_, _||_}
+use Prim.Native.Nat.{ℕ, zero, suc}
+use lib.Dec.{leb, eqb}
+use lib.IntN.{ℤ}
+use lib.ListN.{length}
+use Rattle.matrix.specs.Shape.{matrixSize, row, inRange, lastNode}
+use Rattle.matrix.specs.declared.refusal.Refusal.{Refusal}
+use Rattle.matrix.specs.declared.refusal.Refusal.the-variants.{BeyondLimits, CodeRange, ListSize, NotThere}
+use Rattle.matrix.specs.declared.refusal.Asked.{Asked}
+use Rattle.matrix.specs.declared.refusal.Asked.the-variants.{Passed, Refused}
+
+-- one question, and those that follow if its answer is "yes"
+abbrev pub ask : Bool → Refusal → Asked → Asked
+ask true refusal rest = rest
+ask false refusal rest = Refused refusal
+
+-- the questions that follow if all earlier ones passed
+abbrev pub andThen : Asked → Asked → Asked
+andThen Passed rest = rest
+andThen (Refused refusal) rest = Refused refusal
+
+-- n is 1 to 64 and m is 1 to 128
+unfoldable pub withinLimits : ℕ → ℕ → Bool
+withinLimits n m = (leb 1 n && leb n 64) && (leb 1 m && leb m 128)
+
+-- all codes of a row are from -999 to 999
+unfoldable pub allInRange : List ℤ → Bool
+allInRange [] = true
+allInRange (code ∷ codes) = inRange code && allInRange codes
+
+-- all m codes of rows 1 to n are from -999 to 999
+unfoldable pub rowsInRange : List ℤ → ℕ → ℕ → Bool
+rowsInRange codes m zero = true
+rowsInRange codes m (suc n) = rowsInRange codes m n && allInRange (row codes m (suc n))
+
+-- the questions on a lent matrix alone: full size, limits, codes of the taxa
+unfoldable pub askMatrix : List ℤ → ℕ → ℕ → Asked
+askMatrix codes n m =
+    ask (eqb (length codes) matrixSize) ListSize
+    (ask (withinLimits n m) BeyondLimits (ask (rowsInRange codes m n) CodeRange Passed))
+
+-- a taxon is 1 to n, a character 1 to m, a node 1 to the last node
+unfoldable pub exists : ℕ → ℕ → Bool
+exists last item = leb 1 item && leb item last
+
+-- every node of a list exists
+unfoldable pub nodesExist : ℕ → List ℕ → Bool
+nodesExist n [] = true
+nodesExist n (v ∷ vs) = exists (lastNode n) v && nodesExist n vs
+
+-- the row of node v, if it is an HTU, has codes from -999 to 999
+unfoldable pub htuInRange : List ℤ → ℕ → ℕ → ℕ → Bool
+htuInRange codes n m v = leb v n || allInRange (row codes m v)
+
+-- the rows of the HTUs among the nodes of a list have codes from -999 to 999
+unfoldable pub htusInRange : List ℤ → ℕ → ℕ → List ℕ → Bool
+htusInRange codes n m [] = true
+htusInRange codes n m (v ∷ vs) = htuInRange codes n m v && htusInRange codes n m vs
+
+-- the questions of a call that names some nodes: those on the matrix, then whether the nodes exist, then the rows of the HTUs among them
+unfoldable pub askNodes : List ℤ → ℕ → ℕ → List ℕ → Asked
+askNodes codes n m nodes =
+    andThen (askMatrix codes n m)
+    (ask (nodesExist n nodes) NotThere (ask (htusInRange codes n m nodes) CodeRange Passed))

@@ -1,0 +1,20 @@
+-- The number of each refusal (document 01, "The questions put to an input").
+use Prim.Native.Nat.{ℕ}
+use Rattle.matrix.specs.declared.refusal.Refusal.{Refusal}
+use Rattle.matrix.specs.declared.refusal.Refusal.the-variants.{FileTooLong, FileEmpty, FirstLine, BeyondLimits, LineMissing, NameForm, NameTaken, FieldCount, CodeForm, CodeRange, FileGoesOn, ListSize, NotThere, NotBranching}
+
+unfoldable pub refusalNumber : Refusal → ℕ
+refusalNumber FileTooLong = 1
+refusalNumber FileEmpty = 2
+refusalNumber FirstLine = 3
+refusalNumber BeyondLimits = 4
+refusalNumber LineMissing = 5
+refusalNumber NameForm = 6
+refusalNumber NameTaken = 7
+refusalNumber FieldCount = 8
+refusalNumber CodeForm = 9
+refusalNumber CodeRange = 10
+refusalNumber FileGoesOn = 11
+refusalNumber ListSize = 12
+refusalNumber NotThere = 13
+refusalNumber NotBranching = 14
