@@ -2,3 +2,4 @@
 pub mod Shape
 pub mod Refusals
 pub mod Questions
+pub mod Choice

@@ -1,0 +1,18 @@
+-- A tree is a list of immediate ancestors by node number: place v holds the ancestor of node v, and 0 where node v has none or is not
+-- in the tree. Place 0 is not used.
+use mathlib.Core.List.{List, [], _∷_}
+use mathlib.Core.Bool.{cond}
+use Prim.Native.Nat.{ℕ}
+use lib.Dec.{eqb}
+use lib.ListN.{getD}
+
+-- the immediate ancestor of node v
+unfoldable pub ancestor : List ℕ → ℕ → ℕ
+ancestor tree v = getD tree v 0
+
+-- of a list of nodes, those whose immediate ancestor is v
+unfoldable pub descendants : List ℕ → List ℕ → ℕ → List ℕ
+descendants tree [] v = []
+descendants tree (u ∷ us) v =
+    let rest = descendants tree us v in
+    cond (eqb (ancestor tree u) v) (u ∷ rest) rest

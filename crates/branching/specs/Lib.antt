@@ -1,0 +1,2 @@
+-- Trees as lists of immediate ancestors.
+pub mod Ancestors

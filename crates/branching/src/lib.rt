@@ -1,0 +1,1 @@
+// What a branching is.
