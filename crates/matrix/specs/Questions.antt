@@ -1,10 +1,13 @@
 -- The questions put to a lent matrix, in document 01's order: a "no" ends them with its refusal.
-use mathlib.Core.List.{List, [], _∷_}
+use mathlib.Core.List.{List}
 use mathlib.Core.Bool.{Bool, true, false, _&&_, _||_}
-use Prim.Native.Nat.{ℕ, zero, suc}
+use mathlib.Core.Path.{_≡_}
+use Prim.Native.Nat.{ℕ, _≤_}
 use lib.Dec.{leb, eqb}
 use lib.IntN.{ℤ}
 use lib.ListN.{length}
+use Rattle.matrix.specs.Choice.{numbers}
+use Rattle.matrix.specs.Every.{every}
 use Rattle.matrix.specs.Shape.{matrixSize, row, inRange, lastNode}
 use Rattle.matrix.specs.declared.refusal.Refusal.{Refusal}
 use Rattle.matrix.specs.declared.refusal.Refusal.the-variants.{BeyondLimits, CodeRange, ListSize, NotThere}
@@ -21,19 +24,21 @@ abbrev pub andThen : Asked → Asked → Asked
 andThen Passed rest = rest
 andThen (Refused refusal) rest = Refused refusal
 
+-- an item, counted from 1, is one of `last`
+unfoldable pub oneTo : ℕ → ℕ → Bool
+oneTo last item = leb 1 item && leb item last
+
 -- n is 1 to 64 and m is 1 to 128
 unfoldable pub withinLimits : ℕ → ℕ → Bool
-withinLimits n m = (leb 1 n && leb n 64) && (leb 1 m && leb m 128)
+withinLimits n m = oneTo 64 n && oneTo 128 m
 
 -- all codes of a row are from -999 to 999
 unfoldable pub allInRange : List ℤ → Bool
-allInRange [] = true
-allInRange (code ∷ codes) = inRange code && allInRange codes
+allInRange codes = every inRange codes
 
 -- all m codes of rows 1 to n are from -999 to 999
 unfoldable pub rowsInRange : List ℤ → ℕ → ℕ → Bool
-rowsInRange codes m zero = true
-rowsInRange codes m (suc n) = rowsInRange codes m n && allInRange (row codes m (suc n))
+rowsInRange codes m n = every (λ v. allInRange (row codes m v)) (numbers 1 n)
 
 -- the questions on a lent matrix alone: full size, limits, codes of the taxa
 unfoldable pub askMatrix : List ℤ → ℕ → ℕ → Asked
@@ -41,14 +46,18 @@ askMatrix codes n m =
     ask (eqb (length codes) matrixSize) ListSize
     (ask (withinLimits n m) BeyondLimits (ask (rowsInRange codes m n) CodeRange Passed))
 
--- a taxon is 1 to n, a character 1 to m, a node 1 to the last node
-unfoldable pub exists : ℕ → ℕ → Bool
-exists last item = leb 1 item && leb item last
+-- a lent matrix of n taxa and m characters: what the questions above let pass
+pub record LentMatrix (codes : List ℤ) (n m : ℕ) : Type 0 where
+  pub full : length codes ≡ matrixSize
+  pub taxon : 1 ≤ n
+  pub taxa : n ≤ 64
+  pub character : 1 ≤ m
+  pub characters : m ≤ 128
+  pub known : (v : ℕ) → 1 ≤ v → v ≤ n → allInRange (row codes m v) ≡ true
 
--- every node of a list exists
+-- every node of a list is one of 1 to the last node
 unfoldable pub nodesExist : ℕ → List ℕ → Bool
-nodesExist n [] = true
-nodesExist n (v ∷ vs) = exists (lastNode n) v && nodesExist n vs
+nodesExist n nodes = every (oneTo (lastNode n)) nodes
 
 -- the row of node v, if it is an HTU, has codes from -999 to 999
 unfoldable pub htuInRange : List ℤ → ℕ → ℕ → ℕ → Bool
@@ -56,8 +65,7 @@ htuInRange codes n m v = leb v n || allInRange (row codes m v)
 
 -- the rows of the HTUs among the nodes of a list have codes from -999 to 999
 unfoldable pub htusInRange : List ℤ → ℕ → ℕ → List ℕ → Bool
-htusInRange codes n m [] = true
-htusInRange codes n m (v ∷ vs) = htuInRange codes n m v && htusInRange codes n m vs
+htusInRange codes n m nodes = every (htuInRange codes n m) nodes
 
 -- the questions of a call that names some nodes: those on the matrix, then whether the nodes exist, then the rows of the HTUs among them
 unfoldable pub askNodes : List ℤ → ℕ → ℕ → List ℕ → Asked

@@ -3,7 +3,7 @@ use Prim.Native.Nat.{ℕ}
 use Rattle.matrix.specs.declared.refusal.Refusal.{Refusal}
 use Rattle.matrix.specs.declared.refusal.Refusal.the-variants.{FileTooLong, FileEmpty, FirstLine, BeyondLimits, LineMissing, NameForm, NameTaken, FieldCount, CodeForm, CodeRange, FileGoesOn, ListSize, NotThere, NotBranching}
 
-unfoldable pub refusalNumber : Refusal → ℕ
+abbrev pub refusalNumber : Refusal → ℕ
 refusalNumber FileTooLong = 1
 refusalNumber FileEmpty = 2
 refusalNumber FirstLine = 3

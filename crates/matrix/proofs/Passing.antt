@@ -1,0 +1,84 @@
+-- What passed questions tell, and which matrices pass them.
+use mathlib.Core.Path.{_≡_, refl, sym, ap, _∙_}
+use mathlib.Core.Bool.{Bool, true, false, _&&_, and-eq-true-iff}
+use mathlib.Core.List.{List}
+use mathlib.Core.Logic.{_↔_}
+use Prim.Native.Nat.{ℕ, _+_, _-_, _≤_, _<_}
+use native.Mathlib.Omega.{arith}
+use borrow.Author.Tests.{leb-true, le-leb, eqb-true, eq-eqb}
+use lib.Dec.{leb, eqb}
+use lib.IntN.{ℤ}
+use lib.ListN.{length, getD}
+use Rattle.matrix.specs.Choice.{numbers}
+use Rattle.matrix.specs.Every.{every}
+use Rattle.matrix.specs.Shape.{matrixSize, row, lastNode}
+use Rattle.matrix.specs.Questions.{ask, oneTo, withinLimits, allInRange, rowsInRange, askMatrix, LentMatrix}
+use Rattle.matrix.specs.declared.refusal.Refusal.{Refusal}
+use Rattle.matrix.specs.declared.refusal.Refusal.the-variants.{BeyondLimits, CodeRange, ListSize}
+use Rattle.matrix.specs.declared.refusal.Asked.{Asked}
+use Rattle.matrix.specs.declared.refusal.Asked.the-variants.{Passed, Refused}
+use Rattle.matrix.proofs.Every.{every-at, every-from}
+use Rattle.matrix.proofs.Numbers.{numbers-length, numbers-getD}
+
+-- a refusal is no pass
+refused-not-passed : (r : Refusal) → Refused r ≡ Passed → ⊥
+refused-not-passed r e = let z : _≡_ {A = ℕ} 0 1 = cc in omega arith
+
+-- questions that pass: the first is answered "yes", and the rest pass
+pub ask-passed : (b : Bool) (r : Refusal) (rest : Asked) → ask b r rest ≡ Passed → (b ≡ true) × (rest ≡ Passed)
+ask-passed true r rest e = (refl, e)
+ask-passed false r rest e = absurd (refused-not-passed r e)
+
+-- an item that is one of `last` lies between 1 and `last`, and the other way round
+pub oneTo-true : (last item : ℕ) → oneTo last item ≡ true → (1 ≤ item) × (item ≤ last)
+unfolding oneTo
+oneTo-true last item e =
+    let p = and-eq-true-iff (leb 1 item) (leb item last) .0 e in
+    (leb-true 1 item (p .0), leb-true item last (p .1))
+
+pub true-oneTo : (last item : ℕ) → 1 ≤ item → item ≤ last → oneTo last item ≡ true
+unfolding oneTo
+true-oneTo last item low high = and-eq-true-iff (leb 1 item) (leb item last) .1 (le-leb 1 item low, le-leb item last high)
+
+-- rows 1 to n in range: each of them is
+pub rowsInRange-at : (codes : List ℤ) (m n : ℕ) → rowsInRange codes m n ≡ true → (v : ℕ) → 1 ≤ v → v ≤ n → allInRange (row codes m v) ≡ true
+unfolding rowsInRange
+rowsInRange-at codes m n e v low high =
+    let place : getD (numbers 1 n) (v - 1) 0 ≡ v = numbers-getD 1 n (v - 1) 0 (omega arith) ∙ omega arith in
+    rw place at (every-at (λ u. allInRange (row codes m u)) 0 (numbers 1 n) e (v - 1) (rw numbers-length (omega arith)))
+
+-- each of rows 1 to n in range: so are they all
+pub rowsInRange-from : (codes : List ℤ) (m n : ℕ) → ((v : ℕ) → 1 ≤ v → v ≤ n → allInRange (row codes m v) ≡ true) → rowsInRange codes m n ≡ true
+unfolding rowsInRange
+rowsInRange-from codes m n h = every-from (λ u. allInRange (row codes m u)) 0 (numbers 1 n) each
+  where
+    each : (i : ℕ) → i < length (numbers 1 n) → allInRange (row codes m (getD (numbers 1 n) i 0)) ≡ true
+    each i below =
+        let small : i < n = rw numbers-length at below in
+        rw (numbers-getD 1 n i 0 small) (h (1 + i) (omega arith) (omega arith))
+
+-- the questions pass a lent matrix of n taxa and m characters, and nothing else
+pub matrix-passes : (codes : List ℤ) (n m : ℕ) → (askMatrix codes n m ≡ Passed) ↔ LentMatrix codes n m
+unfolding askMatrix withinLimits
+matrix-passes codes n m = (passed, passes)
+  where
+    passed : askMatrix codes n m ≡ Passed → LentMatrix codes n m
+    passed e =
+        let size = ask-passed (eqb (length codes) matrixSize) ListSize _ e in
+        let limits = ask-passed (withinLimits n m) BeyondLimits _ (size .1) in
+        let codes-known = ask-passed (rowsInRange codes m n) CodeRange Passed (limits .1) in
+        let both = and-eq-true-iff (oneTo 64 n) (oneTo 128 m) .0 (limits .0) in
+        let taxa = oneTo-true 64 n (both .0) in
+        let characters = oneTo-true 128 m (both .1) in
+        record {
+          full = eqb-true _ _ (size .0);
+          taxon = taxa .0;
+          taxa = taxa .1;
+          character = characters .0;
+          characters = characters .1;
+          known = rowsInRange-at codes m n (codes-known .0);
+        }
+
+    passes : LentMatrix codes n m → askMatrix codes n m ≡ Passed
+    passes l =
+        rw (eq-eqb (length codes) matrixSize (l .full), true-oneTo 64 n (l .taxon) (l .taxa), true-oneTo 128 m (l .character) (l .characters), rowsInRange-from codes m n (l .known))
