@@ -1,2 +1,4 @@
 -- Difference, median and interval difference of rows (document 01, "Differences, medians, intervals").
 pub mod Rows
+pub mod Answers
+pub mod Calls

@@ -3,3 +3,4 @@ pub mod Both
 pub mod Every
 pub mod Numbers
 pub mod Passing
+pub mod Row

@@ -1,6 +1,6 @@
 -- What passed questions tell, and which matrices pass them.
-use mathlib.Core.Path.{_≡_, refl, sym, ap, _∙_}
-use mathlib.Core.Bool.{Bool, true, false, _&&_, and-eq-true-iff}
+use mathlib.Core.Path.{_≡_, refl, _∙_}
+use mathlib.Core.Bool.{Bool, true, false, and-eq-true-iff}
 use mathlib.Core.List.{List}
 use mathlib.Core.Logic.{_↔_}
 use Prim.Native.Nat.{ℕ, _+_, _-_, _≤_, _<_}
@@ -10,11 +10,10 @@ use lib.Dec.{leb, eqb}
 use lib.IntN.{ℤ}
 use lib.ListN.{length, getD}
 use Rattle.matrix.specs.Choice.{numbers}
-use Rattle.matrix.specs.Every.{every}
-use Rattle.matrix.specs.Shape.{matrixSize, row, lastNode}
-use Rattle.matrix.specs.Questions.{ask, oneTo, withinLimits, allInRange, rowsInRange, askMatrix, LentMatrix}
+use Rattle.matrix.specs.Shape.{matrixSize, row}
+use Rattle.matrix.specs.Questions.{ask, andThen, oneTo, withinLimits, allInRange, rowsInRange, askMatrix, LentMatrix, nodesExist, htusInRange, askNodes}
 use Rattle.matrix.specs.declared.refusal.Refusal.{Refusal}
-use Rattle.matrix.specs.declared.refusal.Refusal.the-variants.{BeyondLimits, CodeRange, ListSize}
+use Rattle.matrix.specs.declared.refusal.Refusal.the-variants.{BeyondLimits, CodeRange, ListSize, NotThere}
 use Rattle.matrix.specs.declared.refusal.Asked.{Asked}
 use Rattle.matrix.specs.declared.refusal.Asked.the-variants.{Passed, Refused}
 use Rattle.matrix.proofs.Every.{every-at, every-from}
@@ -82,3 +81,22 @@ matrix-passes codes n m = (passed, passes)
     passes : LentMatrix codes n m → askMatrix codes n m ≡ Passed
     passes l =
         rw (eq-eqb (length codes) matrixSize (l .full), true-oneTo 64 n (l .taxon) (l .taxa), true-oneTo 128 m (l .character) (l .characters), rowsInRange-from codes m n (l .known))
+
+-- what passed questions on a lent matrix and some nodes tell
+pub record NodesPassed (codes : List ℤ) (n m : ℕ) (nodes : List ℕ) : Type 0 where
+  pub matrix : LentMatrix codes n m
+  pub exist : nodesExist n nodes ≡ true
+  pub htus : htusInRange codes n m nodes ≡ true
+
+-- earlier questions that pass, with those that follow: both pass
+pub andThen-passed : (first rest : Asked) → andThen first rest ≡ Passed → (first ≡ Passed) × (rest ≡ Passed)
+andThen-passed Passed rest e = (refl, e)
+andThen-passed (Refused r) rest e = absurd (refused-not-passed r e)
+
+pub nodes-passed : (codes : List ℤ) (n m : ℕ) (nodes : List ℕ) → askNodes codes n m nodes ≡ Passed → NodesPassed codes n m nodes
+unfolding askNodes
+nodes-passed codes n m nodes e =
+    let both = andThen-passed (askMatrix codes n m) _ e in
+    let existing = ask-passed (nodesExist n nodes) NotThere _ (both .1) in
+    let known = ask-passed (htusInRange codes n m nodes) CodeRange Passed (existing .1) in
+    record { matrix = matrix-passes codes n m .0 (both .0); exist = existing .0; htus = known .0 }

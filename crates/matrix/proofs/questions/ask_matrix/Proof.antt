@@ -1,8 +1,8 @@
 -- `matrix::questions::ask_matrix` meets its contract: each answer follows from the tests that led to it. Assumes nothing.
-use mathlib.Core.Path.{_≡_, sym, _∙_}
+use mathlib.Core.Path.{sym, _∙_}
 use borrow.Author.Tests.{eq-eqb, ne-eqb, not-true, not-false}
-use Rattle.matrix.specs.Questions.{askMatrix}
 use borrow.Author.Needs.{needs}
+use Rattle.matrix.specs.Questions.{askMatrix}
 use Rattle.matrix.proofs.questions.ask_matrix.Statement.{statement}
 use Rattle.matrix.proofs.questions.ask_matrix.Tie as tie
 

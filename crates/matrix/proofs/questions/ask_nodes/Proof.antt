@@ -1,9 +1,9 @@
 -- `matrix::questions::ask_nodes` meets its contract: each answer follows from the tests that led to it. Assumes nothing.
-use mathlib.Core.Path.{_≡_, sym, _∙_}
+use mathlib.Core.Path.{sym, _∙_}
 use borrow.Author.Tests.{not-true, not-false}
+use borrow.Author.Needs.{needs}
 use Rattle.matrix.specs.Questions.{askNodes}
 use Rattle.matrix.proofs.Passing.{matrix-passes}
-use borrow.Author.Needs.{needs}
 use Rattle.matrix.proofs.questions.ask_nodes.Statement.{statement}
 use Rattle.matrix.proofs.questions.ask_nodes.Tie as tie
 

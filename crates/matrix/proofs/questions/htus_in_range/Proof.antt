@@ -1,12 +1,12 @@
 -- `matrix::questions::htus_in_range` meets its contract. The loop's invariant: what is left of the list decides. Assumes nothing.
-use mathlib.Core.Path.{_≡_, sym, ap, _∙_}
-use Prim.Native.Nat.{ℕ, _+_, _-_, _≤_}
+use mathlib.Core.Path.{_≡_}
+use Prim.Native.Nat.{_-_, _≤_}
 use native.Mathlib.Omega.{arith}
+use borrow.Author.Needs.{needs}
 use lib.ListN.{length, drop}
 use Rattle.matrix.specs.Every.{every}
 use Rattle.matrix.proofs.Every.{every-fails, every-goes-on, every-passes}
 use Rattle.matrix.specs.Questions.{htuInRange, htusInRange}
-use borrow.Author.Needs.{needs}
 use Rattle.matrix.proofs.questions.htus_in_range.Statement.{statement}
 use Rattle.matrix.proofs.questions.htus_in_range.Tie as tie
 

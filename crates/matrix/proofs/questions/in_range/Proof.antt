@@ -1,8 +1,7 @@
 -- `matrix::questions::in_range` meets its contract: the two tests together are the definition's one, by the code's sign.
 -- Assumes nothing.
 use mathlib.Core.Path.{_≡_, refl, sym, _∙_}
-use mathlib.Core.Bool.{Bool, true, false, true≢false}
-use Prim.Native.Nat.{ℕ, suc}
+use mathlib.Core.Bool.{true, false, true≢false}
 use lib.Dec.{leb·suc-suc}
 use lib.IntN.{ℤ, pos, negsuc}
 use lib.Signed.{leZ}

@@ -1,6 +1,6 @@
 -- `matrix::questions::last_node` meets its contract: twice n less 2 is at least 1 from n = 2 on. Assumes nothing.
-use borrow.Author.Needs.{needs}
 use native.Mathlib.Omega.{arith}
+use borrow.Author.Needs.{needs}
 use Rattle.matrix.specs.Shape.{lastNode}
 use Rattle.matrix.proofs.questions.last_node.Statement.{statement}
 use Rattle.matrix.proofs.questions.last_node.Tie as tie

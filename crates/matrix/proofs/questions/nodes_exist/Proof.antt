@@ -1,15 +1,15 @@
 -- `matrix::questions::nodes_exist` meets its contract. The loop's invariant: what is left of the list decides. Assumes nothing.
 use mathlib.Core.Bool.{Bool}
 use mathlib.Core.List.{List}
-use Rattle.matrix.specs.Shape.{lastNode}
-use mathlib.Core.Path.{_≡_, sym, ap, _∙_}
-use Prim.Native.Nat.{ℕ, _+_, _-_, _≤_}
+use mathlib.Core.Path.{_≡_, ap, _∙_}
+use Prim.Native.Nat.{ℕ, _-_, _≤_}
 use native.Mathlib.Omega.{arith}
+use borrow.Author.Needs.{needs}
 use lib.ListN.{length, drop}
+use Rattle.matrix.specs.Shape.{lastNode}
 use Rattle.matrix.specs.Every.{every}
 use Rattle.matrix.proofs.Every.{every-fails, every-goes-on, every-passes}
 use Rattle.matrix.specs.Questions.{oneTo, nodesExist}
-use borrow.Author.Needs.{needs}
 use Rattle.matrix.proofs.questions.nodes_exist.Statement.{statement}
 use Rattle.matrix.proofs.questions.nodes_exist.Tie as tie
 

@@ -1,20 +1,18 @@
 -- `matrix::questions::rows_in_range` meets its contract. The loop's invariant: the rows that are left decide. Assumes nothing.
 use mathlib.Core.Bool.{Bool}
 use mathlib.Core.List.{List}
-use lib.IntN.{ℤ}
-use Prim.Native.Nat.{_<_}
-use lib.ListN.{getD}
-use mathlib.Core.Path.{_≡_, sym, ap, _∙_}
-use Prim.Native.Nat.{ℕ, _+_, _-_, _≤_}
+use mathlib.Core.Path.{_≡_, ap, _∙_}
+use Prim.Native.Nat.{_<_, ℕ, _+_, _-_, _≤_}
 use native.Mathlib.Omega.{arith}
-use lib.ListN.{length, drop}
+use borrow.Author.Needs.{needs}
+use lib.IntN.{ℤ}
+use lib.ListN.{getD, length, drop}
 use Rattle.matrix.specs.Every.{every}
 use Rattle.matrix.proofs.Every.{every-fails, every-goes-on, every-passes}
 use Rattle.matrix.specs.Questions.{allInRange, rowsInRange}
 use Rattle.matrix.specs.Shape.{row}
 use Rattle.matrix.specs.Choice.{numbers}
 use Rattle.matrix.proofs.Numbers.{numbers-length, numbers-getD}
-use borrow.Author.Needs.{needs}
 use Rattle.matrix.proofs.questions.rows_in_range.Statement.{statement}
 use Rattle.matrix.proofs.questions.rows_in_range.Tie as tie
 

@@ -1,11 +1,11 @@
 -- `matrix::rows::row` meets its contract: the part lent is what `take` and `drop` of the definition leave. Assumes nothing.
-use borrow.Author.Needs.{needs}
 use mathlib.Core.Path.{_≡_, sym, ap, _∙_}
 use mathlib.Core.List.{List}
 use Prim.Native.Nat.{ℕ, _+_, _-_, _≤_, _<_, min}
 use native.Mathlib.Nat.{add-sub-cancel-left, min-eq-left, min-eq-right}
 use native.Mathlib.Decide.{decLe}
 use native.Mathlib.Omega.{arith}
+use borrow.Author.Needs.{needs}
 use lib.IntN.{ℤ}
 use lib.ListN.{length, take, drop, length-drop, drop-of-length-le}
 use lib.Seq.{take-all, drop-length}

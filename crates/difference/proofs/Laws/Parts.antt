@@ -1,0 +1,49 @@
+-- The front of two or three rows decides, as far as the shortest of them goes.
+use mathlib.Core.Path.{_≡_, refl, sym, ap, ap₂, _∙_}
+use mathlib.Core.List.{List, [], _∷_}
+use Prim.Native.Nat.{ℕ, zero, suc, _+_, _≤_, min}
+use native.Mathlib.Omega.{arith}
+use lib.IntN.{ℤ}
+use lib.ListN.{length, take, length-take}
+use lib.Seq.{take-take}
+use Rattle.difference.specs.Rows.{apart, median, difference, medians, overwritten}
+
+-- past the shorter of two rows nothing is added to their difference
+pub difference-part : (k : ℕ) (xs ys : List ℤ) → min (length xs) (length ys) ≤ k → difference (take k xs) (take k ys) ≡ difference xs ys
+unfolding difference
+difference-part zero [] ys h = refl
+difference-part (suc k) [] ys h = refl
+difference-part zero (x ∷ xs) [] h = refl
+difference-part (suc k) (x ∷ xs) [] h = refl
+difference-part zero (x ∷ xs) (y ∷ ys) h = absurd (omega arith)
+difference-part (suc k) (x ∷ xs) (y ∷ ys) h = ap (λ s. apart x y + s) (difference-part k xs ys (omega arith))
+
+-- the front of the medians is the medians of the fronts
+pub medians-take : (k : ℕ) (xs ys zs : List ℤ) → medians (take k xs) (take k ys) (take k zs) ≡ take k (medians xs ys zs)
+unfolding medians
+medians-take zero [] ys zs = refl
+medians-take (suc k) [] ys zs = refl
+medians-take zero (x ∷ xs) [] zs = refl
+medians-take (suc k) (x ∷ xs) [] zs = refl
+medians-take zero (x ∷ xs) (y ∷ ys) [] = refl
+medians-take (suc k) (x ∷ xs) (y ∷ ys) [] = refl
+medians-take zero (x ∷ xs) (y ∷ ys) (z ∷ zs) = refl
+medians-take (suc k) (x ∷ xs) (y ∷ ys) (z ∷ zs) = ap (λ ms. median x y z ∷ ms) (medians-take k xs ys zs)
+
+-- past the list written over, nothing is written
+pub overwritten-part : (k : ℕ) (xs old : List ℤ) → min (length old) (length xs) ≤ k → overwritten (take k xs) old ≡ overwritten xs old
+unfolding overwritten
+overwritten-part zero [] old h = refl
+overwritten-part (suc k) [] old h = refl
+overwritten-part zero (x ∷ xs) [] h = refl
+overwritten-part (suc k) (x ∷ xs) [] h = refl
+overwritten-part zero (x ∷ xs) (o ∷ old) h = absurd (omega arith)
+overwritten-part (suc k) (x ∷ xs) (o ∷ old) h = ap (λ ms. x ∷ ms) (overwritten-part k xs old (omega arith))
+
+-- two rows cut at `most`, and then where the shorter ends
+pub difference-within : (most count : ℕ) (xs ys : List ℤ) → count ≡ min most (min (length xs) (length ys))
+    → difference (take count xs) (take count ys) ≡ difference (take most xs) (take most ys)
+difference-within most count xs ys e =
+    let low : count ≤ most = omega arith in
+    let cut : min (length (take most xs)) (length (take most ys)) ≤ count = omega (arith, length-take most xs, length-take most ys) in
+    ap₂ difference (sym (take-take count most xs low)) (sym (take-take count most ys low)) ∙ difference-part count (take most xs) (take most ys) cut

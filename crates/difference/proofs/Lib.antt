@@ -1,0 +1,2 @@
+-- What is proved about difference, median and interval difference.
+pub mod Laws

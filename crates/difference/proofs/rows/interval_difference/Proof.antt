@@ -1,0 +1,49 @@
+-- `difference::rows::interval_difference` meets its contract: its three differences are the definition's. Assumes nothing.
+use mathlib.Core.Path.{_≡_, _∙_}
+use mathlib.Core.List.{List}
+use Prim.Native.Nat.{ℕ, _+_, _-_, _/_}
+use native.Mathlib.Omega.{arith}
+use borrow.Author.Needs.{needs}
+use lib.IntN.{ℤ}
+use lib.ListN.{take}
+use Rattle.difference.specs.Rows.{intervalDifference}
+use Rattle.difference.specs.Answers.{DifferenceOf}
+use Rattle.difference.proofs.rows.interval_difference.Statement.{statement}
+use Rattle.difference.proofs.rows.interval_difference.Tie as tie
+
+difference-requires : tie.Need-difference-requires
+difference-requires c κs = search needs
+
+difference-requires-2 : tie.Need-difference-requires-2
+difference-requires-2 c κs = search needs
+
+add-ends : tie.Need-add-ends
+add-ends c = search needs
+
+difference-requires-3 : tie.Need-difference-requires-3
+difference-requires-3 c κs = search needs
+
+-- the sums of the three differences are those of the definition
+parts : (b c d : List ℤ) (bc bd cd : ℕ) → DifferenceOf b c bc → DifferenceOf b d bd → DifferenceOf c d cd
+    → (bc + bd - cd) / 2 ≡ intervalDifference (take 128 b) (take 128 c) (take 128 d)
+unfolding intervalDifference
+parts b c d bc bd cd p q r = rw (p .is, q .is, r .is)
+
+returns : tie.Need-returns
+returns c =
+    let zero : 0 ≡ (c .before .before .before .difference .result + c .before .before .difference2 .result - c .before .difference3 .result) / 2 = omega arith in
+    zero ∙ parts _ _ _ _ _ _ (c .before .before .before .difference .ensures) (c .before .before .difference2 .ensures) (c .before .difference3 .ensures)
+
+returns-2 : tie.Need-returns-2
+returns-2 c = parts _ _ _ _ _ _ (c .before .before .before .difference .ensures) (c .before .before .difference2 .ensures) (c .before .difference3 .ensures)
+
+pub interval-difference-spec : {M : Type 1} → statement M
+interval-difference-spec =
+    tie.close
+    (tie.spec
+    difference-requires
+    difference-requires-2
+    add-ends
+    difference-requires-3
+    returns
+    returns-2)

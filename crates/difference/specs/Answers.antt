@@ -1,0 +1,12 @@
+-- What the functions on rows promise.
+use mathlib.Core.Path.{_≡_}
+use mathlib.Core.List.{List}
+use Prim.Native.Nat.{ℕ, _*_, _≤_, _^_}
+use lib.IntN.{ℤ}
+use lib.ListN.{take}
+use Rattle.difference.specs.Rows.{difference}
+
+-- r is the difference of two rows of 32-bit codes, over their first 128 characters, each of which adds at most 2 ^ 32
+pub record DifferenceOf (xs ys : List ℤ) (r : ℕ) : Type 0 where
+  pub is : r ≡ difference (take 128 xs) (take 128 ys)
+  pub most : r ≤ 128 * 2 ^ 32

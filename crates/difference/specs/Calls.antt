@@ -1,0 +1,44 @@
+-- What the calls on a lent matrix answer: the questions of document 01 in their order, then the definition.
+use mathlib.Core.Path.{_≡_}
+use mathlib.Core.List.{List, [], _∷_}
+use Prim.Native.Nat.{ℕ}
+use lib.Dec.{eqb}
+use lib.IntN.{ℤ}
+use lib.ListN.{length}
+use Rattle.matrix.specs.Shape.{columns, row}
+use Rattle.matrix.specs.Questions.{ask, askNodes}
+use Rattle.matrix.specs.declared.refusal.Refusal.the-variants.{ListSize}
+use Rattle.matrix.specs.declared.refusal.Asked.{Asked}
+use Rattle.matrix.specs.declared.refusal.Asked.the-variants as Asked
+use Rattle.difference.specs.Rows.{difference, medians, intervalDifference, overwritten}
+use Rattle.difference.specs.declared.calls.Length.{Length}
+use Rattle.difference.specs.declared.calls.Length.the-variants.{Is, Refused}
+
+-- a length, if the questions pass
+abbrev pub measured : Asked → ℕ → Length
+measured Asked.Passed length = Is length
+measured (Asked.Refused refusal) length = Refused refusal
+
+-- the difference of nodes a and b
+unfoldable pub differenceAnswer : List ℤ → ℕ → ℕ → ℕ → ℕ → Length
+differenceAnswer codes n m a b =
+    measured (askNodes codes n m (a ∷ b ∷ [])) (difference (row codes m a) (row codes m b))
+
+-- the interval difference of node b from the interval between nodes c and d
+unfoldable pub intervalAnswer : List ℤ → ℕ → ℕ → ℕ → ℕ → ℕ → Length
+intervalAnswer codes n m b c d =
+    measured (askNodes codes n m (b ∷ c ∷ d ∷ [])) (intervalDifference (row codes m b) (row codes m c) (row codes m d))
+
+-- the questions of the call for medians: the lent row has 128 codes, then those on the matrix and the three nodes
+unfoldable pub askMedians : List ℤ → ℕ → ℕ → ℕ → ℕ → ℕ → List ℤ → Asked
+askMedians codes n m a b c out = ask (eqb (length out) columns) ListSize (askNodes codes n m (a ∷ b ∷ c ∷ []))
+
+-- a lent list after a call: as written if the questions passed, as before if not
+abbrev pub kept : Asked → List ℤ → List ℤ → List ℤ
+kept Asked.Passed written old = written
+kept (Asked.Refused refusal) written old = old
+
+-- the call for medians answers its questions; the lent row then has the medians over its first m codes, or is as before
+pub record MediansAnswer (codes : List ℤ) (n m a b c : ℕ) (old new : List ℤ) (r : Asked) : Type 0 where
+  pub answers : r ≡ askMedians codes n m a b c old
+  pub row : new ≡ kept r (overwritten (medians (row codes m a) (row codes m b) (row codes m c)) old) old

@@ -1,0 +1,56 @@
+// Difference, medians and interval difference of rows of any length.
+use crate::codes::apart;
+use crate::codes::median;
+ghost use mathlib.Core.Path.{_≡_};
+ghost use Prim.Native.Nat.{min};
+ghost use lib.ListN.{take};
+ghost use Rattle.difference.specs.Answers.{DifferenceOf};
+ghost use Rattle.difference.specs.Rows.{medians, intervalDifference, overwritten};
+
+// The lesser of two counts.
+fn least(a: usize, b: usize) -> usize
+    ensures { λ r. ⌜ r ≡ min a b ⌝ }
+{
+    if a <= b {
+        return a;
+    }
+    b
+}
+
+// The difference of two rows, over their first 128 characters.
+pub fn difference(xs: &[i32], ys: &[i32]) -> u64
+    ensures { λ r. ⌜ DifferenceOf (now (xs .entry)) (now (ys .entry)) r ⌝ }
+{
+    let count = least(128, least(xs.len(), ys.len()));
+    let mut sum = 0;
+    let mut j = 0;
+    while j < count {
+        sum += apart(xs[j], ys[j]);
+        j += 1;
+    }
+    sum
+}
+
+// The interval difference of b from the interval between c and d, over their first 128 characters.
+pub fn interval_difference(b: &[i32], c: &[i32], d: &[i32]) -> u64
+    ensures { λ r. ⌜ r ≡ intervalDifference (take 128 (now (b .entry))) (take 128 (now (c .entry))) (take 128 (now (d .entry))) ⌝ }
+{
+    let ends = difference(b, c) + difference(b, d);
+    let across = difference(c, d);
+    if ends < across {
+        return 0;
+    }
+    (ends - across) / 2
+}
+
+// Writes the medians of three rows over the front of a list, as far as all four go.
+pub fn write_medians(out: &mut [i32], xs: &[i32], ys: &[i32], zs: &[i32])
+    ensures { λ _. ⌜ now (out .exit) ≡ overwritten (medians (now (xs .entry)) (now (ys .entry)) (now (zs .entry))) (now (out .entry)) ⌝ }
+{
+    let count = least(out.len(), least(xs.len(), least(ys.len(), zs.len())));
+    let mut j = 0;
+    while j < count {
+        out[j] = median(xs[j], ys[j], zs[j]);
+        j += 1;
+    }
+}
