@@ -17,7 +17,7 @@ use Rattle.matrix.specs.declared.refusal.Refusal.the-variants.{BeyondLim
 use Rattle.matrix.specs.declared.refusal.Asked.{Asked}
 use Rattle.matrix.specs.declared.refusal.Asked.the-variants.{Passed, Refused}
 use Rattle.matrix.proofs.Every.{every-at, every-from}
-use Rattle.matrix.proofs.Numbers.{numbers-length, numbers-getD}
+use Rattle.matrix.proofs.Choice.{length-numbers, getD-numbers}
 
 -- a refusal is no pass
 refused-not-passed : (r : Refusal) → Refused r ≡ Passed → ⊥
@@ -43,8 +43,8 @@ true-oneTo last item low high = and-eq-true-iff (leb 1 item) (leb item last) .1 
 pub rowsInRange-at : (codes : List ℤ) (m n : ℕ) → rowsInRange codes m n ≡ true → (v : ℕ) → 1 ≤ v → v ≤ n → allInRange (row codes m v) ≡ true
 unfolding rowsInRange
 rowsInRange-at codes m n e v low high =
-    let place : getD (numbers 1 n) (v - 1) 0 ≡ v = numbers-getD 1 n (v - 1) 0 (omega arith) ∙ omega arith in
-    rw place at (every-at (λ u. allInRange (row codes m u)) 0 (numbers 1 n) e (v - 1) (rw numbers-length (omega arith)))
+    let place : getD (numbers 1 n) (v - 1) 0 ≡ v = getD-numbers 1 n (v - 1) 0 (omega arith) ∙ omega arith in
+    rw place at (every-at (λ u. allInRange (row codes m u)) 0 (numbers 1 n) e (v - 1) (rw length-numbers (omega arith)))
 
 -- each of rows 1 to n in range: so are they all
 pub rowsInRange-from : (codes : List ℤ) (m n : ℕ) → ((v : ℕ) → 1 ≤ v → v ≤ n → allInRange (row codes m v) ≡ true) → rowsInRange codes m n ≡ true
@@ -53,8 +53,8 @@ rowsInRange-from codes m n h = every-from (λ u. allInRange (row codes m u)) 0 (
   where
     each : (i : ℕ) → i < length (numbers 1 n) → allInRange (row codes m (getD (numbers 1 n) i 0)) ≡ true
     each i below =
-        let small : i < n = rw numbers-length at below in
-        rw (numbers-getD 1 n i 0 small) (h (1 + i) (omega arith) (omega arith))
+        let small : i < n = rw length-numbers at below in
+        rw (getD-numbers 1 n i 0 small) (h (1 + i) (omega arith) (omega arith))
 
 -- the questions pass a lent matrix of n taxa and m characters, and nothing else
 pub matrix-passes : (codes : List ℤ) (n m : ℕ) → (askMatrix codes n m ≡ Passed) ↔ LentMatrix codes n m

@@ -12,7 +12,7 @@ use Rattle.matrix.proofs.Every.{every-fails, every-goes-on, every-passe
 use Rattle.matrix.specs.Questions.{allInRange, rowsInRange}
 use Rattle.matrix.specs.Shape.{row}
 use Rattle.matrix.specs.Choice.{numbers}
-use Rattle.matrix.proofs.Numbers.{numbers-length, numbers-getD}
+use Rattle.matrix.proofs.Choice.{length-numbers, getD-numbers}
 use Rattle.matrix.proofs.questions.rows_in_range.Statement.{statement}
 use Rattle.matrix.proofs.questions.rows_in_range.Tie as tie
 
@@ -20,16 +20,16 @@ use Rattle.matrix.proofs.questions.rows_in_range.Tie as tie
 answered : (b : Bool) (part codes : List ℤ) (m n done : ℕ) → done < n → b ≡ allInRange part → part ≡ row codes m (done + 1)
     → b ≡ allInRange (row codes m (getD (numbers 1 n) done 0))
 answered b part codes m n done h e p =
-    let place : done + 1 ≡ getD (numbers 1 n) done 0 = omega (arith, numbers-getD 1 n done 0 h) in
+    let place : done + 1 ≡ getD (numbers 1 n) done 0 = omega (arith, getD-numbers 1 n done 0 h) in
     e ∙ ap allInRange p ∙ ap (λ v. allInRange (row codes m v)) place
 
 -- a place below n is a place of the numbers from 1 to n
 within : (n done : ℕ) → done < n → done < length (numbers 1 n)
-within n done h = rw numbers-length h
+within n done h = rw length-numbers h
 
 -- a place that is not below n is past the numbers from 1 to n
 past : (n done : ℕ) → n ≤ done → length (numbers 1 n) ≤ done
-past n done h = rw numbers-length h
+past n done h = rw length-numbers h
 
 abbrev Inv-loop : tie.InvT-loop
 Inv-loop matrix m n done₀ done =

@@ -1,0 +1,229 @@
+-- Laws of `firstLeast`, the first of a list with the least key, and of `numbers`, numbers in a row.
+use mathlib.Core.Path.{_≡_, refl, sym, ap, _∙_}
+use mathlib.Core.Bool.{Bool, true, false, cond}
+use mathlib.Core.List.{List, [], _∷_, _++_, List·Memᴰ, List·Memᴰ·head, List·Memᴰ·tail, List·Memᴰ·not-nil, List·Memᴰ·cases-cons}
+use mathlib.Core.Logic.{_⊎_, inl, inr, _↔_, _≢_}
+use Prim.Native.Nat.{ℕ, zero, suc, _+_, _≤_, _<_}
+use native.Mathlib.Nat.{add-zero, add-suc, suc-add, zero-add, le-refl, le-trans}
+use native.Mathlib.Numerals.{add-one}
+use native.Mathlib.Omega.{arith}
+use borrow.Author.Tests.{eqb-true, eqb-false, leb-true, leb-false, le-leb, lt-leb, ltb-true, ltb-false}
+use lib.Dec.{leb, ltb, eqb}
+use lib.ListN.{length, getD, length-append}
+use Rattle.matrix.specs.Choice.{firstLeast, numbers}
+
+module _ {A : Type 0} where
+  -- an element of a list such that each one before it has a greater key, and none behind it a lesser one
+  pub record Chosen (key : A → ℕ) (list : List A) (chosen : A) : Type 0 where
+    pub before : List A
+    pub after : List A
+    pub split : list ≡ before ++ chosen ∷ after
+    pub greater : (y : A) → List·Memᴰ y before → key chosen < key y
+    pub least : (y : A) → List·Memᴰ y after → key chosen ≤ key y
+
+  module _ (key : A → ℕ) where
+    -- of x and a later one, that of the lesser key, and x if the keys are equal
+    abbrev earlier : A → A → A
+    earlier x z = cond (leb (key x) (key z)) x z
+
+    -- x is taken if its key is not greater
+    take-head : (x z : A) → key x ≤ key z → earlier x z ≡ x
+    take-head x z h = rw (le-leb (key x) (key z) h)
+
+    -- the later one is taken if its key is less
+    take-later : (x z : A) → key z < key x → earlier x z ≡ z
+    take-later x z h = rw (lt-leb (key x) (key z) h)
+
+    -- a fact about the choice between x and a later one, from the fact in each of the two cases
+    choice-cases : (P : A → Type 0) (x z : A) → (key x ≤ key z → P x) → (key z < key x → P z) → P (earlier x z)
+    choice-cases P x z low high = go (leb (key x) (key z)) refl
+      where
+        go : (b : Bool) → leb (key x) (key z) ≡ b → P (cond b x z)
+        go true e = low (leb-true (key x) (key z) e)
+        go false e = high (leb-false (key x) (key z) e)
+
+    -- the chosen one is in the list
+    pub firstLeast-mem : (x : A) (xs : List A) → List·Memᴰ (firstLeast key x xs) (x ∷ xs)
+    unfolding firstLeast
+    firstLeast-mem x [] = List·Memᴰ·head refl
+    firstLeast-mem x (y ∷ ys) =
+        choice-cases (λ (z : A). List·Memᴰ z (x ∷ y ∷ ys)) x (firstLeast key y ys)
+        (λ _. List·Memᴰ·head refl)
+        (λ _. List·Memᴰ·tail (firstLeast-mem y ys))
+
+    -- its key is the least
+    pub firstLeast-least : (x : A) (xs : List A) (y : A) → List·Memᴰ y (x ∷ xs) → key (firstLeast key x xs) ≤ key y
+    unfolding firstLeast
+    firstLeast-least x [] y (List·Memᴰ·head e) = rw e (le-refl (key x))
+    firstLeast-least x [] y (List·Memᴰ·tail m) = absurd (List·Memᴰ·not-nil m)
+    firstLeast-least x (v ∷ vs) y (List·Memᴰ·head e) =
+        rw e (choice-cases (λ (z : A). key z ≤ key x) x (firstLeast key v vs) (λ h. le-refl (key x)) (λ h. omega arith))
+    firstLeast-least x (v ∷ vs) y (List·Memᴰ·tail m) =
+        let h : key (firstLeast key v vs) ≤ key y = firstLeast-least v vs y m in
+        choice-cases (λ (z : A). key z ≤ key y) x (firstLeast key v vs) (λ k. omega arith) (λ k. h)
+
+    -- it is the first of them: each one before it has a greater key, each one behind it a key not less
+    pub firstLeast-first : (x : A) (xs : List A) → Chosen key (x ∷ xs) (firstLeast key x xs)
+    unfolding firstLeast
+    firstLeast-first x [] =
+        record {
+          before = [];
+          after = [];
+          split = refl;
+          greater = λ y m. absurd (List·Memᴰ·not-nil m);
+          least = λ y m. absurd (List·Memᴰ·not-nil m);
+        }
+    firstLeast-first x (v ∷ vs) =
+        choice-cases (Chosen key (x ∷ v ∷ vs)) x (firstLeast key v vs)
+        (λ h. record {
+          before = [];
+          after = v ∷ vs;
+          split = refl;
+          greater = λ y m. absurd (List·Memᴰ·not-nil m);
+          least = λ y m. le-trans h (firstLeast-least v vs y m);
+        })
+        (λ h. behind (firstLeast key v vs) h (firstLeast-first v vs))
+      where
+        behind : (z : A) → key z < key x → Chosen key (v ∷ vs) z → Chosen key (x ∷ v ∷ vs) z
+        behind z h c = record {
+          before = x ∷ c .before;
+          after = c .after;
+          split = ap {B = List A} (λ (l : List A). x ∷ l) (c .split);
+          greater = λ y m. before-greater y (List·Memᴰ·cases-cons m);
+          least = c .least;
+        }
+          where
+            before-greater : (y : A) → (y ≡ x) ⊎ List·Memᴰ y (c .before) → key z < key y
+            before-greater y (inl e) = rw e h
+            before-greater y (inr m) = c .greater y m
+
+    -- the head is chosen if no later key is less
+    pub firstLeast-head : (x : A) (xs : List A) → ((y : A) → List·Memᴰ y xs → key x ≤ key y) → firstLeast key x xs ≡ x
+    unfolding firstLeast
+    firstLeast-head x [] h = refl
+    firstLeast-head x (v ∷ vs) h = take-head x (firstLeast key v vs) (h (firstLeast key v vs) (firstLeast-mem v vs))
+
+    from-split : (before : List A) (z : A) (after : List A)
+        → ((y : A) → List·Memᴰ y before → key z < key y)
+        → ((y : A) → List·Memᴰ y after → key z ≤ key y)
+        → (x : A) (xs : List A) → x ∷ xs ≡ before ++ z ∷ after
+        → firstLeast key x xs ≡ z
+    unfolding firstLeast
+    from-split [] z after greater least x xs e =
+        let e₁ : x ≡ z = cc in
+        let e₂ : xs ≡ after = cc in
+        rw (e₁, e₂) (firstLeast-head z after least)
+    from-split (b ∷ bs) z after greater least x [] e =
+        absurd (omega (arith, simp length-append at (ap length e)))
+    from-split (b ∷ bs) z after greater least x (v ∷ vs) e =
+        let e₁ : b ≡ x = cc in
+        let e₂ : v ∷ vs ≡ bs ++ z ∷ after = cc in
+        let later : firstLeast key v vs ≡ z = from-split bs z after (λ y m. greater y (List·Memᴰ·tail m)) least v vs e₂ in
+        rw later (take-later x z (rw e₁ at (greater b (List·Memᴰ·head refl))))
+
+    -- an element of which this is true is the one chosen
+    pub firstLeast-unique : (x : A) (xs : List A) (z : A) → Chosen key (x ∷ xs) z → firstLeast key x xs ≡ z
+    firstLeast-unique x xs z c = from-split (c .before) z (c .after) (c .greater) (c .least) x xs (c .split)
+
+    -- of three, it makes no difference which two are compared first
+    choice-assoc : (x z y : A) → earlier x (earlier z y) ≡ earlier (earlier x z) y
+    choice-assoc x z y = go (leb (key x) (key z)) (leb (key z) (key y)) refl refl
+      where
+        go : (b₁ b₂ : Bool) → leb (key x) (key z) ≡ b₁ → leb (key z) (key y) ≡ b₂ → earlier x (cond b₂ z y) ≡ earlier (cond b₁ x z) y
+        go true true e₁ e₂ =
+            let h₁ : key x ≤ key z = leb-true (key x) (key z) e₁ in
+            let h₂ : key z ≤ key y = leb-true (key z) (key y) e₂ in
+            take-head x z h₁ ∙ sym (take-head x y (omega arith))
+        go true false e₁ e₂ = refl
+        go false true e₁ e₂ =
+            take-later x z (leb-false (key x) (key z) e₁) ∙ sym (take-head z y (leb-true (key z) (key y) e₂))
+        go false false e₁ e₂ =
+            let h₁ : key z < key x = leb-false (key x) (key z) e₁ in
+            let h₂ : key y < key z = leb-false (key z) (key y) e₂ in
+            take-later x y (omega arith) ∙ sym (take-later z y h₂)
+
+    snoc-earlier : (x : A) (xs : List A) (y : A) → firstLeast key x (xs ++ (y ∷ [])) ≡ earlier (firstLeast key x xs) y
+    unfolding firstLeast
+    snoc-earlier x [] y = refl
+    snoc-earlier x (v ∷ vs) y = rw (snoc-earlier v vs y) (choice-assoc x (firstLeast key v vs) y)
+
+    -- one more at the end is chosen if its key is below the key of the one chosen so far
+    pub firstLeast-snoc-less : (x : A) (xs : List A) (y : A) → key y < key (firstLeast key x xs) → firstLeast key x (xs ++ (y ∷ [])) ≡ y
+    firstLeast-snoc-less x xs y h = snoc-earlier x xs y ∙ take-later (firstLeast key x xs) y h
+
+    -- otherwise the one chosen so far stays
+    pub firstLeast-snoc-stays : (x : A) (xs : List A) (y : A)
+        → key (firstLeast key x xs) ≤ key y
+        → firstLeast key x (xs ++ (y ∷ [])) ≡ firstLeast key x xs
+    firstLeast-snoc-stays x xs y h = snoc-earlier x xs y ∙ take-head (firstLeast key x xs) y h
+
+    -- the two in one: one more at the end is chosen exactly if its key is below the key of the one chosen so far
+    pub firstLeast-snoc : (x : A) (xs : List A) (y : A)
+        → firstLeast key x (xs ++ (y ∷ [])) ≡ cond (ltb (key y) (key (firstLeast key x xs))) y (firstLeast key x xs)
+    firstLeast-snoc x xs y = go (ltb (key y) (key (firstLeast key x xs))) refl
+      where
+        go : (b : Bool) → ltb (key y) (key (firstLeast key x xs)) ≡ b → firstLeast key x (xs ++ (y ∷ [])) ≡ cond b y (firstLeast key x xs)
+        go true e = firstLeast-snoc-less x xs y (ltb-true (key y) (key (firstLeast key x xs)) e)
+        go false e = firstLeast-snoc-stays x xs y (ltb-false (key y) (key (firstLeast key x xs)) e)
+
+  -- the choice depends only on the keys of the list
+  pub firstLeast-congr : (key key′ : A → ℕ) (x : A) (xs : List A)
+      → ((y : A) → List·Memᴰ y (x ∷ xs) → key y ≡ key′ y)
+      → firstLeast key x xs ≡ firstLeast key′ x xs
+  unfolding firstLeast
+  firstLeast-congr key key′ x [] h = refl
+  firstLeast-congr key key′ x (v ∷ vs) h =
+      let same : firstLeast key v vs ≡ firstLeast key′ v vs = firstLeast-congr key key′ v vs (λ y m. h y (List·Memᴰ·tail m)) in
+      let at-x : key x ≡ key′ x = h x (List·Memᴰ·head refl) in
+      let at-later : key (firstLeast key′ v vs) ≡ key′ (firstLeast key′ v vs) =
+      h (firstLeast key′ v vs) (List·Memᴰ·tail (firstLeast-mem key′ v vs)) in
+      rw (same, at-x, at-later)
+
+-- there are as many numbers in a row as asked for
+pub length-numbers : (a k : ℕ) → length (numbers a k) ≡ k
+unfolding numbers
+length-numbers a zero = refl
+length-numbers a (suc k) = ap suc (length-numbers (suc a) k)
+
+-- the i-th of the numbers from a, counted from 0, is a + i
+pub getD-numbers : (a k i z : ℕ) → i < k → getD (numbers a k) i z ≡ a + i
+unfolding numbers
+getD-numbers a zero i z h = absurd (omega arith)
+getD-numbers a (suc k) zero z h = omega arith
+getD-numbers a (suc k) (suc i) z h =
+    let rest : getD (numbers (suc a) k) i z ≡ suc a + i = getD-numbers (suc a) k i z (omega arith) in
+    omega arith
+
+numbers-within : (a k v : ℕ) → List·Memᴰ v (numbers a k) → (a ≤ v) × (v < a + k)
+unfolding numbers
+numbers-within a zero v m = absurd (List·Memᴰ·not-nil m)
+numbers-within a (suc k) v m = at (λ m′. numbers-within (suc a) k v m′) (List·Memᴰ·cases-cons m)
+  where
+    at : (List·Memᴰ v (numbers (suc a) k) → (suc a ≤ v) × (v < suc a + k))
+        → (v ≡ a) ⊎ List·Memᴰ v (numbers (suc a) k) → (a ≤ v) × (v < a + suc k)
+    at later (inl e) = omega arith
+    at later (inr m′) = let h : (suc a ≤ v) × (v < suc a + k) = later m′ in omega arith
+
+numbers-among : (a k v : ℕ) → a ≤ v → v < a + k → List·Memᴰ v (numbers a k)
+unfolding numbers
+numbers-among a zero v low high = absurd (omega arith)
+numbers-among a (suc k) v low high = at (λ h. numbers-among (suc a) k v h (omega arith)) (eqb v a) refl
+  where
+    at : (suc a ≤ v → List·Memᴰ v (numbers (suc a) k)) → (b : Bool) → eqb v a ≡ b → List·Memᴰ v (a ∷ numbers (suc a) k)
+    at later true e = List·Memᴰ·head (eqb-true v a e)
+    at later false e = let other : v ≢ a = eqb-false v a e in List·Memᴰ·tail (later (omega arith))
+
+-- v is among the k numbers from a exactly if a ≤ v < a + k
+pub mem-numbers : (a k v : ℕ) → List·Memᴰ v (numbers a k) ↔ ((a ≤ v) × (v < a + k))
+mem-numbers a k v = (numbers-within a k v, λ h. numbers-among a k v (h .0) (h .1))
+
+-- the numbers from a, and then those that follow
+pub numbers-append : (a k j : ℕ) → numbers a (k + j) ≡ numbers a k ++ numbers (a + k) j
+unfolding numbers
+numbers-append a zero j = rw (zero-add, add-zero)
+numbers-append a (suc k) j = rw (suc-add k j, add-suc a k, numbers-append (suc a) k j, suc-add a k)
+
+-- one more number at the end
+pub numbers-snoc : (a k : ℕ) → numbers a (suc k) ≡ numbers a k ++ ((a + k) ∷ [])
+unfolding numbers
+numbers-snoc a k = ap (numbers a) (sym (add-one k)) ∙ numbers-append a k 1

@@ -1,0 +1,75 @@
+-- The Prim Network (document 01, "The Prim Network"), over any difference d of two taxa. Taxa are the numbers 1 to n.
+-- Row 1 is placed first. `later` is the list of the taxa placed after it, in order of placing.
+use mathlib.Core.List.{List, [], _∷_, _++_}
+use mathlib.Core.Bool.{Bool, false, cond, _||_}
+use Prim.Native.Nat.{ℕ, zero, suc, _+_, _-_}
+use lib.Dec.{eqb}
+use lib.IntN.{ℤ}
+use Rattle.matrix.specs.Choice.{firstLeast, numbers}
+use Rattle.matrix.specs.Shape.{row}
+use Rattle.difference.specs.Rows.{difference}
+
+-- a link: the taxon that it places, the placed taxon that this one joins, and their difference
+pub record Link : Type 0 where
+  pub taxon : ℕ
+  pub joined : ℕ
+  pub length : ℕ
+
+-- the taxa that links place, in order
+unfoldable pub taxa : List Link → List ℕ
+taxa [] = []
+taxa (l ∷ ls) = l .taxon ∷ taxa ls
+
+-- the sum of the links' lengths
+unfoldable pub total : List Link → ℕ
+total [] = 0
+total (l ∷ ls) = l .length + total ls
+
+-- v is one of a list of taxa
+unfoldable pub among : ℕ → List ℕ → Bool
+among v [] = false
+among v (x ∷ xs) = eqb v x || among v xs
+
+-- a list of taxa, without those of another list
+unfoldable pub without : List ℕ → List ℕ → List ℕ
+without others [] = []
+without others (v ∷ vs) =
+    let rest = without others vs in
+    cond (among v others) rest (v ∷ rest)
+
+-- the unplaced taxa of n, by rising row
+unfoldable pub unplaced : ℕ → List ℕ → List ℕ
+unplaced n later = without later (numbers 2 (n - 1))
+
+module _ (d : ℕ → ℕ → ℕ) where
+  -- the placed taxon nearest to v, the earliest placed among equals
+  unfoldable pub nearest : List ℕ → ℕ → ℕ
+  nearest later v = firstLeast (d v) 1 later
+
+  -- how far v is from the network
+  unfoldable pub distance : List ℕ → ℕ → ℕ
+  distance later v = d v (nearest later v)
+
+  -- the link that places v
+  unfoldable pub link : List ℕ → ℕ → Link
+  link later v = record { taxon = v; joined = nearest later v; length = distance later v }
+
+  -- the next link, if a taxon is left: it places the one nearest to the network, the lowest row among equals
+  unfoldable pub next : List ℕ → List ℕ → List Link
+  next later [] = []
+  next later (u ∷ us) = link later (firstLeast (distance later) u us) ∷ []
+
+  -- the next `count` links, or as many as taxa are left
+  unfoldable pub grow : ℕ → ℕ → List ℕ → List Link
+  grow n zero later = []
+  grow n (suc count) later =
+      let new = next later (unplaced n later) in
+      new ++ grow n count (later ++ taxa new)
+
+  -- the Prim Network of n taxa
+  unfoldable pub network : ℕ → List Link
+  network n = grow n (n - 1) []
+
+-- the difference of two taxa of a matrix with m characters: that of their rows
+unfoldable pub taxonDifference : List ℤ → ℕ → ℕ → ℕ → ℕ
+taxonDifference codes m x y = difference (row codes m x) (row codes m y)
