@@ -1,6 +1,21 @@
--- Two tests in a row, `a && b`, as a function answers them: the second is put only where the first is true.
-use mathlib.Core.Path.{_≡_, sym, ap, _∙_}
-use mathlib.Core.Bool.{Bool, true, false, _&&_, _||_}
+-- Two tests at once; and two in a row as a function answers them, the second put only where the first leaves it open.
+use mathlib.Core.Path.{_≡_, refl, sym, ap, _∙_}
+use mathlib.Core.Bool.{Bool, true, false, _&&_, _||_, and-eq-true-iff}
+
+-- of two tests that both pass, the first, the second, and both together
+pub and-left : (a b : Bool) → a && b ≡ true → a ≡ true
+and-left a b e = and-eq-true-iff a b .0 e .0
+
+pub and-right : (a b : Bool) → a && b ≡ true → b ≡ true
+and-right a b e = and-eq-true-iff a b .0 e .1
+
+pub and-both : {a b : Bool} → a ≡ true → b ≡ true → a && b ≡ true
+and-both {a} {b} p q = and-eq-true-iff a b .1 (p, q)
+
+-- one of two tests passes
+pub or-cases : {C : Type 0} (a b : Bool) → a || b ≡ true → (a ≡ true → C) → (b ≡ true → C) → C
+or-cases true b e f g = f refl
+or-cases false b e f g = g e
 
 module _ {a r : Bool} (b : Bool) where
   -- where the first is true, the second answers both

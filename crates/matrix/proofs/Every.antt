@@ -1,7 +1,7 @@
 -- Laws of `every`, and what a loop over a list knows at place j: the rest from j on decides.
 use mathlib.Core.Path.{_≡_, refl, sym, ap, _∙_}
-use mathlib.Core.Bool.{Bool, true, false, not, _&&_, and-eq-true-iff}
-use mathlib.Core.List.{List, [], _∷_}
+use mathlib.Core.Bool.{Bool, true, false, not, _&&_}
+use mathlib.Core.List.{List, [], _∷_, _++_}
 use Prim.Native.Nat.{ℕ, zero, suc, _+_, _≤_, _<_}
 use native.Mathlib.Numerals.{add-one}
 use native.Mathlib.Omega.{arith}
@@ -9,21 +9,50 @@ use borrow.Author.Tests.{not-true, not-false}
 use lib.ListN.{length, getD, drop, drop-of-length-le}
 use lib.Seq.{drop-cons}
 use Rattle.matrix.specs.Every.{every}
+use Rattle.matrix.proofs.Both.{and-left, and-right, and-both}
 
-module _ {A : Type 0} (test : A → Bool) (d : A) where
-  -- every element passes: so does the one at place i
-  pub every-at : (xs : List A) → every test xs ≡ true → (i : ℕ) → i < length xs → test (getD xs i d) ≡ true
+module _ {A : Type 0} (test : A → Bool) where
+  -- the first element passes, the others pass, and all together
+  pub every-head : (x : A) (xs : List A) → every test (x ∷ xs) ≡ true → test x ≡ true
   unfolding every
-  every-at [] e i h = absurd (omega arith)
-  every-at (x ∷ xs) e zero h = and-eq-true-iff (test x) (every test xs) .0 e .0
-  every-at (x ∷ xs) e (suc i) h = every-at xs (and-eq-true-iff (test x) (every test xs) .0 e .1) i (omega arith)
+  every-head x xs e = and-left (test x) (every test xs) e
+
+  pub every-tail : (x : A) (xs : List A) → every test (x ∷ xs) ≡ true → every test xs ≡ true
+  unfolding every
+  every-tail x xs e = and-right (test x) (every test xs) e
+
+  pub every-cons : (x : A) (xs : List A) → test x ≡ true → every test xs ≡ true → every test (x ∷ xs) ≡ true
+  unfolding every
+  every-cons x xs p q = and-both p q
+
+  -- the element at any place passes
+  pub every-at : (xs : List A) → every test xs ≡ true → (i : ℕ) (none : A) → i < length xs → test (getD xs i none) ≡ true
+  every-at [] e i none h = absurd (omega arith)
+  every-at (x ∷ xs) e zero none h = every-head x xs e
+  every-at (x ∷ xs) e (suc i) none h = every-at xs (every-tail x xs e) i none (omega arith)
 
   -- the element at each place passes: so does every one
-  pub every-from : (xs : List A) → ((i : ℕ) → i < length xs → test (getD xs i d) ≡ true) → every test xs ≡ true
+  pub every-from : (none : A) (xs : List A) → ((i : ℕ) → i < length xs → test (getD xs i none) ≡ true) → every test xs ≡ true
   unfolding every
-  every-from [] h = refl
-  every-from (x ∷ xs) h = and-eq-true-iff (test x) (every test xs) .1 (h zero (omega arith), every-from xs (λ i below. h (suc i) (omega arith)))
+  every-from none [] h = refl
+  every-from none (x ∷ xs) h = and-both (h zero (omega arith)) (every-from none xs (λ i below. h (suc i) (omega arith)))
 
+  -- every element of two lists one after the other
+  pub every-append : (xs ys : List A) → every test xs ≡ true → every test ys ≡ true → every test (xs ++ ys) ≡ true
+  unfolding every
+  every-append [] ys p q = q
+  every-append (x ∷ xs) ys p q =
+      and-both (and-left (test x) _ p) (every-append xs ys (and-right (test x) _ p) q)
+
+-- what passes one test passes a weaker one
+pub every-weaker : {A : Type 0} (strong weak : A → Bool) → ((x : A) → strong x ≡ true → weak x ≡ true)
+    → (xs : List A) → every strong xs ≡ true → every weak xs ≡ true
+unfolding every
+every-weaker strong weak h [] p = refl
+every-weaker strong weak h (x ∷ xs) p =
+    and-both (h x (and-left (strong x) _ p)) (every-weaker strong weak h xs (and-right (strong x) _ p))
+
+module _ {A : Type 0} (test : A → Bool) (d : A) where
   -- the rest from j on is the element at j and the rest after it
   pub every-drop : (xs : List A) (j : ℕ) → j < length xs → every test (drop j xs) ≡ test (getD xs j d) && every test (drop (j + 1) xs)
   unfolding every

@@ -44,7 +44,7 @@ pub rowsInRange-at : (codes : List ℤ) (m n : ℕ) → rowsInRange codes m n �
 unfolding rowsInRange
 rowsInRange-at codes m n e v low high =
     let place : getD (numbers 1 n) (v - 1) 0 ≡ v = getD-numbers 1 n (v - 1) 0 (omega arith) ∙ omega arith in
-    rw place at (every-at (λ u. allInRange (row codes m u)) 0 (numbers 1 n) e (v - 1) (rw length-numbers (omega arith)))
+    rw place at (every-at (λ u. allInRange (row codes m u)) (numbers 1 n) e (v - 1) 0 (rw length-numbers (omega arith)))
 
 -- each of rows 1 to n in range: so are they all
 pub rowsInRange-from : (codes : List ℤ) (m n : ℕ) → ((v : ℕ) → 1 ≤ v → v ≤ n → allInRange (row codes m v) ≡ true) → rowsInRange codes m n ≡ true

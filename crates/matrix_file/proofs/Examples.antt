@@ -1,0 +1,131 @@
+-- Document 01's example file and its further edges, read; and one refusal of each number 1 to 11 with its line.
+use mathlib.Core.Path.{_≡_, refl}
+use mathlib.Core.List.{List, [], _∷_, map, zipWith}
+use Prim.Native.Nat.{ℕ}
+use Prim.Native.String.{String}
+use lib.IntN.{ℤ, pos, negsuc}
+use lib.ListN.{replicate}
+use Rattle.matrix.specs.Shape.{inRange}
+use Rattle.matrix.specs.Questions.{oneTo, withinLimits}
+use Rattle.matrix.specs.Choice.{numbers}
+use Rattle.matrix.specs.Refusals.{refusalNumber}
+use Rattle.matrix.specs.Every.{every}
+use Rattle.matrix_file.specs.Bytes.{isDigit, isLetter, sameText, partsAt, joinedBy}
+use Rattle.matrix_file.specs.Decimal.{digitsIn, digitsOf, decimal, noLeadingZero, numberForm, numberFrom, numberOf, codeForm, codeOf}
+use Rattle.matrix_file.specs.Job.{Job, inName, nameForm, differsFromAll, firstText, rowText, ended, fileOf, padded}
+use Rattle.matrix_file.specs.Reading.{rowLine, linesOf, fieldsOf, firstFields, taxaIn, charactersIn, nameIn, codesIn, rowsOn, jobIn}
+use Rattle.matrix_file.specs.Reading.{firstForm, firstLineForm, askCodes, askRow, nothingMore, askRows, askFile, ReadAnswer, accepted}
+use Rattle.matrix_file.specs.Reading.{refused, readAnswer}
+use Rattle.matrix_file.specs.Text.{bytes}
+
+-- what an answer gives back: the job of an accepted file, or the refusal's number and line
+data Shown : Type 0 where
+  job : Job → Shown
+  line : ℕ → ℕ → Shown
+
+-- an answer, with the refusal's number
+shown : ReadAnswer → Shown
+shown (accepted read) = job read
+shown (refused refusal at) = line (refusalNumber refusal) at
+
+-- a file of these bytes, read
+read : List ℕ → Shown
+unfolding shown inRange withinLimits oneTo every isDigit isLetter sameText partsAt digitsIn digitsOf noLeadingZero numberForm numberFrom
+    numberOf codeForm codeOf inName nameForm differsFromAll rowLine linesOf fieldsOf firstFields taxaIn charactersIn nameIn codesIn rowsOn
+    jobIn firstForm firstLineForm askCodes askRow nothingMore askRows askFile readAnswer
+read file = shown (readAnswer file)
+
+-- a file of this text, read
+readText : String → Shown
+unfolding read bytes
+readText text = read (bytes text)
+
+-- document 01's example
+example : readText "W\t4\t3\nA\t0\t0\t0\nB\t2\t1\t0\nC\t2\t3\t1\nD\t-1\t1\t2\n"
+    ≡ job (record {
+      n = 4;
+      m = 3;
+      names = (65 ∷ []) ∷ (66 ∷ []) ∷ (67 ∷ []) ∷ (68 ∷ []) ∷ [];
+      rows = (pos 0 ∷ pos 0 ∷ pos 0 ∷ []) ∷ (pos 2 ∷ pos 1 ∷ pos 0 ∷ []) ∷ (pos 2 ∷ pos 3 ∷ pos 1 ∷ [])
+          ∷ (negsuc 0 ∷ pos 1 ∷ pos 2 ∷ []) ∷ [];
+    })
+unfolding readText
+example = refl
+
+-- one taxon `A` with one code
+one-code : ℤ → Shown
+one-code code = job (record { n = 1; m = 1; names = (65 ∷ []) ∷ []; rows = (code ∷ []) ∷ [] })
+
+-- the refusals 2 to 11: a file, and the number and line that refuse it
+refusals : List (String × Shown)
+refusals =
+    ("", line 2 0)
+    ∷ ("W\t1\nA\t0\n", line 3 1)
+    ∷ ("W\t0\t1\n", line 4 1)
+    ∷ ("W\t2\t1\nA\t0\n", line 5 3)
+    ∷ ("W\t1\t1\n1A\t0\n", line 6 2)
+    ∷ ("W\t3\t1\nA\t0\nB\t1\nA\t2\n", line 7 4)
+    ∷ ("W\t1\t2\nA\t0\n", line 8 2)
+    ∷ ("W\t1\t1\nA\t+1\n", line 9 2)
+    ∷ ("W\t2\t1\nA\t0\nB\t-1000\n", line 10 3)
+    ∷ ("W\t1\t1\nA\t0\n\n", line 11 3)
+    ∷ []
+
+-- the further edges: 999 and -999 pass, 1000 is 10, 1000000 and `-0` are 9, a missing last line feed is 5,
+-- a bad name with too few codes is 8
+edges : List (String × Shown)
+edges =
+    ("W\t1\t1\nA\t999\n", one-code (pos 999))
+    ∷ ("W\t1\t1\nA\t-999\n", one-code (negsuc 998))
+    ∷ ("W\t1\t1\nA\t1000\n", line 10 2)
+    ∷ ("W\t1\t1\nA\t1000000\n", line 9 2)
+    ∷ ("W\t1\t1\nA\t-0\n", line 9 2)
+    ∷ ("W\t1\t1\nA\t0", line 5 2)
+    ∷ ("W\t1\t2\n1A\t0\n", line 8 2)
+    ∷ []
+
+-- each file of a table is read as the table says
+AsSaid : List (String × Shown) → Type 0
+AsSaid table = map (λ row. readText (row .0)) table ≡ map (λ row. row .1) table
+
+refusals-read : AsSaid refusals
+unfolding AsSaid readText refusals
+refusals-read = refl
+
+edges-read : AsSaid edges
+unfolding AsSaid readText edges one-code
+edges-read = refl
+
+-- refusal 1
+too-long : read (replicate 45001 65) ≡ line 1 0
+unfolding read
+too-long = refl
+
+-- 64 taxa pass, 65 is 4; equal rows under different names pass: taxa `t1`, `t2`, ... with the same row
+alike : ℕ → Job
+unfolding digitsIn digitsOf numbers
+alike n =
+    record {
+      n = n;
+      m = 1;
+      names = map (λ k. 116 ∷ digitsOf k) (numbers 1 n);
+      rows = replicate n (pos 0 ∷ []);
+    }
+
+sixty-four-taxa : read (fileOf (alike 64)) ≡ job (alike 64)
+unfolding read alike joinedBy decimal zipWith firstText rowText ended fileOf
+sixty-four-taxa = refl
+
+sixty-five-taxa : read (fileOf (alike 65)) ≡ line 4 1
+unfolding read alike joinedBy decimal zipWith firstText rowText ended fileOf
+sixty-five-taxa = refl
+
+-- a long number is written at once
+long-number : digitsOf 9876543210123456789 ≡ bytes "9876543210123456789"
+unfolding digitsIn digitsOf bytes
+long-number = refl
+
+-- a name as it stands in the lent list
+padded-name : padded (97 ∷ 98 ∷ []) ≡ 97 ∷ 98 ∷ replicate 14 0
+unfolding padded
+padded-name = refl

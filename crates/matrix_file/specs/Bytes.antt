@@ -1,0 +1,55 @@
+-- Bytes of ASCII, and bytes parted at a separator. A byte is a number, a text is a list of bytes.
+use mathlib.Core.List.{List, [], _∷_, _++_}
+use mathlib.Core.Bool.{Bool, true, false, _&&_, _||_}
+use Prim.Native.Nat.{ℕ}
+use lib.Dec.{leb, eqb}
+
+-- tab, line feed, `-` and `_`
+abbrev pub tab : ℕ
+tab = 9
+
+abbrev pub lineFeed : ℕ
+lineFeed = 10
+
+abbrev pub minus : ℕ
+minus = 45
+
+abbrev pub underscore : ℕ
+underscore = 95
+
+-- the word `W`
+abbrev pub wordW : List ℕ
+wordW = 87 ∷ []
+
+-- `0` to `9`
+unfoldable pub isDigit : ℕ → Bool
+isDigit byte = leb 48 byte && leb byte 57
+
+-- `A` to `Z` or `a` to `z`
+unfoldable pub isLetter : ℕ → Bool
+isLetter byte = (leb 65 byte && leb byte 90) || (leb 97 byte && leb byte 122)
+
+-- two texts are the same, byte for byte
+unfoldable pub sameText : List ℕ → List ℕ → Bool
+sameText [] [] = true
+sameText [] (b ∷ bs) = false
+sameText (a ∷ rest) [] = false
+sameText (a ∷ rest) (b ∷ bs) = eqb a b && sameText rest bs
+
+-- a byte put in front of the first part (of a text's parts there is always one)
+abbrev pub beforeFirst : ℕ → List (List ℕ) → List (List ℕ)
+beforeFirst byte [] = (byte ∷ []) ∷ []
+beforeFirst byte (part ∷ parts) = (byte ∷ part) ∷ parts
+
+-- a text parted at each separator: one part more than it has separators
+unfoldable pub partsAt : ℕ → List ℕ → List (List ℕ)
+partsAt separator [] = [] ∷ []
+partsAt separator (byte ∷ bytes) =
+    let rest = partsAt separator bytes in
+    elim (eqb byte separator) [ true ↦ [] ∷ rest | false ↦ beforeFirst byte rest ]
+
+-- parts put together, with one separator between two of them
+unfoldable pub joinedBy : ℕ → List (List ℕ) → List ℕ
+joinedBy separator [] = []
+joinedBy separator (part ∷ []) = part
+joinedBy separator (part ∷ next ∷ parts) = part ++ separator ∷ joinedBy separator (next ∷ parts)

@@ -1,0 +1,96 @@
+-- A job, what a matrix file says: n taxa, m characters, the names and the codes; its limits; and the one file that says it
+-- (document 01, "The matrix file").
+use mathlib.Core.Path.{_≡_}
+use mathlib.Core.List.{List, [], _∷_, _++_, map, zipWith}
+use mathlib.Core.Bool.{Bool, true, false, _&&_, _||_, not}
+use Prim.Native.Nat.{ℕ, _*_, _-_}
+use lib.Dec.{leb, eqb}
+use lib.IntN.{ℤ}
+use lib.ListN.{length, drop, replicate}
+use Rattle.matrix.specs.Questions.{withinLimits, allInRange}
+use Rattle.matrix.specs.Every.{every}
+use Rattle.matrix_file.specs.Bytes.{tab, lineFeed, underscore, wordW, isDigit, isLetter, sameText, joinedBy}
+use Rattle.matrix_file.specs.Decimal.{digitsOf, decimal}
+
+-- n taxa, m characters; names and rows of codes stand by row, row 1 first
+pub record Job : Type 0 where
+  pub n : ℕ
+  pub m : ℕ
+  pub names : List (List ℕ)
+  pub rows : List (List ℤ)
+
+-- a letter, a digit or `_`
+unfoldable pub inName : ℕ → Bool
+inName byte = isLetter byte || (isDigit byte || eqb byte underscore)
+
+-- a name has 1 to 16 bytes: a letter first, then letters, digits or `_`
+unfoldable pub nameForm : List ℕ → Bool
+nameForm [] = false
+nameForm (byte ∷ bytes) = isLetter byte && (every inName bytes && leb (length (byte ∷ bytes)) 16)
+
+-- a name differs from every one of a list
+unfoldable pub differsFromAll : List ℕ → List (List ℕ) → Bool
+differsFromAll name [] = true
+differsFromAll name (other ∷ others) = not (sameText name other) && differsFromAll name others
+
+-- no two names of a list are the same
+unfoldable pub allDiffer : List (List ℕ) → Bool
+allDiffer [] = true
+allDiffer (name ∷ names) = differsFromAll name names && allDiffer names
+
+-- a row has exactly m codes
+unfoldable pub hasCodes : ℕ → List ℤ → Bool
+hasCodes m codes = eqb (length codes) m
+
+-- a job within the limits: n is 1 to 64 and m is 1 to 128; n names, well formed and all different;
+-- n rows of m codes, each from -999 to 999
+pub record JobWithinLimits (job : Job) : Type 0 where
+  pub limits : withinLimits (job .n) (job .m) ≡ true
+  pub name-count : length (job .names) ≡ job .n
+  pub names-formed : every nameForm (job .names) ≡ true
+  pub names-differ : allDiffer (job .names) ≡ true
+  pub row-count : length (job .rows) ≡ job .n
+  pub rows-full : every (hasCodes (job .m)) (job .rows) ≡ true
+  pub codes-in-range : every allInRange (job .rows) ≡ true
+
+-- line 1: `W`, n, m
+unfoldable pub firstText : Job → List ℕ
+firstText job = joinedBy tab (wordW ∷ digitsOf (job .n) ∷ digitsOf (job .m) ∷ [])
+
+-- the line of a row: its name and its codes
+unfoldable pub rowText : List ℕ → List ℤ → List ℕ
+rowText name codes = joinedBy tab (name ∷ map decimal codes)
+
+-- the lines of the rows
+abbrev pub rowTexts : Job → List (List ℕ)
+rowTexts job = zipWith rowText (job .names) (job .rows)
+
+-- lines one after another, each ended by a line feed
+unfoldable pub ended : List (List ℕ) → List ℕ
+ended [] = []
+ended (line ∷ lines) = line ++ lineFeed ∷ ended lines
+
+-- the one file that says a job
+unfoldable pub fileOf : Job → List ℕ
+fileOf job = ended (firstText job ∷ rowTexts job)
+
+-- a name in the lent list of names has 16 bytes
+abbrev pub nameSize : ℕ
+nameSize = 16
+
+-- 64 names
+abbrev pub namesSize : ℕ
+namesSize = 1024
+
+-- a name as it stands in the lent list: its bytes, and zeros behind them
+unfoldable pub padded : List ℕ → List ℕ
+padded name = name ++ replicate (nameSize - length name) 0
+
+-- names one after another, each padded
+unfoldable pub paddedNames : List (List ℕ) → List ℕ
+paddedNames [] = []
+paddedNames (name ∷ names) = padded name ++ paddedNames names
+
+-- the lent list after an accepted read: the names by row, and behind them what stood there
+unfoldable pub namesWritten : List (List ℕ) → List ℕ → List ℕ
+namesWritten names lent = paddedNames names ++ drop (length names * nameSize) lent

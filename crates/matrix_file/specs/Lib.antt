@@ -1,0 +1,6 @@
+-- Reading a matrix file (document 01, "The matrix file" and "Reading a file").
+pub mod Bytes
+pub mod Decimal
+pub mod Job
+pub mod Reading
+pub mod Text
