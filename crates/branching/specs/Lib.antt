@@ -1,2 +1,6 @@
--- Trees as lists of immediate ancestors.
+-- Trees as lists of immediate ancestors; growing trees and branchings; branch records and lengths.
 pub mod Ancestors
+pub mod Nodes
+pub mod Growing
+pub mod Hanging
+pub mod Branches

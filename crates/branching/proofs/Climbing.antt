@@ -1,0 +1,108 @@
+-- Going up reaches node 1 at all exactly if it does so within as many steps as the tree has nodes.
+use mathlib.Core.Path.{_≡_, refl}
+use mathlib.Core.Logic.{_↔_, Iff·rfl, _⊎_, inl, inr, ⊎-elim, _≢_}
+use mathlib.Core.List.{List, List·Memᴰ}
+use mathlib.Core.Bool.{Bool, true, false, _||_}
+use Prim.Native.Nat.{ℕ, zero, suc, _<_}
+use native.Mathlib.Omega.{arith}
+use lib.Dec.{eqb}
+use lib.ListN.{length}
+use borrow.Author.Tests.{eqb-true, eq-eqb}
+use Rattle.branching.specs.Ancestors.{ancestor}
+use Rattle.branching.specs.Nodes.{keep}
+use Rattle.branching.specs.Growing.{climbs, ReachesRoot, root, up}
+use Rattle.branching.proofs.Tests.{eqb-iff, or-iff}
+use Rattle.branching.proofs.Numbers.{keep-grows, mem-keep, mem-length, length-keep-le}
+
+module _ (tree : List ℕ) where
+  -- one step more: node v is node 1, or its immediate ancestor climbs
+  climbs-suc : (steps v : ℕ) → climbs tree (suc steps) v ≡ (eqb v 1 || climbs tree steps (ancestor tree v))
+  unfolding climbs
+  climbs-suc steps v = go (eqb v 1) (climbs tree steps (ancestor tree v))
+    where
+      go : (t c : Bool) → (elim t as (λ b. Bool) [ true ↦ true | false ↦ c ]) ≡ (t || c)
+      go true c = refl
+      go false c = refl
+
+  pub climbs-iff : (steps v : ℕ) → (climbs tree (suc steps) v ≡ true) ↔ ((v ≡ 1) ⊎ (climbs tree steps (ancestor tree v) ≡ true))
+  climbs-iff steps v = rw (climbs-suc steps v) (or-iff (eqb-iff v 1) Iff·rfl)
+
+  pub climbs-cases : (steps v : ℕ) → climbs tree (suc steps) v ≡ true → (v ≡ 1) ⊎ (climbs tree steps (ancestor tree v) ≡ true)
+  climbs-cases steps v = climbs-iff steps v .0
+
+  climbs-up : (steps v : ℕ) → climbs tree steps (ancestor tree v) ≡ true → climbs tree (suc steps) v ≡ true
+  climbs-up steps v c = climbs-iff steps v .1 (inr c)
+
+  -- node 1 climbs in no steps
+  climbs-root : (steps v : ℕ) → v ≡ 1 → climbs tree steps v ≡ true
+  unfolding climbs
+  climbs-root zero v e = eq-eqb v 1 e
+  climbs-root (suc steps) v e = climbs-iff steps v .1 (inl e)
+
+  -- what climbs within some steps climbs within more
+  climbs-more : (steps v : ℕ) → climbs tree steps v ≡ true → climbs tree (suc steps) v ≡ true
+  unfolding climbs
+  climbs-more zero v c = climbs-root 1 v (eqb-true v 1 c)
+  climbs-more (suc steps) v c =
+      ⊎-elim
+      (λ e. climbs-root (suc (suc steps)) v e)
+      (λ r. climbs-up (suc steps) v (climbs-more steps (ancestor tree v) r))
+      (climbs-cases steps v c)
+
+  -- what climbs reaches node 1
+  pub climbs-reaches : (steps v : ℕ) → climbs tree steps v ≡ true → ReachesRoot tree v
+  unfolding climbs
+  climbs-reaches zero v c = rw (eqb-true v 1 c) root
+  climbs-reaches (suc steps) v c =
+      ⊎-elim (λ e. rw e root) (λ r. up v (climbs-reaches steps (ancestor tree v) r)) (climbs-cases steps v c)
+
+  -- a number other than 1 without an ancestor never climbs, if 0 has none
+  pub never-climbs : ancestor tree 0 ≡ 0 → (steps v : ℕ) → v ≢ 1 → ancestor tree v ≡ 0 → ¬ (climbs tree steps v ≡ true)
+  unfolding climbs
+  never-climbs ground zero v ne none c = ne (eqb-true v 1 c)
+  never-climbs ground (suc steps) v ne none c =
+      ⊎-elim ne (λ r. never-climbs ground steps 0 (λ e. omega arith) ground (rw none at r)) (climbs-cases steps v c)
+
+  -- after so many steps nothing more climbs
+  abbrev Settled : ℕ → Type 0
+  Settled steps = (v : ℕ) → climbs tree (suc steps) v ≡ true → climbs tree steps v ≡ true
+
+  settled-suc : (steps : ℕ) → Settled steps → Settled (suc steps)
+  settled-suc steps s v c =
+      ⊎-elim
+      (λ e. climbs-root (suc steps) v e)
+      (λ r. climbs-up steps v (s (ancestor tree v) r))
+      (climbs-cases (suc steps) v c)
+
+  -- then all that reaches node 1 climbs
+  reaches-settled : (steps : ℕ) → Settled steps → {v : ℕ} → ReachesRoot tree v → climbs tree steps v ≡ true
+  reaches-settled steps s root = climbs-root steps 1 refl
+  reaches-settled steps s (up v r) = s v (climbs-up steps v (reaches-settled steps s r))
+
+  -- a list of nodes that holds node 1 and every node that ever climbs
+  module _ (nodes : List ℕ) (one : List·Memᴰ 1 nodes)
+      (all : (v : ℕ) → List·Memᴰ v nodes ⊎ ((steps : ℕ) → ¬ (climbs tree steps v ≡ true))) where
+    -- each step lets one more of the nodes climb, until nothing more climbs
+    settled-or-more : (steps : ℕ) → Settled steps ⊎ (steps < length (keep (climbs tree steps) nodes))
+    settled-or-more zero = inr (mem-length (mem-keep (climbs tree 0) nodes 1 one (climbs-root 0 1 refl)))
+    settled-or-more (suc steps) = go (settled-or-more steps)
+      where
+        everywhere : ((v : ℕ) → List·Memᴰ v nodes → climbs tree (suc steps) v ≡ true → climbs tree steps v ≡ true) → Settled steps
+        everywhere back v c = ⊎-elim (λ m. back v m c) (λ never. absurd (never (suc steps) c)) (all v)
+
+        go : Settled steps ⊎ (steps < length (keep (climbs tree steps) nodes))
+            → Settled (suc steps) ⊎ (suc steps < length (keep (climbs tree (suc steps)) nodes))
+        go (inl s) = inl (settled-suc steps s)
+        go (inr h) =
+            ⊎-elim
+            (λ back. inl (settled-suc steps (everywhere back)))
+            (λ less. inr (omega arith))
+            (keep-grows (climbs tree steps) (climbs tree (suc steps)) nodes (λ v m c. climbs-more steps v c))
+
+    -- what reaches node 1 does so within as many steps as there are nodes
+    pub reaches-climbs : {v : ℕ} → ReachesRoot tree v → climbs tree (length nodes) v ≡ true
+    reaches-climbs r =
+        ⊎-elim
+        (λ s. reaches-settled (length nodes) s r)
+        (λ more. absurd (omega (arith, length-keep-le (climbs tree (length nodes)) nodes)))
+        (settled-or-more (length nodes))

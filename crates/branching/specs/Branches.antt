@@ -1,0 +1,55 @@
+-- The length of a tree, and branch records: the form in which a branching is lent and a finished tree handed back.
+use mathlib.Core.List.{List, [], _∷_, map}
+use mathlib.Core.Bool.{Bool, true, false, _&&_}
+use Prim.Native.Nat.{ℕ, _+_, _*_, _-_}
+use lib.Dec.{eqb}
+use lib.ListN.{take}
+use Rattle.branching.specs.Ancestors.{ancestor}
+use Rattle.branching.specs.Nodes.{nodesIn, otherNodes}
+use Rattle.branching.specs.Growing.{branching}
+
+-- the sum of a quantity over a list of nodes
+unfoldable pub sumOver : (ℕ → ℕ) → List ℕ → ℕ
+sumOver f [] = 0
+sumOver f (v ∷ vs) = f v + sumOver f vs
+
+-- the length of a tree: the sum, over its nodes but node 1, of the difference d of node and immediate ancestor
+unfoldable pub treeLength : (ℕ → ℕ → ℕ) → ℕ → List ℕ → ℕ
+treeLength d n tree = sumOver (λ v. d v (ancestor tree v)) (nodesIn tree (otherNodes n))
+
+-- a branch: a node, its immediate ancestor, and the branch's length
+pub record BranchRecord : Type 0 where
+  pub node : ℕ
+  pub ancestor : ℕ
+  pub length : ℕ
+
+-- the branch of node v, with its length under the difference d
+unfoldable pub branchOf : (ℕ → ℕ → ℕ) → List ℕ → ℕ → BranchRecord
+branchOf d tree v = record { node = v; ancestor = ancestor tree v; length = d v (ancestor tree v) }
+
+-- the branches of a branching of n taxa, by node number from 2
+unfoldable pub branchRecords : (ℕ → ℕ → ℕ) → ℕ → List ℕ → List BranchRecord
+branchRecords d n tree = map (branchOf d tree) (otherNodes n)
+
+-- of a list of branches, the first 2n-3, which alone are read
+unfoldable pub branchesRead : ℕ → List BranchRecord → List BranchRecord
+branchesRead n records = take (2 * n - 3) records
+
+-- the tree that the first 2n-3 branches give, if they name nodes 2 to 2n-2 in order
+unfoldable pub ancestorsOf : ℕ → List BranchRecord → List ℕ
+ancestorsOf n records = 0 ∷ (0 ∷ map (λ (branch : BranchRecord). branch .ancestor) (branchesRead n records))
+
+-- two lists hold the same numbers in the same order
+unfoldable pub sameNumbers : List ℕ → List ℕ → Bool
+sameNumbers [] [] = true
+sameNumbers [] (y ∷ ys) = false
+sameNumbers (x ∷ xs) [] = false
+sameNumbers (x ∷ xs) (y ∷ ys) = eqb x y && sameNumbers xs ys
+
+-- the first 2n-3 branches name nodes 2 to 2n-2 in order
+unfoldable pub namedInOrder : ℕ → List BranchRecord → Bool
+namedInOrder n records = sameNumbers (map (λ (branch : BranchRecord). branch .node) (branchesRead n records)) (otherNodes n)
+
+-- the lent branches are a branching of n taxa (else refusal 14)
+unfoldable pub lentBranching : ℕ → List BranchRecord → Bool
+lentBranching n records = namedInOrder n records && branching n (ancestorsOf n records)

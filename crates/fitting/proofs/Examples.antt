@@ -1,0 +1,117 @@
+-- Document 01's examples of fitting, computed: the three joins, the fit of the matrix A, B, C, D to its Wagner tree, and small n.
+use mathlib.Core.Path.{_≡_, refl}
+use mathlib.Core.List.{List, [], _∷_, map, flatMap}
+use Prim.Native.Nat.{ℕ, suc, _-_}
+use lib.IntN.{ℤ, pos, negsuc}
+use Rattle.matrix.specs.Choice.{numbers}
+use Rattle.branching.specs.Ancestors.{ancestor, descendants}
+use Rattle.difference.specs.Rows.{apart, lower, higher}
+use Rattle.fitting.specs.Sets.{Span, only, join, nearest, insert, inOrder, middle}
+use Rattle.fitting.specs.Trees.{tip, fork, above, treeAt, lowerNodes, treesBelow}
+use Rattle.fitting.specs.Character.{valueAt, up, chosen, ranges}
+use Rattle.fitting.specs.Assignments.{sum, character, branchLength, total}
+use Rattle.fitting.specs.Fit.{chosenState, range, fittedLength, fittedTotal}
+
+-- the set from one state to another
+abbrev pub span : ℤ → ℤ → Span
+span a b = record { low = a; high = b }
+
+-- [0,1] with [2,2] gives [1,2]
+pub join-apart : join (span (pos 0) (pos 1)) (span (pos 2) (pos 2)) ≡ span (pos 1) (pos 2)
+unfolding join lower higher
+join-apart = refl
+
+-- [0,3] with [1,5] gives [1,3]
+pub join-overlapping : join (span (pos 0) (pos 3)) (span (pos 1) (pos 5)) ≡ span (pos 1) (pos 3)
+unfolding join lower higher
+join-overlapping = refl
+
+-- [0,1] with [1,2] gives [1,1]
+pub join-touching : join (span (pos 0) (pos 1)) (span (pos 1) (pos 2)) ≡ span (pos 1) (pos 1)
+unfolding join lower higher
+join-touching = refl
+
+-- what a listing shows of a fit: the numbers of its `T`, `t` and `H` lines
+pub record Printed : Type 0 where
+  -- for each node from 2 on, its branch's fitted length
+  pub lengths : List ℕ
+  pub sumOfLengths : ℕ
+  -- for each HTU and each character low, high and chosen state
+  pub states : List (List (List ℤ))
+
+-- the fit of a matrix as a listing shows it
+unfoldable pub printed : List ℕ → List (List ℤ) → ℕ → ℕ → Printed
+unfolding treesBelow treeAt above lowerNodes numbers descendants ancestor fittedTotal fittedLength total branchLength sum apart lower
+    higher chosenState range valueAt chosen ranges up join nearest middle inOrder insert only character flatMap
+printed ancestors rows n m = record {
+  lengths = map (λ v. fittedLength ancestors rows n m v) (lowerNodes n);
+  sumOfLengths = fittedTotal ancestors rows n m;
+  states =
+      map
+      (λ v. map (λ j. range ancestors rows n v j .low ∷ range ancestors rows n v j .high ∷ chosenState ancestors rows n v j ∷ [])
+      (numbers 1 m))
+      (numbers (suc n) (n - 2));
+}
+
+-- document 01's example: taxa A, B, C, D are nodes 1 to 4, HTUs #1 and #2 are nodes 5 and 6
+abbrev pub rowsABCD : List (List ℤ)
+rowsABCD =
+    (pos 0 ∷ pos 0 ∷ pos 0 ∷ [])
+    ∷ (pos 2 ∷ pos 1 ∷ pos 0 ∷ [])
+    ∷ (pos 2 ∷ pos 3 ∷ pos 1 ∷ [])
+    ∷ (negsuc 0 ∷ pos 1 ∷ pos 2 ∷ [])
+    ∷ []
+
+-- B and C hang from #2, D and #2 from #1, #1 from A
+abbrev pub ancestorsABCD : List ℕ
+ancestorsABCD = 0 ∷ 0 ∷ 6 ∷ 6 ∷ 5 ∷ 1 ∷ 5 ∷ []
+
+-- below A stands #1, below #1 stand D and #2, below #2 stand B and C
+pub tree-ABCD : treesBelow ancestorsABCD 4 ≡ fork 5 (tip 4) (fork 6 (tip 2) (tip 3)) ∷ []
+unfolding treesBelow treeAt above lowerNodes numbers descendants ancestor
+tree-ABCD = refl
+
+-- document 01's `T`, `t` and `H` lines
+pub fit-ABCD : printed ancestorsABCD rowsABCD 4 3 ≡ record {
+  lengths = 1 ∷ 2 ∷ 2 ∷ 2 ∷ 2 ∷ [];
+  sumOfLengths = 9;
+  states =
+      ((pos 0 ∷ pos 0 ∷ pos 0 ∷ []) ∷ (pos 1 ∷ pos 1 ∷ pos 1 ∷ []) ∷ (pos 0 ∷ pos 1 ∷ pos 1 ∷ []) ∷ [])
+      ∷ ((pos 2 ∷ pos 2 ∷ pos 2 ∷ []) ∷ (pos 1 ∷ pos 1 ∷ pos 1 ∷ []) ∷ (pos 0 ∷ pos 1 ∷ pos 1 ∷ []) ∷ [])
+      ∷ [];
+}
+unfolding printed
+fit-ABCD = refl
+
+-- in character 3 the set of #1 from the tips up is 1 to 2, while its range is 0 to 1
+pub set-of-#1 : up (character rowsABCD 3) (fork 5 (tip 4) (fork 6 (tip 2) (tip 3))) ≡ span (pos 1) (pos 2)
+unfolding up join only character lower higher
+set-of-#1 = refl
+
+-- the range of #1 in character 3
+pub range-of-#1 : range ancestorsABCD rowsABCD 4 5 3 ≡ span (pos 0) (pos 1)
+unfolding printed
+range-of-#1 = refl
+
+-- row 1 alone
+pub fit-1 : printed (0 ∷ 0 ∷ []) ((pos 7 ∷ []) ∷ []) 1 1 ≡ record { lengths = []; sumOfLengths = 0; states = [] }
+unfolding printed
+fit-1 = refl
+
+-- two taxa: one branch and no HTU
+pub fit-2 : printed (0 ∷ 0 ∷ 1 ∷ []) ((pos 7 ∷ pos 0 ∷ []) ∷ (negsuc 2 ∷ pos 1 ∷ []) ∷ []) 2 2 ≡ record {
+  lengths = 11 ∷ [];
+  sumOfLengths = 11;
+  states = [];
+}
+unfolding printed
+fit-2 = refl
+
+-- three taxa: the one HTU has the median of their codes
+pub fit-3 : printed (0 ∷ 0 ∷ 4 ∷ 4 ∷ 1 ∷ []) ((negsuc 0 ∷ []) ∷ (pos 2 ∷ []) ∷ (pos 0 ∷ []) ∷ []) 3 1 ≡ record {
+  lengths = 2 ∷ 0 ∷ 1 ∷ [];
+  sumOfLengths = 3;
+  states = ((pos 0 ∷ pos 0 ∷ pos 0 ∷ []) ∷ []) ∷ [];
+}
+unfolding printed
+fit-3 = refl

@@ -1,0 +1,22 @@
+-- The laws of fitting.
+pub mod Shift
+pub mod Ends
+pub mod Sets
+pub mod Basic
+pub mod Tables
+pub mod Nodes
+pub mod Agree
+pub mod Downward
+pub mod Chosen
+pub mod Order
+pub mod Three
+pub mod Range
+pub mod Sums
+pub mod Walks
+pub mod Shape
+pub mod OneTree
+pub mod Matrix
+pub mod ThirdRival
+pub mod ByNode
+pub mod Values
+pub mod Branching

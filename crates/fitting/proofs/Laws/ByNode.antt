@@ -1,0 +1,383 @@
+-- The fit by node number, as a program finds it: the set of a node from those of its descendants, its chosen state and its outside from
+-- those of its ancestor, its range from the three sets that it sees.
+use mathlib.Core.Path.{_≡_, refl, sym, _∙_, ap, ap₂, subst}
+use mathlib.Core.Logic.{⊎-elim}
+use mathlib.Core.List.{List, [], _∷_, List·Memᴰ, List·Memᴰ·not-nil, List·Memᴰ·cases-cons, List·Memᴰ·eq-of-singleton}
+use Prim.Native.Nat.{ℕ, zero, suc, _*_, _-_, _≤_, _<_}
+use native.Mathlib.Omega.{arith}
+use lib.IntN.{ℤ}
+use Rattle.matrix.specs.Choice.{numbers}
+use Rattle.branching.specs.Ancestors.{ancestor, descendants}
+use Rattle.fitting.specs.Sets.{Span, only, join, nearest, middle}
+use Rattle.fitting.specs.Trees.{Tree, tip, fork, treeAt, lowerNodes}
+use Rattle.fitting.specs.Character.{valueAt, up}
+use Rattle.fitting.specs.Assignments.{character}
+use Rattle.fitting.specs.Fit.{chosenState, range}
+use Rattle.fitting.proofs.Laws.Ends.{either}
+use Rattle.fitting.proofs.Laws.Nodes.{Part, whole, left, right}
+use Rattle.fitting.proofs.Laws.Downward.{downward, handed, downward-part, stateFrom, rangeFrom, outsideLeft, outsideRight}
+use Rattle.fitting.proofs.Laws.Downward.{ranges-downward}
+use Rattle.fitting.proofs.Laws.Sums.{sum-count}
+use Rattle.fitting.proofs.Laws.Walks.{Climbs, Branches, never-climbs}
+use Rattle.fitting.proofs.Laws.Chosen.{fit-downward}
+use Rattle.fitting.proofs.Laws.OneTree.{chosenState-fit, chosenState-taxon, range-tree}
+use Rattle.fitting.proofs.Laws.Shape.{Made, TreeOf, tree-of, size, size-fork, Two, two-of, two-given, none-in, treeTo-taxon}
+use Rattle.fitting.proofs.Laws.Shape.{treeTo-htu, treeTo-whole, descendants-has, numbers-has}
+
+-- the parts of a part, and of a fork
+part-left : (v : ℕ) (a b t : Tree) → Part (fork v a b) t → Part a t
+part-left v a b t whole = left v a b whole
+part-left v a b t (left u c e p) = left u c e (part-left v a b c p)
+part-left v a b t (right u c e p) = right u c e (part-left v a b e p)
+
+-- the right side of a part is a part
+part-right : (v : ℕ) (a b t : Tree) → Part (fork v a b) t → Part b t
+part-right v a b t whole = right v a b whole
+part-right v a b t (left u c e p) = left u c e (part-right v a b c p)
+part-right v a b t (right u c e p) = right u c e (part-right v a b e p)
+
+module _ {X : Type 0} (toLeft toRight : X → Tree → Tree → X) where
+  -- what is handed to the two sides of a fork
+  handed-left : (x : X) (v : ℕ) (a b t : Tree) (p : Part (fork v a b) t) →
+      handed toLeft toRight x (part-left v a b t p) ≡ toLeft (handed toLeft toRight x p) a b
+  unfolding handed part-left
+  handed-left x v a b t whole = refl
+  handed-left x v a b t (left u c e p) = handed-left (toLeft x c e) v a b c p
+  handed-left x v a b t (right u c e p) = handed-left (toRight x c e) v a b e p
+
+  -- what is handed to the right side of a fork
+  handed-right : (x : X) (v : ℕ) (a b t : Tree) (p : Part (fork v a b) t) →
+      handed toLeft toRight x (part-right v a b t p) ≡ toRight (handed toLeft toRight x p) a b
+  unfolding handed part-right
+  handed-right x v a b t whole = refl
+  handed-right x v a b t (left u c e p) = handed-right (toLeft x c e) v a b c p
+  handed-right x v a b t (right u c e p) = handed-right (toRight x c e) v a b e p
+
+-- a part has no more nodes, and is made as the whole is
+part-size : (s t : Tree) → Part s t → size s ≤ size t
+part-size s t whole = omega arith
+part-size s t (left v a b p) = omega (arith, part-size s a p, size-fork v a b)
+part-size s t (right v a b p) = omega (arith, part-size s b p, size-fork v a b)
+
+-- a part is made as the whole is
+part-made : (n : ℕ) (ancestors : List ℕ) (s t : Tree) → Part s t → Made n ancestors t → Made n ancestors s
+part-made n ancestors s t whole m = m
+part-made n ancestors s t (left v a b p) m = part-made n ancestors s a p (m .4)
+part-made n ancestors s t (right v a b p) m = part-made n ancestors s b p (m .5)
+
+module _ (n : ℕ) (ancestors : List ℕ) (branches : Branches n ancestors) where
+  -- the tree of the branching
+  abbrev treeOf : TreeOf n ancestors
+  treeOf = tree-of n ancestors branches
+
+  -- a part of the branching's tree
+  abbrev InTree : Tree → Type 0
+  InTree s = Part s (treeOf .tree)
+
+  -- the tree of a node
+  abbrev pub treeFrom : ℕ → Tree
+  treeFrom v = treeAt ancestors (lowerNodes n) (2 * n) v
+
+  -- a node stands among the descendants of its ancestor
+  among : (v : ℕ) → 2 ≤ v → v ≤ 2 * n - 2 → List·Memᴰ v (descendants ancestors (lowerNodes n) (ancestor ancestors v))
+  unfolding lowerNodes
+  among v p h = descendants-has ancestors (numbers 2 (2 * n - 3)) v (numbers-has 2 (2 * n - 3) v p (omega (arith, branches .several)))
+
+  -- the node that hangs from row 1 has the whole tree
+  first-whole : (v : ℕ) → 2 ≤ v → v ≤ 2 * n - 2 → ancestor ancestors v ≡ 1 → treeFrom v ≡ treeOf .tree
+  first-whole v p h e = ap treeFrom (List·Memᴰ·eq-of-singleton m) ∙ treeOf .fromRoot
+    where
+      m : List·Memᴰ v (treeOf .root ∷ [])
+      m = subst (λ us. List·Memᴰ v us) (treeOf .ofRow1) (subst (λ u. List·Memᴰ v (descendants ancestors (lowerNodes n) u)) e (among v p h))
+
+  -- a part of the tree that is a node's tree as far as it goes is the node's tree
+  part-whole : (depth v : ℕ) → 2 ≤ v → v ≤ 2 * n - 2 → InTree (treeAt ancestors (lowerNodes n) depth v) →
+      treeFrom v ≡ treeAt ancestors (lowerNodes n) depth v
+  part-whole depth v p h part = treeTo-whole n ancestors branches depth (2 * n) v p h
+      (part-made n ancestors (treeAt ancestors (lowerNodes n) depth v) (treeOf .tree) part (treeOf .isMade))
+      (omega (arith, part-size (treeAt ancestors (lowerNodes n) depth v) (treeOf .tree) part, tree-size))
+    where
+      tree-size : size (treeOf .tree) ≤ 2 * n
+      tree-size = unfold size lowerNodes in omega (arith, treeOf .sums (λ v. 1), sum-count 2 (2 * n - 3))
+
+  -- a and b are the two descendants of HTU u
+  pub record Htu (u a b : ℕ) : Type 0 where
+    pub above : n < u
+    pub last : u ≤ 2 * n - 2
+    pub are : descendants ancestors (lowerNodes n) u ≡ a ∷ b ∷ []
+
+  -- an HTU is no taxon
+  htu-second : (u a b : ℕ) → Htu u a b → 2 ≤ u
+  htu-second u a b htu = omega (arith, htu .above, branches .several)
+
+  -- a node hangs from row 1, or from an HTU beside a sister
+  pub data Hangs (v : ℕ) : Type 0 where
+    fromRow1 : ancestor ancestors v ≡ 1 → Hangs v
+    onLeft : (sister : ℕ) → Htu (ancestor ancestors v) v sister → Hangs v
+    onRight : (sister : ℕ) → Htu (ancestor ancestors v) sister v → Hangs v
+
+  -- a node from which going up reaches row 1 hangs so
+  hangs-climbs : (k v : ℕ) → 2 ≤ v → v ≤ 2 * n - 2 → Climbs ancestors (suc k) v → Hangs v
+  hangs-climbs zero v p h c = fromRow1 c
+  hangs-climbs (suc k) v p h c = either u n (λ l. absurd (taxon l)) htu
+    where
+      u : ℕ
+      u = ancestor ancestors v
+
+      node : (2 ≤ u) × (u ≤ 2 * n - 2)
+      node = branches .onlyNodes u (either 1 (ancestor ancestors u) (λ l. l)
+          (λ l. absurd (never-climbs n ancestors branches k (subst (λ w. Climbs ancestors k w) (omega arith) c))))
+
+      taxon : u ≤ n → ⊥
+      taxon l = List·Memᴰ·not-nil
+          (subst (λ us. List·Memᴰ v us) (none-in (descendants ancestors (lowerNodes n) u) (branches .ofTaxon u (node .0) l)) (among v p h))
+
+      htu : n < u → Hangs v
+      htu l =
+          let two = two-of n ancestors branches u l (node .1) in
+          ⊎-elim
+          (λ e. onLeft (two .right) (record { above = l; last = node .1; are = two .are ∙ ap (λ w. w ∷ two .right ∷ []) (sym e) }))
+          (λ m. onRight (two .left)
+          (record { above = l; last = node .1; are = two .are ∙ ap (λ w. two .left ∷ w ∷ []) (sym (List·Memᴰ·eq-of-singleton m)) }))
+          (List·Memᴰ·cases-cons (subst (λ us. List·Memᴰ v us) (two .are) (among v p h)))
+
+  -- every node below row 1 hangs so
+  pub hangs : (v : ℕ) → 2 ≤ v → v ≤ 2 * n - 2 → Hangs v
+  hangs v p h = let c = branches .climbs v p h in go (c .0) (c .1)
+    where
+      go : (k : ℕ) → Climbs ancestors k v → Hangs v
+      go zero c = absurd (omega arith)
+      go (suc k) c = hangs-climbs k v p h c
+
+  -- if an HTU's tree is a part of the whole, so are those of its descendants, and it is their fork
+  record Split (u a b : ℕ) : Type 0 where
+    isFork : treeFrom u ≡ fork u (treeFrom a) (treeFrom b)
+    leftPart : InTree (treeFrom a)
+    rightPart : InTree (treeFrom b)
+
+  -- its tree goes down far enough, because the whole has at most 2n nodes
+  split : (u a b : ℕ) → Htu u a b → InTree (treeFrom u) → Split u a b
+  unfolding two-given
+  split u a b htu part = record {
+    isFork = step ∙ ap₂ (fork u) (sym wholeLeft) (sym wholeRight);
+    leftPart = subst InTree (sym wholeLeft) l;
+    rightPart = subst InTree (sym wholeRight) r;
+  }
+    where
+      less : ℕ
+      less = 2 * n - 1
+
+      two : Two n ancestors branches u
+      two = two-given n ancestors branches u a b (htu .are)
+
+      A : Tree
+      A = treeAt ancestors (lowerNodes n) less a
+
+      B : Tree
+      B = treeAt ancestors (lowerNodes n) less b
+
+      step : treeFrom u ≡ fork u A B
+      step = ap (λ d. treeAt ancestors (lowerNodes n) d u) (omega (arith, branches .several))
+          ∙ treeTo-htu n ancestors branches less u two
+
+      l : InTree A
+      l = part-left u A B (treeOf .tree) (subst InTree step part)
+
+      r : InTree B
+      r = part-right u A B (treeOf .tree) (subst InTree step part)
+
+      wholeLeft : treeFrom a ≡ A
+      wholeLeft = part-whole less a (two .leftDescends .second) (two .leftDescends .last) l
+
+      wholeRight : treeFrom b ≡ B
+      wholeRight = part-whole less b (two .rightDescends .second) (two .rightDescends .last) r
+
+  -- the tree of every node is a part of the whole
+  part-hangs : (v : ℕ) → 2 ≤ v → v ≤ 2 * n - 2 → Hangs v →
+      (2 ≤ ancestor ancestors v → ancestor ancestors v ≤ 2 * n - 2 → InTree (treeFrom (ancestor ancestors v))) →
+      InTree (treeFrom v)
+  part-hangs v p h (fromRow1 e) f = subst InTree (sym (first-whole v p h e)) whole
+  part-hangs v p h (onLeft sister htu) f =
+      let u = ancestor ancestors v in split u v sister htu (f (htu-second u v sister htu) (htu .last)) .leftPart
+  part-hangs v p h (onRight sister htu) f =
+      let u = ancestor ancestors v in split u sister v htu (f (htu-second u sister v htu) (htu .last)) .rightPart
+
+  -- by the number of steps up to row 1
+  part-climbs : (k v : ℕ) → 2 ≤ v → v ≤ 2 * n - 2 → Climbs ancestors (suc k) v → InTree (treeFrom v)
+  part-climbs zero v p h c = subst InTree (sym (first-whole v p h c)) whole
+  part-climbs (suc k) v p h c = part-hangs v p h (hangs-climbs (suc k) v p h c) (λ q r. part-climbs k (ancestor ancestors v) q r c)
+
+  -- for every node below row 1
+  part-of : (v : ℕ) → 2 ≤ v → v ≤ 2 * n - 2 → InTree (treeFrom v)
+  part-of v p h = let c = branches .climbs v p h in go (c .0) (c .1)
+    where
+      go : (k : ℕ) → Climbs ancestors k v → InTree (treeFrom v)
+      go zero c = absurd (omega arith)
+      go (suc k) c = part-climbs k v p h c
+
+  -- the tree of a taxon is a tip
+  pub treeFrom-taxon : (v : ℕ) → 2 ≤ v → v ≤ n → treeFrom v ≡ tip v
+  treeFrom-taxon v p l = ap (λ d. treeAt ancestors (lowerNodes n) d v) (omega (arith, branches .several))
+      ∙ treeTo-taxon n ancestors branches (2 * n - 1) v p l
+
+  -- the tree of an HTU is the fork of its descendants' trees
+  module _ (u a b : ℕ) (htu : Htu u a b) where
+    -- it is a part of the whole
+    htu-part : InTree (treeFrom u)
+    htu-part = part-of u (htu-second u a b htu) (htu .last)
+
+    -- and the fork of its descendants' trees
+    pub treeFrom-htu : treeFrom u ≡ fork u (treeFrom a) (treeFrom b)
+    treeFrom-htu = split u a b htu htu-part .isFork
+
+    -- its value in a table made from the top down
+    value-part : {X A : Type 0} (own : X → Tree → Tree → A) (toLeft toRight : X → Tree → Tree → X) (x : X) (otherwise : A)
+        (p : InTree (treeFrom u)) →
+        valueAt otherwise (downward own toLeft toRight x (treeOf .tree)) u ≡ own (handed toLeft toRight x p) (treeFrom a) (treeFrom b)
+    value-part own toLeft toRight x otherwise =
+        subst
+        (λ s. (p : InTree s) →
+        valueAt otherwise (downward own toLeft toRight x (treeOf .tree)) u ≡ own (handed toLeft toRight x p) (treeFrom a) (treeFrom b))
+        (sym treeFrom-htu)
+        (λ p. downward-part own toLeft toRight x u (treeFrom a) (treeFrom b) (treeOf .tree) p (treeOf .isDistinct) otherwise)
+
+    -- what it hands to its descendants
+    hands-left : {X : Type 0} (toLeft toRight : X → Tree → Tree → X) (x : X) (p : InTree (treeFrom u)) →
+        (q : InTree (treeFrom a)) × (handed toLeft toRight x q ≡ toLeft (handed toLeft toRight x p) (treeFrom a) (treeFrom b))
+    hands-left toLeft toRight x =
+        subst
+        (λ s. (p : InTree s) →
+        (q : InTree (treeFrom a)) × (handed toLeft toRight x q
+        ≡ toLeft (handed toLeft toRight x p) (treeFrom a) (treeFrom b)))
+        (sym treeFrom-htu)
+        (λ p. (
+          part-left u (treeFrom a) (treeFrom b) (treeOf .tree) p,
+          handed-left toLeft toRight x u (treeFrom a) (treeFrom b) (treeOf .tree) p,
+        ))
+
+    -- and to the right one
+    hands-right : {X : Type 0} (toLeft toRight : X → Tree → Tree → X) (x : X) (p : InTree (treeFrom u)) →
+        (q : InTree (treeFrom b)) × (handed toLeft toRight x q ≡ toRight (handed toLeft toRight x p) (treeFrom a) (treeFrom b))
+    hands-right toLeft toRight x =
+        subst
+        (λ s. (p : InTree s) →
+        (q : InTree (treeFrom b)) × (handed toLeft toRight x q
+        ≡ toRight (handed toLeft toRight x p) (treeFrom a) (treeFrom b)))
+        (sym treeFrom-htu)
+        (λ p. (
+          part-right u (treeFrom a) (treeFrom b) (treeOf .tree) p,
+          handed-right toLeft toRight x u (treeFrom a) (treeFrom b) (treeOf .tree) p,
+        ))
+
+  -- to the node that hangs from row 1 is handed what the table begins with
+  first-handed : {X : Type 0} (toLeft toRight : X → Tree → Tree → X) (x : X) (v : ℕ) → 2 ≤ v → v ≤ 2 * n - 2 → ancestor ancestors v ≡ 1 →
+      (q : InTree (treeFrom v)) × (handed toLeft toRight x q ≡ x)
+  first-handed toLeft toRight x v p h e =
+      subst (λ s. (q : InTree s) × (handed toLeft toRight x q ≡ x)) (sym (first-whole v p h e)) (whole, unfold handed in refl)
+
+  module _ (rows : List (List ℤ)) (j : ℕ) where
+    -- the codes of character j
+    abbrev code : ℕ → ℤ
+    code = character rows j
+
+    -- the set of a node from the tips up
+    unfoldable pub setAt : ℕ → Span
+    setAt v = up code (treeFrom v)
+
+    -- a taxon's set is its code alone
+    pub set-taxon : (v : ℕ) → 2 ≤ v → v ≤ n → setAt v ≡ only (code v)
+    unfolding setAt up
+    set-taxon v p l = ap (up code) (treeFrom-taxon v p l)
+
+    -- an HTU's set joins those of its two descendants
+    pub set-htu : (u a b : ℕ) → Htu u a b → setAt u ≡ join (setAt a) (setAt b)
+    unfolding setAt up
+    set-htu u a b htu = ap (up code) (treeFrom-htu u a b htu)
+
+    -- the chosen state of an HTU is the member of its set nearest to what is handed to it
+    state-from : (u a b : ℕ) → Htu u a b → (y : ℤ) → stateFrom code y (treeFrom a) (treeFrom b) ≡ nearest y (setAt u)
+    unfolding stateFrom setAt up
+    state-from u a b htu y = ap (nearest y) (sym (ap (up code) (treeFrom-htu u a b htu)))
+
+    -- its state, from what is handed to it as a part of the tree
+    state-part : (u a b : ℕ) (htu : Htu u a b) (p : InTree (treeFrom u)) →
+        chosenState ancestors rows n u j ≡ stateFrom code (handed (stateFrom code) (stateFrom code) (code 1) p) (treeFrom a) (treeFrom b)
+    state-part u a b htu p = chosenState-fit n ancestors rows treeOf u j
+        ∙ fit-downward code (code 1) (treeOf .tree) u
+        ∙ value-part u a b htu (stateFrom code) (stateFrom code) (stateFrom code) (code 1) (code u) p
+
+    -- from a part to which the state of its ancestor is handed
+    state-handed : (v c d : ℕ) → Htu v c d → (y : ℤ) (q : InTree (treeFrom v)) →
+        handed (stateFrom code) (stateFrom code) (code 1) q ≡ y →
+        chosenState ancestors rows n v j ≡ nearest y (setAt v)
+    state-handed v c d htu y q e = state-part v c d htu q ∙ state-from v c d htu (handed (stateFrom code) (stateFrom code) (code 1) q)
+        ∙ ap (λ x. nearest x (setAt v)) e
+
+    -- so each HTU takes the member of its set nearest to the state chosen for its ancestor
+    pub state-htu : (v c d : ℕ) → Htu v c d → chosenState ancestors rows n v j
+        ≡ nearest (chosenState ancestors rows n (ancestor ancestors v) j) (setAt v)
+    state-htu v c d htu = go (hangs v (htu-second v c d htu) (htu .last))
+      where
+        u : ℕ
+        u = ancestor ancestors v
+
+        go : Hangs v → chosenState ancestors rows n v j ≡ nearest (chosenState ancestors rows n u j) (setAt v)
+        go (fromRow1 e) =
+            let q = first-handed (stateFrom code) (stateFrom code) (code 1) v (htu-second v c d htu) (htu .last) e in
+            state-handed v c d htu (chosenState ancestors rows n u j) (q .0)
+            (q .1 ∙ sym (ap (λ w. chosenState ancestors rows n w j) e
+            ∙ chosenState-taxon n ancestors rows treeOf 1 j (omega (arith, branches .several))))
+        go (onLeft sister up) =
+            let q = hands-left u v sister up (stateFrom code) (stateFrom code) (code 1) (htu-part u v sister up) in
+            state-handed v c d htu (chosenState ancestors rows n u j) (q .0)
+            (q .1 ∙ sym (state-part u v sister up (htu-part u v sister up)))
+        go (onRight sister up) =
+            let q = hands-right u sister v up (stateFrom code) (stateFrom code) (code 1) (htu-part u sister v up) in
+            state-handed v c d htu (chosenState ancestors rows n u j) (q .0)
+            (q .1 ∙ sym (state-part u sister v up (htu-part u sister v up)))
+
+    -- all that is not below an HTU, as one set seen from it
+    unfoldable pub outsideAt : ℕ → Span
+    outsideAt v = valueAt (only (code 1)) (downward (λ x a b. x) (outsideLeft code) (outsideRight code) (only (code 1))
+        (treeOf .tree)) v
+
+    -- what is handed to a part of the tree as its outside
+    seen : (v : ℕ) → InTree (treeFrom v) → Span
+    seen v p = handed (outsideLeft code) (outsideRight code) (only (code 1)) p
+
+    -- the outside of an HTU is what is handed to it
+    outside-part : (u a b : ℕ) (htu : Htu u a b) (p : InTree (treeFrom u)) → outsideAt u ≡ seen u p
+    unfolding outsideAt seen
+    outside-part u a b htu p =
+        value-part u a b htu (λ x a b. x) (outsideLeft code) (outsideRight code) (only (code 1)) (only (code 1)) p
+
+    -- of the HTU that hangs from row 1 it is row 1's code
+    pub outside-first : (v c d : ℕ) → Htu v c d → ancestor ancestors v ≡ 1 → outsideAt v ≡ only (code 1)
+    outside-first v c d htu e =
+        let q = first-handed (outsideLeft code) (outsideRight code) (only (code 1)) v (htu-second v c d htu) (htu .last) e in
+        outside-part v c d htu (q .0) ∙ unfold seen in q .1
+
+    -- of any other HTU it is the join of its sister's set and what is outside of its ancestor
+    pub outside-left : (u a b c d : ℕ) → Htu u a b → Htu a c d → outsideAt a ≡ join (setAt b) (outsideAt u)
+    outside-left u a b c d htu below =
+        let p = htu-part u a b htu in
+        let q = hands-left u a b htu (outsideLeft code) (outsideRight code) (only (code 1)) p in
+        outside-part a c d below (q .0) ∙ unfold seen outsideLeft setAt in
+        (q .1 ∙ ap (join (up code (treeFrom b))) (sym (outside-part u a b htu p)))
+
+    -- on the right too
+    pub outside-right : (u a b c d : ℕ) → Htu u a b → Htu b c d → outsideAt b ≡ join (setAt a) (outsideAt u)
+    outside-right u a b c d htu below =
+        let p = htu-part u a b htu in
+        let q = hands-right u a b htu (outsideLeft code) (outsideRight code) (only (code 1)) p in
+        outside-part b c d below (q .0) ∙ unfold seen outsideRight setAt in
+        (q .1 ∙ ap (join (up code (treeFrom a))) (sym (outside-part u a b htu p)))
+
+    -- the range of an HTU, from the three sets that it sees
+    pub range-htu : (u a b : ℕ) → Htu u a b → range ancestors rows n u j ≡ middle (setAt a) (setAt b) (outsideAt u)
+    range-htu u a b htu = range-tree n ancestors rows treeOf u j
+        ∙ ap (λ table. valueAt (only (code u)) table u) (ranges-downward code (only (code 1)) (treeOf .tree))
+        ∙ value-part u a b htu (rangeFrom code) (outsideLeft code) (outsideRight code) (only (code 1)) (only (code u))
+        (htu-part u a b htu)
+        ∙ unfold rangeFrom setAt seen in ap (middle (up code (treeFrom a)) (up code (treeFrom b)))
+        (sym (outside-part u a b htu (htu-part u a b htu)))

@@ -1,0 +1,71 @@
+-- The chosen states of a tree whose nodes are distinct are an assignment of least cost.
+use mathlib.Core.Path.{_≡_, refl, sym, _∙_, ap}
+use mathlib.Core.List.{List·Memᴰ}
+use Prim.Native.Nat.{ℕ, _+_}
+use native.Mathlib.Omega.{arith}
+use lib.IntN.{ℤ}
+use Rattle.fitting.specs.Trees.{Tree, tip, fork}
+use Rattle.fitting.specs.Character.{valueAt, up, chosen}
+use Rattle.fitting.proofs.Laws.Sets.{offset, offset-only}
+use Rattle.fitting.proofs.Laws.Basic.{cost, Keeps, leastCost, basic-step}
+use Rattle.fitting.proofs.Laws.Nodes.{Parts, Distinct, htus}
+use Rattle.fitting.proofs.Laws.Agree.{Agree, cost-agree, keeps-agree}
+use Rattle.fitting.proofs.Laws.Downward.{downward, stateFrom, chosen-downward, downward-absent, downward-top, downward-left}
+use Rattle.fitting.proofs.Laws.Downward.{downward-right}
+
+module _ (code : ℕ → ℤ) where
+  -- the assignment of the chosen states
+  unfoldable pub fit : ℤ → Tree → ℕ → ℤ
+  fit y t w = valueAt (code w) (chosen code y t) w
+
+  -- it is a look-up in a table made from the top down
+  pub fit-downward : (y : ℤ) (t : Tree) (w : ℕ) →
+      fit y t w ≡ valueAt (code w) (downward (stateFrom code) (stateFrom code) (stateFrom code) y t) w
+  unfolding fit
+  fit-downward y t w = ap (λ table. valueAt (code w) table w) (chosen-downward code y t)
+
+  -- a node that is no HTU keeps its code
+  pub fit-absent : (y : ℤ) (t : Tree) (w : ℕ) → (List·Memᴰ w (htus t) → ⊥) → fit y t w ≡ code w
+  fit-absent y t w h = fit-downward y t w ∙ downward-absent (stateFrom code) (stateFrom code) (stateFrom code) y t w (code w) h
+
+  module _ (y : ℤ) (v : ℕ) (a b : Tree) where
+    -- the state of a first node
+    abbrev own : ℤ
+    own = stateFrom code y a b
+
+    -- a first node has its own state
+    fit-top : fit y (fork v a b) v ≡ own
+    fit-top = fit-downward y (fork v a b) v ∙ downward-top (stateFrom code) (stateFrom code) (stateFrom code) y v a b (code v)
+
+    -- on the left the states are chosen from that state
+    fit-left : Parts v a b → Agree (fit y (fork v a b)) (fit own a) a
+    fit-left p w h = fit-downward y (fork v a b) w
+        ∙ downward-left (stateFrom code) (stateFrom code) (stateFrom code) y v a b p w (code w) h
+        ∙ sym (fit-downward own a w)
+
+    -- and so on the right
+    fit-right : Parts v a b → Agree (fit y (fork v a b)) (fit own b) b
+    fit-right p w h = fit-downward y (fork v a b) w
+        ∙ downward-right (stateFrom code) (stateFrom code) (stateFrom code) y v a b p w (code w) h
+        ∙ sym (fit-downward own b w)
+
+  -- the chosen states keep the codes of the taxa
+  pub fit-keeps : (y : ℤ) (t : Tree) → Distinct t → Keeps code (fit y t) t
+  unfolding fit chosen valueAt
+  fit-keeps y (tip v) d = refl
+  fit-keeps y (fork v a b) d =
+      let s = own y v a b in (
+        keeps-agree code (fit y (fork v a b)) (fit s a) a (fit-left y v a b (d .0)) (fit-keeps s a (d .1)),
+        keeps-agree code (fit y (fork v a b)) (fit s b) b (fit-right y v a b (d .0)) (fit-keeps s b (d .2)),
+      )
+
+  -- the chosen states cost the least
+  pub fit-cost : (y : ℤ) (t : Tree) → Distinct t → cost (fit y t) y t ≡ leastCost code t + offset y (up code t)
+  unfolding stateFrom
+  fit-cost y (tip v) d = unfold fit chosen valueAt cost leastCost up in rw (offset-only y (code v)) (omega arith)
+  fit-cost y (fork v a b) d =
+      let f = fit y (fork v a b) in
+      let top = fit-top y v a b in
+      basic-step code y v a b f top
+      (cost-agree f (fit (own y v a b) a) (f v) a (fit-left y v a b (d .0)) ∙ rw top (fit-cost (own y v a b) a (d .1)))
+      (cost-agree f (fit (own y v a b) b) (f v) b (fit-right y v a b (d .0)) ∙ rw top (fit-cost (own y v a b) b (d .2)))

@@ -1,0 +1,372 @@
+-- The tree built from a branching: its tips are taxa and its forks HTUs, its links are those of the list of ancestors, its nodes are
+-- distinct, and all nodes below row 1 are in it.
+use mathlib.Core.Path.{_≡_, refl, sym, _∙_, ap, ap₂, subst}
+use mathlib.Core.Logic.{_⊎_, inl, inr, ⊎-elim}
+use mathlib.Core.List.{List, [], _∷_, map, List·Memᴰ, List·Memᴰ·head, List·Memᴰ·tail, List·Memᴰ·not-nil, List·Memᴰ·cases-cons}
+use mathlib.Core.Bool.{Bool, true, false, cond, _||_, true≢false}
+use Prim.Native.Nat.{ℕ, zero, suc, _+_, _*_, _-_, _≤_, _<_}
+use native.Mathlib.Omega.{arith}
+use lib.Dec.{eqb}
+use lib.IntN.{ℤ}
+use lib.ListN.{length}
+use borrow.Author.Tests.{eqb-true, eqb-false, eq-eqb}
+use Rattle.matrix.specs.Choice.{numbers}
+use Rattle.difference.specs.Rows.{apart}
+use Rattle.branching.specs.Ancestors.{ancestor, descendants}
+use Rattle.fitting.specs.Trees.{Tree, tip, fork, above, treeAt, lowerNodes, treesBelow}
+use Rattle.fitting.specs.Assignments.{sum}
+use Rattle.fitting.proofs.Laws.Ends.{either}
+use Rattle.fitting.proofs.Laws.Order.{apart-comm}
+use Rattle.fitting.proofs.Laws.Basic.{cost}
+use Rattle.fitting.proofs.Laws.Nodes.{has, Distinct, top}
+use Rattle.fitting.proofs.Laws.Sums.{pick, sum-none, sum-one, sum-count}
+use Rattle.fitting.proofs.Laws.Walks.{Climbs, Branches, Within, some-depth, sumTree, sumTree-all, climbs-unique}
+
+-- a descendant of v among some nodes is one of them, and v is its ancestor
+descendants-are : (ancestors nodes : List ℕ) (v u : ℕ) → List·Memᴰ u (descendants ancestors nodes v) →
+    (ancestor ancestors u ≡ v) × List·Memᴰ u nodes
+unfolding descendants
+descendants-are ancestors [] v u m = absurd (List·Memᴰ·not-nil m)
+descendants-are ancestors (w ∷ ws) v u m = go (eqb (ancestor ancestors w) v) refl (λ m′. descendants-are ancestors ws v u m′) m
+  where
+    Is : Type 0
+    Is = (ancestor ancestors u ≡ v) × List·Memᴰ u (w ∷ ws)
+
+    later : (ancestor ancestors u ≡ v) × List·Memᴰ u ws → Is
+    later r = (r .0, List·Memᴰ·tail (r .1))
+
+    go : (t : Bool) → eqb (ancestor ancestors w) v ≡ t →
+        (List·Memᴰ u (descendants ancestors ws v) → (ancestor ancestors u ≡ v) × List·Memᴰ u ws) →
+        List·Memᴰ u (cond t (w ∷ descendants ancestors ws v) (descendants ancestors ws v)) → Is
+    go true e rest m′ =
+        ⊎-elim {C = Is} (λ p. (ap (ancestor ancestors) p ∙ eqb-true (ancestor ancestors w) v e, List·Memᴰ·head p)) (λ l. later (rest l))
+        (List·Memᴰ·cases-cons m′)
+    go false e rest m′ = later (rest m′)
+
+-- and one of them is a descendant of its ancestor
+pub descendants-has : (ancestors nodes : List ℕ) (u : ℕ) → List·Memᴰ u nodes →
+    List·Memᴰ u (descendants ancestors nodes (ancestor ancestors u))
+unfolding descendants
+descendants-has ancestors [] u m = absurd (List·Memᴰ·not-nil m)
+descendants-has ancestors (w ∷ ws) u m =
+    go (eqb (ancestor ancestors w) (ancestor ancestors u)) refl (List·Memᴰ·cases-cons m) (descendants-has ancestors ws u)
+  where
+    go : (t : Bool) → eqb (ancestor ancestors w) (ancestor ancestors u) ≡ t → (u ≡ w) ⊎ List·Memᴰ u ws →
+        (List·Memᴰ u ws → List·Memᴰ u (descendants ancestors ws (ancestor ancestors u))) →
+        List·Memᴰ u (cond t (w ∷ descendants ancestors ws (ancestor ancestors u)) (descendants ancestors ws (ancestor ancestors u)))
+    go true e (inl p) later = List·Memᴰ·head p
+    go true e (inr m′) later = List·Memᴰ·tail (later m′)
+    go false e (inl p) later = absurd (eqb-false (ancestor ancestors w) (ancestor ancestors u) e (ap (ancestor ancestors) (sym p)))
+    go false e (inr m′) later = later m′
+
+-- numbers in a row
+pub numbers-has : (first count v : ℕ) → first ≤ v → v < first + count → List·Memᴰ v (numbers first count)
+unfolding numbers
+numbers-has first zero v p q = absurd (omega arith)
+numbers-has first (suc count) v p q = either v first
+    (λ l. List·Memᴰ·head (omega arith))
+    (λ l. List·Memᴰ·tail (numbers-has (suc first) count v (omega arith) (omega arith)))
+
+-- and no others
+numbers-are : (first count v : ℕ) → List·Memᴰ v (numbers first count) → (first ≤ v) × (v < first + count)
+unfolding numbers
+numbers-are first zero v m = absurd (List·Memᴰ·not-nil m)
+numbers-are first (suc count) v m = ⊎-elim
+    (λ p. (omega arith, omega arith))
+    (λ m′. let r = numbers-are (suc first) count v m′ in (omega arith, omega arith))
+    (List·Memᴰ·cases-cons m)
+
+-- how often node w stands in a tree
+unfoldable pub count : ℕ → Tree → ℕ
+count w t = sumTree (λ v. pick (eqb v w) 1) t
+
+-- a node that a tree has is counted, and one that it does not have is not
+has-count : (t : Tree) (w : ℕ) → has t w ≡ true → 1 ≤ count w t
+unfolding has count sumTree
+has-count (tip v) w h = rw h (omega arith)
+has-count (fork v a b) w h = go (eqb v w) (has a w) (has b w) h (has-count a w) (has-count b w)
+  where
+    go : (x y z : Bool) → (x || (y || z)) ≡ true → (y ≡ true → 1 ≤ count w a) → (z ≡ true → 1 ≤ count w b) →
+        1 ≤ pick x 1 + (count w a + count w b)
+    go true y z e f g = omega arith
+    go false true z e f g = omega (arith, f refl)
+    go false false z e f g = omega (arith, g e)
+
+-- a node that is counted is in the tree
+count-has : (t : Tree) (w : ℕ) → 1 ≤ count w t → has t w ≡ true
+unfolding has count sumTree
+count-has (tip v) w h = go (eqb v w) h
+  where
+    go : (x : Bool) → 1 ≤ pick x 1 → x ≡ true
+    go true l = refl
+    go false l = absurd (omega arith)
+count-has (fork v a b) w h = go (eqb v w) (has a w) (has b w) h (count-has a w) (count-has b w)
+  where
+    go : (x y z : Bool) → 1 ≤ pick x 1 + (count w a + count w b) → (1 ≤ count w a → y ≡ true) → (1 ≤ count w b → z ≡ true) →
+        (x || (y || z)) ≡ true
+    go true y z l f g = refl
+    go false true z l f g = refl
+    go false false z l f g = g (either 1 (count w a) (λ p. absurd (true≢false (sym (f p)))) (λ p. omega arith))
+
+-- a node that is counted no more than once, and once elsewhere, is not in a tree
+not-has : (t : Tree) (w : ℕ) → count w t ≡ 0 → has t w ≡ false
+not-has t w e = go (has t w) refl
+  where
+    go : (x : Bool) → has t w ≡ x → x ≡ false
+    go true h = absurd (omega (arith, has-count t w h))
+    go false h = refl
+
+-- a tree in which no node is counted twice has distinct nodes
+pub distinct-of : (t : Tree) → ((w : ℕ) → count w t ≤ 1) → Distinct t
+distinct-of (tip v) h = tt
+distinct-of (fork v a b) h = (
+  record {
+    leftWithout = not-has a v (omega (arith, own v, eq-pick v));
+    rightWithout = not-has b v (omega (arith, own v, eq-pick v));
+    sides = λ w p. not-has b w (omega (arith, own w, has-count a w p));
+  },
+  distinct-of a (λ w. omega (arith, own w)),
+  distinct-of b (λ w. omega (arith, own w)),
+)
+  where
+    own : (w : ℕ) → pick (eqb v w) 1 + (count w a + count w b) ≤ 1
+    own w = unfold count sumTree in h w
+
+    eq-pick : (w : ℕ) → pick (eqb w w) 1 ≡ 1
+    eq-pick w = rw (eq-eqb w w refl)
+
+-- how many nodes a tree has
+unfoldable pub size : Tree → ℕ
+size t = sumTree (λ v. 1) t
+
+-- it has at least one
+size-positive : (t : Tree) → 1 ≤ size t
+unfolding size sumTree
+size-positive (tip v) = omega arith
+size-positive (fork v a b) = omega arith
+
+-- a fork has one more than its descendants' trees together
+pub size-fork : (v : ℕ) (a b : Tree) → size (fork v a b) ≡ 1 + (size a + size b)
+unfolding size sumTree
+size-fork v a b = refl
+
+-- a tree of n taxa: tips are taxa other than row 1, forks are HTUs, and each descendant has the fork's HTU as its ancestor
+abbrev pub Made : ℕ → List ℕ → Tree → Type 0
+Made n ancestors (tip v) = (2 ≤ v) × (v ≤ n)
+Made n ancestors (fork v a b) =
+    (n < v) × (v ≤ 2 * n - 2) × (ancestor ancestors (top a) ≡ v) ×
+    (ancestor ancestors (top b) ≡ v) × Made n ancestors a × Made n ancestors b
+
+-- the cost of such a tree is the sum, over its nodes, of the difference from their ancestors
+pub cost-sumTree : (n : ℕ) (ancestors : List ℕ) (f : ℕ → ℤ) (y : ℤ) (t : Tree) → Made n ancestors t → f (ancestor ancestors (top t)) ≡ y →
+    cost f y t ≡ sumTree (λ v. apart (f v) (f (ancestor ancestors v))) t
+unfolding cost sumTree top
+cost-sumTree n ancestors f y (tip v) m e = rw (e, apart-comm y (f v))
+cost-sumTree n ancestors f y (fork v a b) m e =
+    rw (
+      e,
+      apart-comm y (f v),
+      cost-sumTree n ancestors f (f v) a (m .4) (ap f (m .2)),
+      cost-sumTree n ancestors f (f v) b (m .5) (ap f (m .3)),
+    )
+
+-- the first node of the tree of node v is v
+top-above : (v : ℕ) (ts : List Tree) → top (above v ts) ≡ v
+unfolding top above
+top-above v [] = refl
+top-above v (a ∷ []) = refl
+top-above v (a ∷ b ∷ ts) = refl
+
+-- so is that of the tree to some depth
+top-treeAt : (ancestors nodes : List ℕ) (depth v : ℕ) → top (treeAt ancestors nodes depth v) ≡ v
+unfolding treeAt
+top-treeAt ancestors nodes zero v = unfold top in refl
+top-treeAt ancestors nodes (suc depth) v = top-above v (map (λ u. treeAt ancestors nodes depth u) (descendants ancestors nodes v))
+
+-- a list of no, one or two numbers
+pub none-in : (us : List ℕ) → length us ≡ 0 → us ≡ []
+none-in [] e = refl
+none-in (a ∷ us) e = absurd (omega arith)
+
+-- one number
+one-in : (us : List ℕ) → length us ≡ 1 → (a : ℕ) × (us ≡ a ∷ [])
+one-in [] e = absurd (omega arith)
+one-in (a ∷ []) e = (a, refl)
+one-in (a ∷ b ∷ us) e = absurd (omega arith)
+
+-- two numbers
+two-in : (us : List ℕ) → length us ≡ 2 → (a : ℕ) × (b : ℕ) × (us ≡ a ∷ b ∷ [])
+two-in [] e = absurd (omega arith)
+two-in (a ∷ []) e = absurd (omega arith)
+two-in (a ∷ b ∷ []) e = (a, b, refl)
+two-in (a ∷ b ∷ c ∷ us) e = absurd (omega arith)
+
+module _ (n : ℕ) (ancestors : List ℕ) (branches : Branches n ancestors) where
+  -- a descendant of u is a node below row 1 with ancestor u
+  pub record Descends (u a : ℕ) : Type 0 where
+    pub from : ancestor ancestors a ≡ u
+    pub second : 2 ≤ a
+    pub last : a ≤ 2 * n - 2
+
+  -- a member of its list of descendants is such a node
+  pub descends-of : (u a : ℕ) → List·Memᴰ a (descendants ancestors (lowerNodes n) u) → Descends u a
+  unfolding lowerNodes
+  descends-of u a m =
+      let r = descendants-are ancestors (numbers 2 (2 * n - 3)) u a m in
+      let s = numbers-are 2 (2 * n - 3) a (r .1) in
+      record { from = r .0; second = s .0; last = omega (arith, s .1, branches .several) }
+
+  -- the two descendants of an HTU
+  pub record Two (u : ℕ) : Type 0 where
+    pub left : ℕ
+    pub right : ℕ
+    pub are : descendants ancestors (lowerNodes n) u ≡ left ∷ right ∷ []
+    pub leftDescends : Descends u left
+    pub rightDescends : Descends u right
+
+  -- from the list of descendants
+  unfoldable pub two-given : (u a b : ℕ) → descendants ancestors (lowerNodes n) u ≡ a ∷ b ∷ [] → Two u
+  two-given u a b e = record {
+    left = a;
+    right = b;
+    are = e;
+    leftDescends = descends-of u a (subst (λ us. List·Memᴰ a us) (sym e) (List·Memᴰ·head refl));
+    rightDescends = descends-of u b (subst (λ us. List·Memᴰ b us) (sym e) (List·Memᴰ·tail (List·Memᴰ·head refl)));
+  }
+
+  -- every HTU has two
+  pub two-of : (u : ℕ) → n < u → u ≤ 2 * n - 2 → Two u
+  two-of u l h = let two = two-in (descendants ancestors (lowerNodes n) u) (branches .ofHtu u l h) in two-given u (two .0) (two .1) (two .2)
+
+  -- the tree of a node to some depth
+  abbrev pub treeTo : ℕ → ℕ → Tree
+  treeTo depth u = treeAt ancestors (lowerNodes n) depth u
+
+  -- a taxon's tree is a tip, an HTU's the fork of its descendants' trees
+  pub treeTo-taxon : (depth u : ℕ) → 2 ≤ u → u ≤ n → treeTo (suc depth) u ≡ tip u
+  unfolding treeAt above
+  treeTo-taxon depth u p l = ap (λ us. above u (map (treeTo depth) us))
+      (none-in (descendants ancestors (lowerNodes n) u) (branches .ofTaxon u p l))
+
+  -- an HTU's
+  pub treeTo-htu : (depth u : ℕ) (two : Two u) → treeTo (suc depth) u ≡ fork u (treeTo depth (two .left)) (treeTo depth (two .right))
+  unfolding treeAt above
+  treeTo-htu depth u two = ap (λ us. above u (map (treeTo depth) us)) (two .are)
+
+  -- the first node of a descendant's tree has the HTU as its ancestor
+  top-descends : (depth u a : ℕ) → Descends u a → ancestor ancestors (top (treeTo depth a)) ≡ u
+  top-descends depth u a d = ap (ancestor ancestors) (top-treeAt ancestors (lowerNodes n) depth a) ∙ d .from
+
+  -- the tree of a node, if it goes as far down as there are nodes
+  made : (all : ℕ) → Within n ancestors branches all → (depth u steps : ℕ) → 2 ≤ u → u ≤ 2 * n - 2 → Climbs ancestors steps u →
+      all < steps + depth →
+      Made n ancestors (treeTo depth u)
+  made all within zero u steps p h c e =
+      let k = within u p h in
+      absurd (omega (arith, climbs-unique n ancestors branches steps (k .0) u c (k .2), k .1))
+  made all within (suc depth) u steps p h c e = either u n
+      (λ l. rw (treeTo-taxon depth u p l) (p, l))
+      (λ l.
+      let two = two-of u l h in
+      let da = two .leftDescends in
+      let db = two .rightDescends in
+      rw (treeTo-htu depth u two) (
+        l,
+        h,
+        top-descends depth u (two .left) da,
+        top-descends depth u (two .right) db,
+        made all within depth (two .left) (suc steps) (da .second) (da .last) (rw (da .from) c) (omega arith),
+        made all within depth (two .right) (suc steps) (db .second) (db .last) (rw (db .from) c) (omega arith),
+      ))
+
+  -- it is the whole tree of the node already if it goes down as many steps as the tree has nodes
+  pub treeTo-whole : (deep depth u : ℕ) → 2 ≤ u → u ≤ 2 * n - 2 → Made n ancestors (treeTo deep u) → size (treeTo deep u) ≤ depth →
+      treeTo depth u ≡ treeTo deep u
+  unfolding treeAt
+  treeTo-whole deep zero u p h made e = absurd (omega (arith, size-positive (treeTo deep u)))
+  treeTo-whole zero (suc depth) u p h made e = treeTo-taxon depth u p (made .1)
+  treeTo-whole (suc deep) (suc depth) u p h made e = either u n
+      (λ l. treeTo-taxon depth u p l ∙ sym (treeTo-taxon deep u p l))
+      (λ l.
+      let two = two-of u l h in
+      let da = two .leftDescends in
+      let db = two .rightDescends in
+      let split = treeTo-htu deep u two in
+      let parts = subst (Made n ancestors) split made in
+      let room = size-fork u (treeTo deep (two .left)) (treeTo deep (two .right)) in
+      treeTo-htu depth u two
+      ∙ ap₂ (fork u)
+      (treeTo-whole deep depth (two .left) (da .second) (da .last) (parts .4) (omega (arith, ap size split, room, e)))
+      (treeTo-whole deep depth (two .right) (db .second) (db .last) (parts .5) (omega (arith, ap size split, room, e)))
+      ∙ sym split)
+
+-- the tree that a branching of two taxa or more is
+pub record TreeOf (n : ℕ) (ancestors : List ℕ) : Type 0 where
+  pub tree : Tree
+  pub root : ℕ
+  -- it is the tree of the one descendant of row 1, and alone hangs from row 1
+  pub ofRow1 : descendants ancestors (lowerNodes n) 1 ≡ root ∷ []
+  pub fromRoot : treeAt ancestors (lowerNodes n) (2 * n) root ≡ tree
+  pub below : treesBelow ancestors n ≡ tree ∷ []
+  pub fromRow1 : ancestor ancestors (top tree) ≡ 1
+  pub isMade : Made n ancestors tree
+  pub isDistinct : Distinct tree
+  -- all nodes below row 1 are in it
+  pub hasAll : (v : ℕ) → 2 ≤ v → v ≤ 2 * n - 2 → has tree v ≡ true
+  -- a sum over its nodes is the sum over the nodes below row 1
+  pub sums : (q : ℕ → ℕ) → sumTree q tree ≡ sum q (lowerNodes n)
+
+-- over the nodes below row 1, no node is counted twice
+count-numbers : (first number w : ℕ) → sum (λ v. pick (eqb v w) 1) (numbers first number) ≤ 1
+count-numbers first number w = either first w
+    (λ p. either (first + number) w
+    (λ q. omega (arith, sum-none first number w (λ v. 1) (λ r s. omega arith)))
+    (λ q. omega (arith, sum-one first number w (λ v. 1) p q)))
+    (λ p. omega (arith, sum-none first number w (λ v. 1) (λ r s. omega arith)))
+
+-- every branching of two taxa or more has such a tree
+pub tree-of : (n : ℕ) (ancestors : List ℕ) → Branches n ancestors → TreeOf n ancestors
+tree-of n ancestors branches = record {
+  tree = t;
+  root = one .0;
+  ofRow1 = one .1;
+  fromRoot = whole;
+  below = unfold treesBelow in ap (map (treeTo n ancestors branches (2 * n))) (one .1) ∙ ap (λ x. x ∷ []) whole;
+  fromRow1 = top-descends n ancestors branches deep 1 (one .0) first;
+  isMade = isMade′;
+  isDistinct = distinct-of t (λ w. unfold count lowerNodes in omega
+      (arith, sums′ (λ v. pick (eqb v w) 1), count-numbers 2 (2 * n - 3) w));
+  hasAll = λ v p h. count-has t v
+      (unfold count lowerNodes in
+      omega (arith, sums′ (λ u. pick (eqb u v) 1), sum-one 2 (2 * n - 3) v (λ u. 1) p (omega (arith, branches .several))));
+  sums = sums′;
+}
+  where
+    one : (a : ℕ) × (descendants ancestors (lowerNodes n) 1 ≡ a ∷ [])
+    one = one-in (descendants ancestors (lowerNodes n) 1) (branches .ofRow1)
+
+    deep : ℕ
+    deep = some-depth n ancestors branches .0
+
+    t : Tree
+    t = treeTo n ancestors branches deep (one .0)
+
+    first : Descends n ancestors branches 1 (one .0)
+    first = descends-of n ancestors branches 1 (one .0) (subst (λ us. List·Memᴰ (one .0) us) (sym (one .1)) (List·Memᴰ·head refl))
+
+    isMade′ : Made n ancestors t
+    isMade′ = made n ancestors branches deep (some-depth n ancestors branches .1) deep (one .0) 1 (first .second) (first .last)
+        (first .from) (omega arith)
+
+    sums′ : (q : ℕ → ℕ) → sumTree q t ≡ sum q (lowerNodes n)
+    sums′ q = alone
+        ∙ ap (λ us. sum (λ a. sumTree q (treeTo n ancestors branches deep a)) us) (sym (one .1))
+        ∙ sumTree-all n ancestors branches deep (some-depth n ancestors branches .1) q
+      where
+        alone : sumTree q t ≡ sum (λ a. sumTree q (treeTo n ancestors branches deep a)) (one .0 ∷ [])
+        alone = unfold sum in omega arith
+
+    -- 2n steps down are enough, because the tree has 2n-3 nodes
+    whole : treeTo n ancestors branches (2 * n) (one .0) ≡ t
+    whole = treeTo-whole n ancestors branches deep (2 * n) (one .0) (first .second) (first .last) isMade′
+        (unfold size lowerNodes in omega (arith, sums′ (λ v. 1), sum-count 2 (2 * n - 3)))

@@ -1,0 +1,4 @@
+-- Worked examples and laws of fitting.
+pub mod Examples
+pub mod Sample
+pub mod Laws

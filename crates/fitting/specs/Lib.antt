@@ -1,0 +1,7 @@
+-- Fitting the inner states of a fixed branching, and the assignments that it is measured against (document 01).
+pub mod Sets
+pub mod Trees
+pub mod Character
+pub mod Assignments
+pub mod Fit
+pub mod Rival

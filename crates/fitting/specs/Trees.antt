@@ -1,0 +1,30 @@
+-- A branching seen from row 1 down, as trees: a tip is a taxon, a fork is an HTU with its two descendants by rising node number.
+use mathlib.Core.List.{List, [], _∷_, map}
+use Prim.Native.Nat.{ℕ, zero, suc, _*_, _-_}
+use Rattle.matrix.specs.Choice.{numbers}
+use Rattle.branching.specs.Ancestors.{descendants}
+
+-- a tip is a taxon; a fork is an HTU with its two descendants' trees
+pub data Tree : Type 0 where
+  tip : ℕ → Tree
+  fork : ℕ → Tree → Tree → Tree
+
+-- node v above its descendants' trees
+unfoldable pub above : ℕ → List Tree → Tree
+above v [] = tip v
+above v (a ∷ []) = tip v
+above v (a ∷ b ∷ rest) = fork v a b
+
+-- the tree of node v and all nodes below it, `depth` steps down
+unfoldable pub treeAt : List ℕ → List ℕ → ℕ → ℕ → Tree
+treeAt ancestors nodes zero v = tip v
+treeAt ancestors nodes (suc depth) v = above v (map (λ u. treeAt ancestors nodes depth u) (descendants ancestors nodes v))
+
+-- the nodes of a branching of n taxa other than node 1: 2 to 2n-2
+unfoldable pub lowerNodes : ℕ → List ℕ
+lowerNodes n = numbers 2 (2 * n - 3)
+
+-- the trees that hang from row 1: one, and none for n = 1
+unfoldable pub treesBelow : List ℕ → ℕ → List Tree
+treesBelow ancestors n =
+    map (λ v. treeAt ancestors (lowerNodes n) (2 * n) v) (descendants ancestors (lowerNodes n) 1)

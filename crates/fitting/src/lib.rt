@@ -1,0 +1,1 @@
+// Fitting the inner states of a branching.

@@ -1,0 +1,73 @@
+-- The blocks of the listing, each with the line of its total.
+use mathlib.Core.List.{List, [], _∷_, _++_, map, flatMap}
+use mathlib.Core.Bool.{Bool, true, false}
+use Prim.Native.Nat.{ℕ, _+_, _-_}
+use lib.IntN.{ℤ}
+use Rattle.matrix.specs.Choice.{numbers}
+use Rattle.matrix_file.specs.Decimal.{digitsOf, decimal}
+use Rattle.prim.specs.Network.{Link}
+use Rattle.branching.specs.Ancestors.{ancestor}
+use Rattle.branching.specs.Nodes.{otherNodes}
+use Rattle.wagner.specs.Placing.{Placement}
+use Rattle.fitting.specs.Fit.{chosenState, range, fittedLength, markedPlus}
+use Rattle.listing.specs.Lines.{line, letter, nodeName}
+
+-- a line that gives a block's total
+unfoldable pub totalLine : ℕ → ℕ → List ℕ
+totalLine byte total = line (letter byte ∷ digitsOf total ∷ [])
+
+-- `+` if a branch is supported, else `-`
+unfoldable pub mark : Bool → List ℕ
+mark true = 43 ∷ []
+mark false = 45 ∷ []
+
+module _ (n : ℕ) (names : List (List ℕ)) where
+  -- `P`: taxon, taxon it joins, difference
+  unfoldable pub primLine : Link → List ℕ
+  primLine link = line (letter 80 ∷ nodeName n names (link .taxon) ∷ nodeName n names (link .joined) ∷ digitsOf (link .length) ∷ [])
+
+  -- `W`: taxon, lower end, upper end, HTU, length added
+  unfoldable pub wagnerLine : Placement → List ℕ
+  wagnerLine p =
+      line
+      (letter 87
+      ∷ nodeName n names (p .taxon)
+      ∷ nodeName n names (p .lower)
+      ∷ nodeName n names (p .upper)
+      ∷ nodeName n names (p .htu)
+      ∷ digitsOf (p .added)
+      ∷ [])
+
+  module _ (tree : List ℕ) (rows : List (List ℤ)) (m : ℕ) where
+    -- `T`: node, immediate ancestor, fitted length, mark
+    unfoldable pub fittedLine : ℕ → List ℕ
+    fittedLine v =
+        let length = fittedLength tree rows n m v in
+        line
+        (letter 84
+        ∷ nodeName n names v
+        ∷ nodeName n names (ancestor tree v)
+        ∷ digitsOf length
+        ∷ mark (markedPlus length)
+        ∷ [])
+
+    -- `H`: HTU, character, lowest and highest state, chosen state
+    unfoldable pub rangeLine : ℕ → ℕ → List ℕ
+    rangeLine v j =
+        let span = range tree rows n v j in
+        line
+        (letter 72
+        ∷ nodeName n names v
+        ∷ digitsOf j
+        ∷ decimal (span .low)
+        ∷ decimal (span .high)
+        ∷ decimal (chosenState tree rows n v j)
+        ∷ [])
+
+    -- the `T` lines, by node number from 2
+    unfoldable pub fittedLines : List (List ℕ)
+    fittedLines = map fittedLine (otherNodes n)
+
+    -- the `H` lines, by node number and character
+    unfoldable pub rangeLines : List (List ℕ)
+    rangeLines = flatMap (λ v. map (rangeLine v) (numbers 1 m)) (numbers (n + 1) (n - 2))

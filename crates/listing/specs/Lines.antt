@@ -1,0 +1,29 @@
+-- A line of the listing, and what its fields say: a letter, a number, a node.
+use mathlib.Core.List.{List, [], _∷_, _++_}
+use mathlib.Core.Bool.{Bool, true, false}
+use Prim.Native.Nat.{ℕ, zero, suc, _-_}
+use lib.Dec.{leb}
+use lib.ListN.{getD}
+use Rattle.matrix_file.specs.Bytes.{tab, lineFeed, joinedBy}
+use Rattle.matrix_file.specs.Decimal.{digitsOf}
+
+-- a line: its fields parted by tabs, ended by a line feed
+unfoldable pub line : List (List ℕ) → List ℕ
+line fields = joinedBy tab fields ++ (lineFeed ∷ [])
+
+-- the letter that begins a line, by its byte
+abbrev pub letter : ℕ → List ℕ
+letter byte = byte ∷ []
+
+-- what stands where there is no node
+abbrev pub hyphen : List ℕ
+hyphen = 45 ∷ []
+
+-- an HTU: `#` and its number among the HTUs
+unfoldable pub htuName : ℕ → List ℕ
+htuName number = 35 ∷ digitsOf number
+
+-- a node as it is printed: a taxon by name, an HTU by its number, and a hyphen for no node
+unfoldable pub nodeName : ℕ → List (List ℕ) → ℕ → List ℕ
+nodeName n names zero = hyphen
+nodeName n names (suc v) = elim (leb (suc v) n) [ true ↦ getD names v [] | false ↦ htuName (suc v - n) ]

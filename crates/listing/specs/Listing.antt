@@ -1,0 +1,56 @@
+-- The listing of a job, and of a file's bytes.
+use mathlib.Core.List.{List, [], _∷_, _++_, map}
+use Prim.Native.Nat.{ℕ}
+use lib.IntN.{ℤ}
+use Rattle.matrix.specs.Refusals.{refusalNumber}
+use Rattle.matrix.specs.declared.refusal.Refusal.{Refusal}
+use Rattle.matrix_file.specs.Decimal.{digitsOf}
+use Rattle.matrix_file.specs.Job.{Job}
+use Rattle.matrix_file.specs.Reading.{ReadAnswer, accepted, refused, readAnswer}
+use Rattle.difference.specs.Rows.{difference}
+use Rattle.prim.specs.Network.{Link, network, total}
+use Rattle.wagner.specs.Nodes.{nodeDifference}
+use Rattle.wagner.specs.Build.{Built, wagner, wagnerLength}
+use Rattle.fitting.specs.Fit.{fittedTotal}
+use Rattle.listing.specs.Lines.{line, letter}
+use Rattle.listing.specs.Blocks.{totalLine, primLine, wagnerLine, fittedLines, rangeLines}
+
+-- the Prim Network: its `P` lines, and `p`
+unfoldable pub primBlock : Job → List (List ℕ)
+primBlock job =
+    let links = network (nodeDifference difference (job .rows)) (job .n) in
+    map (primLine (job .n) (job .names)) links ++ (totalLine 112 (total links) ∷ [])
+
+-- the Wagner tree: its `W` lines, and `w`
+unfoldable pub wagnerBlock : Job → Built → List (List ℕ)
+wagnerBlock job built =
+    map (wagnerLine (job .n) (job .names)) (built .placements) ++ (totalLine 119 (wagnerLength (job .n) built) ∷ [])
+
+-- the fitted tree: its `T` lines, and `t`
+unfoldable pub fittedBlock : Job → List ℕ → List (List ℕ)
+fittedBlock job tree =
+    fittedLines (job .n) (job .names) tree (job .rows) (job .m)
+    ++ (totalLine 116 (fittedTotal tree (job .rows) (job .n) (job .m)) ∷ [])
+
+-- the ranges: the `H` lines
+unfoldable pub rangeBlock : Job → List ℕ → List (List ℕ)
+rangeBlock job tree = rangeLines (job .n) (job .names) tree (job .rows) (job .m)
+
+-- the listing of a job, line by line
+unfoldable pub listing : Job → List (List ℕ)
+listing job =
+    let built = wagner (job .n) (job .rows) in
+    primBlock job ++ (wagnerBlock job built ++ (fittedBlock job (built .tree) ++ rangeBlock job (built .tree)))
+
+-- the one line of a refusal: `R`, its number, the line of the file
+unfoldable pub refusalLine : Refusal → ℕ → List ℕ
+refusalLine refusal at = line (letter 82 ∷ digitsOf (refusalNumber refusal) ∷ digitsOf at ∷ [])
+
+-- the lines printed for an answer
+unfoldable pub printed : ReadAnswer → List (List ℕ)
+printed (accepted job) = listing job
+printed (refused refusal at) = refusalLine refusal at ∷ []
+
+-- the lines printed for a file's bytes
+unfoldable pub listingOf : List ℕ → List (List ℕ)
+listingOf file = printed (readAnswer file)

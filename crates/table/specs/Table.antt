@@ -1,0 +1,60 @@
+-- The table of document 01, "Conditions of acceptance": the median of -1, 2 and 0; the three joins; the three sums of document 003; and
+-- the listing of the example, from the bytes of its file.
+use mathlib.Core.Path.{_≡_}
+use mathlib.Core.List.{List, [], _∷_, flatMap}
+use Prim.Native.Nat.{ℕ}
+use Prim.Native.String.{String}
+use lib.IntN.{ℤ, pos, negsuc}
+use Rattle.matrix_file.specs.Text.{bytes}
+use Rattle.difference.specs.Rows.{difference, median, intervalDifference}
+use Rattle.fitting.specs.Sets.{Span, join}
+use Rattle.listing.specs.Listing.{listingOf}
+
+-- the set of the states from a to b
+abbrev pub span : ℕ → ℕ → Span
+span a b = record { low = pos a; high = pos b }
+
+-- rows with the differences of document 003's handout, whose own data sheet is not in the paper: 12 characters of code 0 or 1
+abbrev pub anc : List ℤ
+anc = pos 0 ∷ pos 0 ∷ pos 0 ∷ pos 0 ∷ pos 0 ∷ pos 0 ∷ pos 0 ∷ pos 0 ∷ pos 0 ∷ pos 0 ∷ pos 0 ∷ pos 0 ∷ []
+
+abbrev pub taxonC : List ℤ
+taxonC = pos 1 ∷ pos 1 ∷ pos 1 ∷ pos 1 ∷ pos 0 ∷ pos 0 ∷ pos 0 ∷ pos 0 ∷ pos 0 ∷ pos 0 ∷ pos 0 ∷ pos 0 ∷ []
+
+abbrev pub taxonA : List ℤ
+taxonA = pos 0 ∷ pos 0 ∷ pos 0 ∷ pos 0 ∷ pos 1 ∷ pos 1 ∷ pos 1 ∷ pos 1 ∷ pos 1 ∷ pos 1 ∷ pos 1 ∷ pos 0 ∷ []
+
+abbrev pub taxonB : List ℤ
+taxonB = pos 1 ∷ pos 0 ∷ pos 0 ∷ pos 0 ∷ pos 1 ∷ pos 1 ∷ pos 1 ∷ pos 1 ∷ pos 1 ∷ pos 1 ∷ pos 1 ∷ pos 1 ∷ []
+
+abbrev pub taxonD : List ℤ
+taxonD = pos 1 ∷ pos 0 ∷ pos 0 ∷ pos 0 ∷ pos 1 ∷ pos 1 ∷ pos 1 ∷ pos 1 ∷ pos 1 ∷ pos 0 ∷ pos 0 ∷ pos 0 ∷ []
+
+-- one sum of the handout: a taxon's differences from the ancestor and from C, and its interval difference
+pub record Sum (taxon : List ℤ) (fromAncestor fromC interval : ℕ) : Type 0 where
+  pub ancestor : difference taxon anc ≡ fromAncestor
+  pub other : difference taxon taxonC ≡ fromC
+  pub across : difference anc taxonC ≡ 4
+  pub half : intervalDifference taxon taxonC anc ≡ interval
+
+-- what is printed for a file of this text, its lines joined
+unfoldable pub printed : String → List ℕ
+printed text = flatMap (λ line. line) (listingOf (bytes text))
+
+-- the example's file
+abbrev pub file : String
+file = "W\t4\t3\nA\t0\t0\t0\nB\t2\t1\t0\nC\t2\t3\t1\nD\t-1\t1\t2\n"
+
+-- its listing
+abbrev pub listed : String
+listed = "P\tB\tA\t3\nP\tC\tB\t3\nP\tD\tA\t4\np\t10\nW\tB\t-\tA\t-\t3\nW\tD\tB\tA\t#1\t3\nW\tC\tB\t#1\t#2\t3\nw\t9\nT\tB\t#2\t1\t+\nT\tC\t#2\t2\t+\nT\tD\t#1\t2\t+\nT\t#1\tA\t2\t+\nT\t#2\t#1\t2\t+\nt\t9\nH\t#1\t1\t0\t0\t0\nH\t#1\t2\t1\t1\t1\nH\t#1\t3\t0\t1\t1\nH\t#2\t1\t2\t2\t2\nH\t#2\t2\t1\t1\t1\nH\t#2\t3\t0\t1\t1\n"
+
+pub record Table : Type 0 where
+  pub median : median (negsuc 0) (pos 2) (pos 0) ≡ pos 0
+  pub apart-sets : join (span 0 1) (span 2 2) ≡ span 1 2
+  pub common : join (span 0 3) (span 1 5) ≡ span 1 3
+  pub touching : join (span 0 1) (span 1 2) ≡ span 1 1
+  pub first-sum : Sum taxonA 7 11 7
+  pub second-sum : Sum taxonB 9 11 8
+  pub third-sum : Sum taxonD 6 8 5
+  pub listing : printed file ≡ bytes listed

@@ -1,0 +1,1 @@
+// The small table of document 01: examples that the checker computes.

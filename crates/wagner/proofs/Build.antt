@@ -1,0 +1,79 @@
+-- The tree of a build is a branching of all n taxa.
+use mathlib.Core.Path.{_≡_}
+use mathlib.Core.Bool.{true}
+use mathlib.Core.List.{List}
+use Prim.Native.Nat.{ℕ, zero, suc, _+_, _*_, _-_, _≤_, _<_}
+use native.Mathlib.Omega.{arith}
+use native.Mathlib.Nat.{zero-add}
+use lib.IntN.{ℤ}
+use lib.ListN.{length, length-set}
+use Rattle.matrix.specs.Choice.{numbers}
+use Rattle.difference.specs.Rows.{difference}
+use Rattle.branching.specs.Nodes.{taxaPlaced, nodesOut}
+use Rattle.branching.specs.Growing.{GrowingTree, alone, Branching, Unplaced}
+use Rattle.branching.specs.Hanging.{noBranches, linked, hung}
+use Rattle.branching.specs.Branches.{lentBranching}
+use Rattle.branching.proofs.Nodes.{noBranches-none, noBranches-places}
+use Rattle.branching.proofs.Counts.{some-unplaced, unplaced-taxon}
+use Rattle.branching.proofs.Test.{growing-placed}
+use Rattle.branching.proofs.Records.{records-lent}
+use Rattle.wagner.specs.Nodes.{nodeDifference, advancement}
+use Rattle.wagner.specs.Placing.{Placed, nearestInterval, link, hang, placeOn, place}
+use Rattle.wagner.specs.Build.{byAdvancement, buildOn, build, wagner, wagnerBranches}
+use Rattle.wagner.proofs.Choice.{leastOf-mem}
+use Rattle.wagner.proofs.Placing.{place-grows}
+
+-- a rule for the next taxon chooses one that is not placed, as long as there is one
+abbrev pub Chooses : (ℕ → List ℕ → List (List ℤ) → ℕ) → ℕ → Type 0
+Chooses next n =
+    (tree : List ℕ) (rows : List (List ℤ)) → taxaPlaced n tree < n → Unplaced n tree (next n tree rows)
+
+-- so does the rule of least advancement
+pub advancement-chooses : (d : List ℤ → List ℤ → ℕ) (n : ℕ) → Chooses (byAdvancement d) n
+unfolding byAdvancement
+advancement-chooses d n tree rows h =
+    let some = some-unplaced n tree h in
+    unplaced-taxon n tree (byAdvancement d n tree rows) (leastOf-mem (advancement d rows) (nodesOut tree (numbers 1 n)) (some .0) (some .1))
+
+-- a placement keeps the number of places of the tree
+pub place-places : (d : List ℤ → List ℤ → ℕ) (n : ℕ) (tree : List ℕ) (rows : List (List ℤ)) (b : ℕ)
+    → length (place d n tree rows b .tree) ≡ length tree
+unfolding place placeOn link hang linked hung
+place-places d n tree rows b = on (nearestInterval d n tree rows b)
+  where
+    on : (c : ℕ) → length (placeOn d n tree rows b c .tree) ≡ length tree
+    on zero = simp length-set
+    on (suc c) = simp length-set
+
+module _ (d : List ℤ → List ℤ → ℕ) (next : ℕ → List ℕ → List (List ℤ) → ℕ) (n : ℕ) (taxa : 1 ≤ n) (chooses : Chooses next n) where
+  -- each placement of a build makes the growing tree one taxon larger
+  pub buildOn-grows : (count k : ℕ) (tree : List ℕ) (rows : List (List ℤ)) → GrowingTree n tree k → count + k ≤ n → 2 * n - 2 < length tree
+      → GrowingTree n (buildOn d next n count tree rows .tree) (count + k)
+  unfolding buildOn
+  buildOn-grows zero k tree rows g h room = rw zero-add g
+  buildOn-grows (suc count) k tree rows g h room =
+      let b : ℕ = next n tree rows in
+      let placed : Placed = place d n tree rows b in
+      let chosen = chooses tree rows (omega (arith, growing-placed tree n taxa g)) in
+      let grows = place-grows d n tree rows b g room chosen in
+      let larger = buildOn-grows count (suc k) (placed .tree) (placed .rows) grows (omega arith) (rw (place-places d n tree rows b) room) in
+      let same : suc count + k ≡ count + suc k = omega arith in
+      rw same larger
+
+  -- the tree of a build is a branching
+  pub build-branching : n ≤ 64 → (rows : List (List ℤ)) → Branching n (build d next n rows .tree)
+  unfolding build
+  build-branching h rows =
+      let all : n - 1 + 1 ≡ n = omega arith in
+      rw all at (buildOn-grows (n - 1) 1 noBranches rows (alone noBranches-none) (omega arith) (rw noBranches-places (omega arith)))
+
+-- the Wagner tree of 1 to 64 rows is a branching
+pub wagner-branching : (n : ℕ) → 1 ≤ n → n ≤ 64 → (rows : List (List ℤ)) → Branching n (wagner n rows .tree)
+unfolding wagner
+wagner-branching n taxa h rows = build-branching difference (byAdvancement difference) n taxa (advancement-chooses difference n) h rows
+
+-- its branch records, lent again, are a branching
+pub wagner-lent : (n : ℕ) → 1 ≤ n → n ≤ 64 → (rows : List (List ℤ)) → lentBranching n (wagnerBranches n (wagner n rows)) ≡ true
+unfolding wagnerBranches
+wagner-lent n taxa h rows =
+    records-lent (nodeDifference difference (wagner n rows .rows)) n (wagner n rows .tree) (wagner-branching n taxa h rows) taxa

@@ -1,0 +1,136 @@
+-- The build computed on examples: document 01's listing, one and two taxa, a tie for each rule, and a tree handed in.
+use mathlib.Core.Path.{_≡_, refl}
+use mathlib.Core.List.{List, [], _∷_, _++_}
+use mathlib.Core.Bool.{Bool, true}
+use Prim.Native.Nat.{ℕ, _*_, _-_}
+use lib.IntN.{ℤ, pos, negsuc}
+use lib.ListN.{take}
+use Rattle.matrix.specs.Choice.{numbers, firstLeast}
+use Rattle.matrix.specs.Shape.{lastNode}
+use Rattle.difference.specs.Rows.{apart, lower, higher, median, medians, difference}
+use Rattle.branching.specs.Ancestors.{ancestor, descendants}
+use Rattle.branching.specs.Nodes.{hasAncestor, inTree, keep, nodesIn, nodesOut, otherNodes, taxaPlaced}
+use Rattle.branching.specs.Growing.{every, descendantCount, descendantsWanted, climbs, rowOneAlone, nodesOnly, htusIn, ancestorsIn}
+use Rattle.branching.specs.Growing.{descendantsRight, allClimb, grown, growingTree, branching}
+use Rattle.branching.specs.Hanging.{noBranches, linked, hung, nextHtu}
+use Rattle.branching.specs.Branches.{BranchRecord, sumOver, treeLength, branchOf, branchRecords, branchesRead, ancestorsOf, sameNumbers}
+use Rattle.branching.specs.Branches.{namedInOrder, lentBranching}
+use Rattle.wagner.specs.Nodes.{rowOf, leastOf, nodeDifference, intervalBy, nodeInterval, advancement, lengthUnder}
+use Rattle.wagner.specs.Placing.{Placement, Placed, medianRow, fromInterval, nearestInterval, link, hang, placeOn, place}
+use Rattle.wagner.specs.Build.{Built, byAdvancement, buildOn, build, wagner, wagnerLength, wagnerBranches}
+
+-- taxon, lower end, upper end, HTU, length added
+abbrev line : ℕ → ℕ → ℕ → ℕ → ℕ → Placement
+line b c e y a = record { taxon = b; lower = c; upper = e; htu = y; added = a }
+
+-- what a `W` listing shows of a tree: the placements, the ancestors of nodes 0 to 2n-2, the length, and whether it is a branching
+record Shown : Type 0 where
+  placements : List Placement
+  ancestors : List ℕ
+  total : ℕ
+  isBranching : Bool
+
+shown : ℕ → List (List ℤ) → Shown
+unfolding apart lower higher median medians difference numbers firstLeast lastNode ancestor descendants hasAncestor inTree keep
+    nodesIn nodesOut otherNodes taxaPlaced every descendantCount descendantsWanted climbs rowOneAlone nodesOnly htusIn ancestorsIn
+    descendantsRight allClimb grown growingTree branching noBranches linked hung nextHtu sumOver treeLength branchOf branchRecords
+    branchesRead ancestorsOf sameNumbers namedInOrder lentBranching rowOf leastOf nodeDifference intervalBy nodeInterval advancement
+    lengthUnder medianRow fromInterval nearestInterval link hang placeOn place byAdvancement buildOn build wagner wagnerLength
+    wagnerBranches
+shown n rows =
+    let built : Built = wagner n rows in
+    record {
+      placements = built .placements;
+      ancestors = take (2 * n - 1) (built .tree);
+      total = wagnerLength n built;
+      isBranching = branching n (built .tree);
+    }
+
+-- the matrix of document 01: A, B, C, D
+abbrev fourTaxa : List (List ℤ)
+fourTaxa =
+    (pos 0 ∷ pos 0 ∷ pos 0 ∷ []) ∷ (pos 2 ∷ pos 1 ∷ pos 0 ∷ []) ∷ (pos 2 ∷ pos 3 ∷ pos 1 ∷ []) ∷ (negsuc 0 ∷ pos 1 ∷ pos 2 ∷ []) ∷ []
+
+-- W B - A - 3; W D B A #1 3; W C B #1 #2 3; w 9
+fourTaxa-built : shown 4 fourTaxa
+    ≡ record {
+      placements = line 2 0 1 0 3 ∷ line 4 2 1 5 3 ∷ line 3 2 5 6 3 ∷ [];
+      ancestors = 0 ∷ 0 ∷ 6 ∷ 6 ∷ 5 ∷ 1 ∷ 5 ∷ [];
+      total = 9;
+      isBranching = true;
+    }
+unfolding shown
+fourTaxa-built = refl
+
+-- one taxon: no placement, no branch
+one-built : shown 1 ((pos 7 ∷ []) ∷ []) ≡ record { placements = []; ancestors = 0 ∷ []; total = 0; isBranching = true }
+unfolding shown
+one-built = refl
+
+-- two taxa: one link to row 1
+two-built : shown 2 ((pos 7 ∷ []) ∷ (negsuc 1 ∷ []) ∷ [])
+    ≡ record { placements = line 2 0 1 0 9 ∷ []; ancestors = 0 ∷ 0 ∷ 1 ∷ []; total = 9; isBranching = true }
+unfolding shown
+two-built = refl
+
+-- taxa 2 and 3 are equally advanced: the lower row comes first
+equally-advanced : shown 3 ((pos 0 ∷ []) ∷ (negsuc 0 ∷ []) ∷ (pos 1 ∷ []) ∷ [])
+    ≡ record {
+      placements = line 2 0 1 0 1 ∷ line 3 2 1 4 1 ∷ [];
+      ancestors = 0 ∷ 0 ∷ 4 ∷ 4 ∷ 1 ∷ [];
+      total = 2;
+      isBranching = true;
+    }
+unfolding shown
+equally-advanced = refl
+
+-- taxon 4 is equally far from all three intervals: it goes to the one whose lower end has the least number; HTUs 5 and 6 equal row 1
+-- and are kept
+abbrev threeArms : List (List ℤ)
+threeArms =
+    (pos 0 ∷ pos 0 ∷ pos 0 ∷ []) ∷ (pos 1 ∷ pos 0 ∷ pos 0 ∷ []) ∷ (pos 0 ∷ pos 1 ∷ pos 0 ∷ []) ∷ (pos 0 ∷ pos 0 ∷ pos 2 ∷ []) ∷ []
+
+equally-near : shown 4 threeArms
+    ≡ record {
+      placements = line 2 0 1 0 1 ∷ line 3 2 1 5 1 ∷ line 4 2 5 6 2 ∷ [];
+      ancestors = 0 ∷ 0 ∷ 6 ∷ 5 ∷ 6 ∷ 1 ∷ 5 ∷ [];
+      total = 4;
+      isBranching = true;
+    }
+unfolding shown
+equally-near = refl
+
+-- a tree handed in: taxa 1, 2 and 4 of document 01's matrix, with an HTU 5 whose codes are not the medians
+handed : ℕ → Placed
+unfolding shown
+handed b =
+    place difference 4 (0 ∷ 0 ∷ 5 ∷ 0 ∷ 5 ∷ 1 ∷ 0 ∷ []) (take 4 fourTaxa ++ (pos 1 ∷ pos 1 ∷ pos 1 ∷ []) ∷ []) b
+
+handed-tree : handed 3 .tree ≡ 0 ∷ 0 ∷ 6 ∷ 6 ∷ 5 ∷ 1 ∷ 5 ∷ []
+unfolding handed
+handed-tree = refl
+
+handed-placement : handed 3 .placement ≡ line 3 2 5 6 2
+unfolding handed
+handed-placement = refl
+
+-- the new HTU's row stands behind the others and takes the median codes
+handed-row : rowOf (handed 3 .rows) 6 ≡ pos 2 ∷ pos 1 ∷ pos 1 ∷ []
+unfolding handed
+handed-row = refl
+
+-- the branches of document 01's tree, with their lengths under the median codes; handed back, they are a branching
+branches : List BranchRecord
+unfolding shown
+branches = wagnerBranches 4 (wagner 4 fourTaxa)
+
+abbrev branch : ℕ → ℕ → ℕ → BranchRecord
+branch v a l = record { node = v; ancestor = a; length = l }
+
+branches-listed : branches ≡ branch 2 6 0 ∷ branch 3 6 3 ∷ branch 4 5 3 ∷ branch 5 1 1 ∷ branch 6 5 2 ∷ []
+unfolding branches
+branches-listed = refl
+
+branches-lent : lentBranching 4 branches ≡ true
+unfolding branches
+branches-lent = refl

@@ -1,0 +1,73 @@
+-- A placement on a growing tree gives a growing tree with one taxon more, on the interval of least interval difference.
+use mathlib.Core.Path.{_≡_, refl, ap}
+use mathlib.Core.Bool.{true}
+use mathlib.Core.List.{List, List·Memᴰ}
+use Prim.Native.Nat.{ℕ, zero, suc, _*_, _-_, _≤_, _<_}
+use native.Mathlib.Omega.{arith}
+use lib.IntN.{ℤ}
+use lib.ListN.{length}
+use Rattle.branching.specs.Ancestors.{ancestor}
+use Rattle.branching.specs.Nodes.{nodesIn, otherNodes, taxaPlaced}
+use Rattle.branching.specs.Growing.{growingTree, Grown, GrowingTree, alone, several, Unplaced}
+use Rattle.branching.specs.Hanging.{nextHtu}
+use Rattle.branching.proofs.Nodes.{node-nodesIn}
+use Rattle.branching.proofs.Counts.{grown-node, grown-nodes}
+use Rattle.branching.proofs.Test.{growing-fact, growing-placed, growing-test}
+use Rattle.branching.proofs.Hanging.{hung-grown}
+use Rattle.branching.proofs.Linking.{linked-grown}
+use Rattle.wagner.specs.Placing.{fromInterval, nearestInterval, link, hang, placeOn, place}
+use Rattle.wagner.proofs.Choice.{leastOf-mem, leastOf-le, leastOf-none}
+
+module _ (d : List ℤ → List ℤ → ℕ) (n : ℕ) (tree : List ℕ) (rows : List (List ℤ)) (b : ℕ) where
+  -- on row 1 alone there is no interval, and the taxon is linked to row 1
+  pub nearest-none : ((v : ℕ) → ancestor tree v ≡ 0) → nearestInterval d n tree rows b ≡ 0
+  unfolding nearestInterval
+  nearest-none none =
+      leastOf-none (fromInterval d tree rows b) (nodesIn tree (otherNodes n)) (λ u m. omega (arith, node-nodesIn tree n u m, none u))
+
+  pub place-first : ((v : ℕ) → ancestor tree v ≡ 0) → place d n tree rows b ≡ link d tree rows b
+  unfolding place placeOn
+  place-first none = ap (placeOn d n tree rows b) (nearest-none none)
+
+  module _ (k : ℕ) (g : Grown n k tree) where
+    -- the nearest interval is one of the tree
+    pub nearest-in : List·Memᴰ (nearestInterval d n tree rows b) (nodesIn tree (otherNodes n))
+    unfolding nearestInterval
+    nearest-in = let u = grown-node n k tree g in leastOf-mem (fromInterval d tree rows b) (nodesIn tree (otherNodes n)) (u .0) (u .1)
+
+    -- it is a node other than node 1 and has an immediate ancestor
+    pub nearest-node : (2 ≤ nearestInterval d n tree rows b) × (1 ≤ ancestor tree (nearestInterval d n tree rows b))
+    nearest-node = let h = node-nodesIn tree n (nearestInterval d n tree rows b) nearest-in in (h .0, h .2)
+
+    -- no interval of the tree has a lesser interval difference
+    pub nearest-least : (c : ℕ) → 1 ≤ ancestor tree c
+        → fromInterval d tree rows b (nearestInterval d n tree rows b) ≤ fromInterval d tree rows b c
+    unfolding nearestInterval
+    nearest-least c inside = leastOf-le (fromInterval d tree rows b) (nodesIn tree (otherNodes n)) c (grown-nodes n k tree g c inside)
+
+    -- the taxon is hung on it
+    pub place-later : place d n tree rows b ≡ hang d n tree rows b (nearestInterval d n tree rows b)
+    unfolding place placeOn
+    place-later = hung-on (nearestInterval d n tree rows b) (nearest-node .0)
+      where
+        hung-on : (c : ℕ) → 2 ≤ c → placeOn d n tree rows b c ≡ hang d n tree rows b c
+        hung-on zero h = absurd (omega arith)
+        hung-on (suc c) h = refl
+
+  -- a placement of a taxon that is not in the tree gives a growing tree with one taxon more
+  pub place-grows : {k : ℕ} → GrowingTree n tree k → 2 * n - 2 < length tree → Unplaced n tree b
+      → GrowingTree n (place d n tree rows b .tree) (suc k)
+  unfolding link hang nextHtu
+  place-grows (alone none) room u = rw (place-first none) (several (linked-grown n tree none room b u))
+  place-grows (several {k = k} g) room u =
+      rw
+      (place-later k g, g .placed)
+      (several (hung-grown n k tree g room b (nearestInterval d n tree rows b) u (nearest-node k g .1)))
+
+  -- the same by the test: what passes it passes it after the placement, with one taxon more placed
+  pub place-test : growingTree n tree ≡ true → 2 * n - 2 < length tree → Unplaced n tree b
+      → (growingTree n (place d n tree rows b .tree) ≡ true) × (taxaPlaced n (place d n tree rows b .tree) ≡ suc (taxaPlaced n tree))
+  place-test passes room u =
+      let grows = place-grows (growing-fact tree n (omega arith) passes) room u in
+      let new : List ℕ = place d n tree rows b .tree in
+      (growing-test new n (omega arith) grows, growing-placed new n (omega arith) grows)

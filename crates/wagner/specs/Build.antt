@@ -1,0 +1,52 @@
+-- The whole build: from row 1 alone, taxon after taxon is placed until all n are in the tree.
+use mathlib.Core.List.{List, [], _∷_}
+use Prim.Native.Nat.{ℕ, zero, suc, _+_, _-_}
+use lib.IntN.{ℤ}
+use Rattle.matrix.specs.Choice.{numbers}
+use Rattle.difference.specs.Rows.{difference}
+use Rattle.branching.specs.Nodes.{nodesOut}
+use Rattle.branching.specs.Hanging.{noBranches}
+use Rattle.branching.specs.Branches.{BranchRecord, branchRecords}
+use Rattle.wagner.specs.Nodes.{leastOf, nodeDifference, advancement, lengthUnder}
+use Rattle.wagner.specs.Placing.{Placement, Placed, place}
+
+-- what comes out of a build: the tree, the rows of all nodes, and the placements in order
+pub record Built : Type 0 where
+  pub tree : List ℕ
+  pub rows : List (List ℤ)
+  pub placements : List Placement
+
+-- the next taxon by advancement: of the taxa not yet placed, by rising row, the first with the least advancement
+unfoldable pub byAdvancement : (List ℤ → List ℤ → ℕ) → ℕ → List ℕ → List (List ℤ) → ℕ
+byAdvancement d n tree rows = leastOf (advancement d rows) (nodesOut tree (numbers 1 n))
+
+-- the lengths that placements added, together
+unfoldable pub addedLength : List Placement → ℕ
+addedLength [] = 0
+addedLength (p ∷ ps) = p .added + addedLength ps
+
+-- `next` says, of n, a growing tree and its rows, which taxon is placed next
+module _ (d : List ℤ → List ℤ → ℕ) (next : ℕ → List ℕ → List (List ℤ) → ℕ) where
+  -- so many placements in turn
+  unfoldable pub buildOn : ℕ → ℕ → List ℕ → List (List ℤ) → Built
+  buildOn n zero tree rows = record { tree = tree; rows = rows; placements = [] }
+  buildOn n (suc count) tree rows =
+      let placed : Placed = place d n tree rows (next n tree rows) in
+      let rest : Built = buildOn n count (placed .tree) (placed .rows) in
+      record { tree = rest .tree; rows = rest .rows; placements = placed .placement ∷ rest .placements }
+
+  -- the build of all n taxa
+  unfoldable pub build : ℕ → List (List ℤ) → Built
+  build n rows = buildOn n (n - 1) noBranches rows
+
+-- the Wagner tree of n rows: taxa are placed by rising advancement, the lower row first among equals
+unfoldable pub wagner : ℕ → List (List ℤ) → Built
+wagner n rows = build difference (byAdvancement difference) n rows
+
+-- the length of a finished tree under the median codes
+unfoldable pub wagnerLength : ℕ → Built → ℕ
+wagnerLength n built = lengthUnder difference n (built .tree) (built .rows)
+
+-- the finished tree as branch records
+unfoldable pub wagnerBranches : ℕ → Built → List BranchRecord
+wagnerBranches n built = branchRecords (nodeDifference difference (built .rows)) n (built .tree)

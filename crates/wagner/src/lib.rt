@@ -1,0 +1,1 @@
+// The growing tree, one placement, and the whole build.
