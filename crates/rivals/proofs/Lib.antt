@@ -1,0 +1,4 @@
+-- The claim holds for every accepted matrix, however it was accepted.
+pub mod Rows
+pub mod Placements
+pub mod Demand

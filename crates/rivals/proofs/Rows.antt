@@ -1,0 +1,84 @@
+-- Rows of m codes, and which matrices are accepted.
+use mathlib.Core.Path.{_≡_, refl, ap, _∙_}
+use mathlib.Core.Bool.{Bool, true}
+use mathlib.Core.List.{List, [], _++_, map}
+use Prim.Native.Nat.{ℕ, _+_, _-_, _≤_, _<_}
+use native.Mathlib.Omega.{arith}
+use borrow.Author.Tests.{eqb-true, eq-eqb}
+use lib.IntN.{ℤ}
+use lib.ListN.{length, getD, length-append}
+use Rattle.matrix.specs.Choice.{numbers}
+use Rattle.matrix.specs.Every.{every}
+use Rattle.matrix.specs.Shape.{row}
+use Rattle.matrix.specs.Questions.{withinLimits, oneTo, allInRange, askMatrix, LentMatrix}
+use Rattle.matrix.specs.declared.refusal.Asked.the-variants.{Passed}
+use Rattle.matrix.proofs.Both.{and-both}
+use Rattle.matrix.proofs.Every.{every-at, every-from, every-append}
+use Rattle.matrix.proofs.Passing.{matrix-passes, true-oneTo}
+use Rattle.matrix.proofs.Row.{row-length}
+use Rattle.matrix_file.specs.Job.{Job, hasCodes, JobWithinLimits}
+use Rattle.matrix_file.specs.Reading.{readAnswer, accepted}
+use Rattle.matrix_file.proofs.FileOfRead.{file-of-read}
+use Rattle.wagner.specs.Nodes.{rowOf}
+use Rattle.wagner.specs.Matrix.{rowsOf}
+use Rattle.wagner.proofs.Lengths.{OfLength}
+use Rattle.wagner.proofs.Matrix.{length-rowsOf, rowOf-rowsOf}
+use Rattle.rivals.specs.Accepted.{CodeRows, Accepted}
+
+-- the row of each node has m codes
+pub rows-sized : (m : ℕ) (rows : List (List ℤ)) → CodeRows m rows → OfLength m rows
+unfolding rowOf hasCodes
+rows-sized m rows codes v low high = eqb-true _ _ (every-at (hasCodes m) rows (codes .full) (v - 1) [] (omega arith))
+
+-- rows behind rows
+pub rows-append : (m : ℕ) (rows more : List (List ℤ)) → CodeRows m rows → CodeRows m more → CodeRows m (rows ++ more)
+rows-append m rows more p q =
+    record {
+      full = every-append (hasCodes m) rows more (p .full) (q .full);
+      known = every-append allInRange rows more (p .known) (q .known);
+    }
+
+-- a matrix whose file a read accepts is accepted
+pub accepted-read : (file : List ℕ) (job : Job) → readAnswer file ≡ accepted job → Accepted (job .n) (job .m) (job .rows)
+accepted-read file job e =
+    let within = file-of-read file job e .0 in
+    record {
+      limits = within .limits;
+      count = within .row-count;
+      codes = record { full = within .rows-full; known = within .codes-in-range };
+    }
+
+-- the rows of nodes 1 to n, place by place
+row-at : (codes : List ℤ) (m n i : ℕ) → i < n → getD (rowsOf codes m n) i [] ≡ row codes m (i + 1)
+unfolding rowOf
+row-at codes m n i h =
+    let place : i ≡ i + 1 - 1 = omega arith in
+    ap (λ k. getD (rowsOf codes m n) k []) place ∙ rowOf-rowsOf codes m n (i + 1) (omega arith) (omega arith)
+
+-- a test that each of rows 1 to n passes, the rows of these nodes pass
+rows-from : (test : List ℤ → Bool) (codes : List ℤ) (m n : ℕ) → ((v : ℕ) → 1 ≤ v → v ≤ n → test (row codes m v) ≡ true)
+    → every test (rowsOf codes m n) ≡ true
+rows-from test codes m n h = every-from test [] (rowsOf codes m n) at-place
+  where
+    at-place : (i : ℕ) → i < length (rowsOf codes m n) → test (getD (rowsOf codes m n) i []) ≡ true
+    at-place i below =
+        let small : i < n = omega (arith, length-rowsOf codes m n) in
+        rw (row-at codes m n i small) (h (i + 1) (omega arith) (omega arith))
+
+-- a lent matrix that passes its questions is accepted
+pub accepted-lent : (codes : List ℤ) (n m : ℕ) → askMatrix codes n m ≡ Passed → Accepted n m (rowsOf codes m n)
+unfolding withinLimits hasCodes
+accepted-lent codes n m e =
+    let lent = matrix-passes codes n m .0 e in
+    record {
+      limits = and-both (true-oneTo 64 n (lent .taxon) (lent .taxa)) (true-oneTo 128 m (lent .character) (lent .characters));
+      count = length-rowsOf codes m n;
+      codes = record {
+        full = rows-from (hasCodes m) codes m n (full lent);
+        known = rows-from allInRange codes m n (lent .known);
+      };
+    }
+  where
+    full : LentMatrix codes n m → (v : ℕ) → 1 ≤ v → v ≤ n → hasCodes m (row codes m v) ≡ true
+    full lent v low high =
+        eq-eqb _ _ (row-length codes m v (lent .full) (lent .characters) low (omega (arith, lent .taxa)))

@@ -1,0 +1,1 @@
+// Demand 3: one claim about a whole accepted matrix. It has no function.
