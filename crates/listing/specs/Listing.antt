@@ -1,5 +1,5 @@
 -- The listing of a job, and of a file's bytes.
-use mathlib.Core.List.{List, [], _∷_, _++_, map}
+use mathlib.Core.List.{List, [], _∷_, _++_, map, flatMap}
 use Prim.Native.Nat.{ℕ}
 use lib.IntN.{ℤ}
 use Rattle.matrix.specs.Refusals.{refusalNumber}
@@ -54,3 +54,7 @@ printed (refused refusal at) = refusalLine refusal at ∷ []
 -- the lines printed for a file's bytes
 unfoldable pub listingOf : List ℕ → List (List ℕ)
 listingOf file = printed (readAnswer file)
+
+-- all that is printed for a file's bytes: its lines, joined
+unfoldable pub output : List ℕ → List ℕ
+output file = flatMap (λ line. line) (listingOf file)

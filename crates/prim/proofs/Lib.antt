@@ -6,3 +6,8 @@ pub mod Agreement
 pub mod Connected
 pub mod Links
 pub mod Shortest
+pub mod Lent
+pub mod Choosing
+pub mod Keeping
+pub mod Holding
+pub mod Growth

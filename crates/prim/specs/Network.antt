@@ -8,12 +8,11 @@ use lib.IntN.{ℤ}
 use Rattle.matrix.specs.Choice.{firstLeast, numbers}
 use Rattle.matrix.specs.Shape.{row}
 use Rattle.difference.specs.Rows.{difference}
+use Rattle.prim.specs.declared.answer.Link.{Link as HandedBack}
 
--- a link: the taxon that it places, the placed taxon that this one joins, and their difference
-pub record Link : Type 0 where
-  pub taxon : ℕ
-  pub joined : ℕ
-  pub length : ℕ
+-- a link, as it is handed back: the taxon that it places, the placed taxon that this one joins, and their difference
+abbrev pub Link : Type 0
+Link = HandedBack
 
 -- the taxa that links place, in order
 unfoldable pub taxa : List Link → List ℕ

@@ -1,1 +1,3 @@
-// The Prim Network.
+// The Prim Network of a lent matrix.
+pub mod answer;
+pub mod network;

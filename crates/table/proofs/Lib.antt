@@ -1,3 +1,2 @@
--- The table is computed by the checker, and a few listings beside it.
+-- The table is computed by the checker.
 pub mod Computed
-pub mod Listings

@@ -1,14 +1,14 @@
 -- The table of document 01, "Conditions of acceptance": the median of -1, 2 and 0; the three joins; the three sums of document 003; and
 -- the listing of the example, from the bytes of its file.
 use mathlib.Core.Path.{_≡_}
-use mathlib.Core.List.{List, [], _∷_, flatMap}
+use mathlib.Core.List.{List, [], _∷_}
 use Prim.Native.Nat.{ℕ}
 use Prim.Native.String.{String}
 use lib.IntN.{ℤ, pos, negsuc}
 use Rattle.matrix_file.specs.Text.{bytes}
 use Rattle.difference.specs.Rows.{difference, median, intervalDifference}
 use Rattle.fitting.specs.Sets.{Span, join}
-use Rattle.listing.specs.Listing.{listingOf}
+use Rattle.listing.specs.Listing.{output}
 
 -- the set of the states from a to b
 abbrev pub span : ℕ → ℕ → Span
@@ -37,10 +37,6 @@ pub record Sum (taxon : List ℤ) (fromAncestor fromC interval : ℕ) : Type 0 w
   pub across : difference anc taxonC ≡ 4
   pub half : intervalDifference taxon taxonC anc ≡ interval
 
--- what is printed for a file of this text, its lines joined
-unfoldable pub printed : String → List ℕ
-printed text = flatMap (λ line. line) (listingOf (bytes text))
-
 -- the example's file
 abbrev pub file : String
 file = "W\t4\t3\nA\t0\t0\t0\nB\t2\t1\t0\nC\t2\t3\t1\nD\t-1\t1\t2\n"
@@ -57,4 +53,4 @@ pub record Table : Type 0 where
   pub first-sum : Sum taxonA 7 11 7
   pub second-sum : Sum taxonB 9 11 8
   pub third-sum : Sum taxonD 6 8 5
-  pub listing : printed file ≡ bytes listed
+  pub listing : output (bytes file) ≡ bytes listed

@@ -1,0 +1,3 @@
+-- The listing, computed.
+pub mod Computed
+pub mod Examples

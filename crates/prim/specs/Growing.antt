@@ -1,0 +1,59 @@
+-- What is kept of the taxa while the Prim Network grows, over any difference d of two taxa, and what the functions that grow it promise.
+-- `later` is the list of the taxa placed after row 1.
+use mathlib.Core.Path.{_≡_}
+use mathlib.Core.Bool.{true, false}
+use mathlib.Core.List.{List, [], _∷_, _++_, List·Memᴰ}
+use Prim.Native.Nat.{ℕ, zero, suc, _+_, _-_, _≤_, max}
+use lib.ListN.{length, getD}
+use Rattle.matrix.specs.Choice.{numbers}
+use Rattle.prim.specs.Network.{Link, unplaced, without, nearest, distance, link, next}
+use Rattle.prim.specs.declared.network.Kept.{Kept}
+
+-- what is kept of the taxa by number: taxon v's stands at place v
+abbrev pub keptAt : List Kept → ℕ → Kept
+keptAt taxa v = getD taxa v (record { placed = false; nearest = 0; distance = 0 })
+
+-- the unplaced taxa below v, by rising row
+abbrev pub unplacedBelow : ℕ → List ℕ → List ℕ
+unplacedBelow v later = without later (numbers 2 (v - 2))
+
+module _ (d : ℕ → ℕ → ℕ) where
+  -- what is kept of an unplaced taxon v: the placed taxon nearest to it, and how far that is
+  abbrev pub keptOf : List ℕ → ℕ → Kept
+  keptOf later v = record { placed = false; nearest = nearest d later v; distance = distance d later v }
+
+  -- of n taxa, what is kept when those of `later` are placed
+  pub record Keeps (n : ℕ) (later : List ℕ) (taxa : List Kept) : Type 0 where
+    pub size : length taxa ≡ 65
+    pub placed : (v : ℕ) → List·Memᴰ v later → keptAt taxa v .placed ≡ true
+    pub unplaced : (v : ℕ) → List·Memᴰ v (unplaced n later) → keptAt taxa v ≡ keptOf later v
+
+  -- the link that places a taxon; none for 0
+  abbrev pub placing : List ℕ → ℕ → List Link
+  placing later zero = []
+  placing later (suc v) = link d later (suc v) ∷ []
+
+  -- of the unplaced taxa below v, the next link places `best`; there is none if `best` is 0
+  abbrev pub NextBelow : List ℕ → ℕ → ℕ → Type 0
+  NextBelow later v best = next d later (unplacedBelow v later) ≡ placing later best
+
+-- of `best`, the taxon to place next of those below v, and v itself, r is the one to place next
+pub record Nearer (best : ℕ) (bestKept : Kept) (v : ℕ) (kept : Kept) (r : ℕ) : Type 0 where
+  pub among : r ≤ max best v
+  pub is : (d : ℕ → ℕ → ℕ) (n : ℕ) (later : List ℕ) (taxa : List Kept) → Keeps d n later taxa
+      → keptAt taxa best ≡ bestKept → keptAt taxa v ≡ kept → 2 ≤ v → v ≤ n
+      → NextBelow d later v best → NextBelow d later (v + 1) r
+
+-- r is the taxon to place next
+pub record NextTaxon (taxa : List Kept) (n r : ℕ) : Type 0 where
+  pub among : r ≤ 64
+  pub is : (d : ℕ → ℕ → ℕ) (later : List ℕ) → Keeps d n later taxa → next d later (unplaced n later) ≡ placing d later r
+
+-- r is what is kept of taxon u when v has been placed besides: the same if u is itself placed
+pub record Compared (d : ℕ → ℕ → ℕ) (u v : ℕ) (kept r : Kept) : Type 0 where
+  pub placed : kept .placed ≡ true → r ≡ kept
+  pub unplaced : (later : List ℕ) → kept ≡ keptOf d later u → r ≡ keptOf d (later ++ (v ∷ [])) u
+
+-- r is what is kept of n taxa when v, which was unplaced, has been placed besides
+pub record Places (d : ℕ → ℕ → ℕ) (n : ℕ) (taxa : List Kept) (v : ℕ) (r : List Kept) : Type 0 where
+  pub keeps : (later : List ℕ) → Keeps d n later taxa → List·Memᴰ v (unplaced n later) → Keeps d n (later ++ (v ∷ [])) r

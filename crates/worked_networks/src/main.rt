@@ -1,0 +1,188 @@
+// Prim Networks of worked cases, in the form of the listing's P, p and R lines, with taxa by number. The expected lines are those that the
+// reference program prints of the same matrices, the line of a refusal being 0.
+use libc::STDOUT_FILENO;
+use matrix::refusal;
+use matrix::refusal::Asked;
+use prim::answer::Answer;
+use prim::answer::Network;
+use prim::network::network;
+
+// Writes a row's codes at the front of the row of node v, as far as the matrix goes.
+fn put(codes: &mut [i32; 16128], v: usize, row: &[i32]) {
+    let start = matrix::rows::row_start(16128, v);
+    let mut j = 0;
+    while j < row.len() {
+        if 16128 - start <= j {
+            return;
+        }
+        codes[start + j] = row[j];
+        j += 1;
+    }
+}
+
+// A field of a line: a tab and a number.
+fn print_field(number: u64) {
+    io::write_all(STDOUT_FILENO, b"\t");
+    io::print_decimal(STDOUT_FILENO, number);
+}
+
+fn end_line() {
+    io::write_all(STDOUT_FILENO, b"\n");
+}
+
+// The P line of a link.
+fn print_link(taxon: usize, joined: usize, length: u64) {
+    io::write_all(STDOUT_FILENO, b"P");
+    print_field(taxon as u64);
+    print_field(joined as u64);
+    print_field(length);
+    end_line();
+}
+
+// The P lines of a network.
+fn print_links(network: Network) {
+    let mut i = 0;
+    while i < 63 {
+        if i < network.count {
+            let link = network.links[i];
+            print_link(link.taxon, link.joined, link.length);
+        }
+        i += 1;
+    }
+}
+
+// The p line of a total.
+fn print_total(total: u64) {
+    io::write_all(STDOUT_FILENO, b"p");
+    print_field(total);
+    end_line();
+}
+
+// The lines of an answer: those of its network, or its refusal's.
+fn print_answer(answer: Answer) {
+    let asked = answer.asked;
+    match asked {
+        Asked::Passed => {
+            let network = answer.network;
+            print_links(network);
+            print_total(network.total);
+        }
+        Asked::Refused(why) => {
+            io::write_all(STDOUT_FILENO, b"R");
+            print_field(refusal::number(why));
+            print_field(0);
+            end_line();
+        }
+    }
+}
+
+// The lines of a matrix of n taxa and m characters.
+fn show(codes: &[i32; 16128], n: usize, m: usize) {
+    print_answer(network(codes, n, m));
+}
+
+// Document 01's example, and the first one and two of its taxa.
+fn example(codes: &mut [i32; 16128]) {
+    put(codes, 1, &[0, 0, 0]);
+    put(codes, 2, &[2, 1, 0]);
+    put(codes, 3, &[2, 3, 1]);
+    put(codes, 4, &[-1, 1, 2]);
+    show(codes, 4, 3);
+    show(codes, 1, 3);
+    show(codes, 2, 3);
+}
+
+// Ties: rows 2 and 3 equally near to row 1; then row 4 equally near to rows 2 and 3, of which row 3 was placed first; then equal rows.
+fn ties(codes: &mut [i32; 16128]) {
+    put(codes, 1, &[0, 0, 0]);
+    put(codes, 2, &[1, 0, 0]);
+    put(codes, 3, &[-1, 0, 0]);
+    show(codes, 3, 1);
+    put(codes, 2, &[4, 0, 0]);
+    put(codes, 3, &[2, 0, 0]);
+    put(codes, 4, &[3, 5, 0]);
+    show(codes, 4, 2);
+    put(codes, 2, &[0, 0, 0]);
+    put(codes, 4, &[2, 0, 0]);
+    show(codes, 4, 3);
+}
+
+// Both ends of the range: one character, and 128 of them, the largest difference.
+fn ends(codes: &mut [i32; 16128]) {
+    put(codes, 1, &[-999i32; 128]);
+    put(codes, 2, &[999i32; 128]);
+    put(codes, 3, &[0i32; 128]);
+    show(codes, 3, 1);
+    show(codes, 3, 128);
+    put(codes, 3, &[-999i32; 128]);
+    show(codes, 3, 128);
+}
+
+// Refusals: a matrix that is not of full size, then n, then m, then a code; the first "no" counts.
+fn refusals(codes: &mut [i32; 16128]) {
+    print_answer(network(&[0i32; 16127], 0, 0));
+    print_answer(network(&[0, 0, 0], 3, 3));
+    show(codes, 0, 3);
+    show(codes, 65, 3);
+    show(codes, 3, 0);
+    show(codes, 3, 129);
+    put(codes, 3, &[0, 0, 1000, -1000]);
+    show(codes, 3, 3);
+    show(codes, 65, 3);
+}
+
+// A code out of range behind the last character, and in the row behind the last taxon: neither is read.
+fn unread(codes: &mut [i32; 16128]) {
+    put(codes, 4, &[-1000i32; 128]);
+    show(codes, 3, 2);
+    put(codes, 3, &[0, 0, 0, -1000]);
+    show(codes, 3, 3);
+    show(codes, 3, 4);
+    show(codes, 4, 2);
+}
+
+// The next number of a sequence of pseudo-random numbers below 2 ^ 31.
+fn following(number: u64) -> u64 {
+    ((number % 2147483648) * 1103515245 + 12345) % 2147483648
+}
+
+// One of eight codes, by such a number.
+fn chosen(codes: [i32; 8], number: u64) -> i32 {
+    let i = ((number / 65536) % 8) as usize;
+    codes[i]
+}
+
+// Fills a matrix with such codes.
+fn fill(matrix: &mut [i32; 16128], codes: [i32; 8], seed: u64) {
+    let mut number = seed;
+    let mut i = 0;
+    while i < 16128 {
+        number = following(number);
+        matrix[i] = chosen(codes, number);
+        i += 1;
+    }
+}
+
+// Matrices of few codes, where many taxa are equally near, and of codes over the whole range.
+fn generated(matrix: &mut [i32; 16128]) {
+    fill(matrix, [-2, -1, -1, 0, 0, 0, 1, 2], 1);
+    show(matrix, 64, 1);
+    show(matrix, 64, 4);
+    show(matrix, 23, 9);
+    fill(matrix, [0, 1, 0, 1, 0, 1, 0, 1], 2);
+    show(matrix, 64, 12);
+    show(matrix, 16, 128);
+    fill(matrix, [-999, -500, -37, 0, 1, 250, 998, 999], 3);
+    show(matrix, 64, 20);
+    show(matrix, 9, 128);
+}
+
+fn main() {
+    let mut codes = [0i32; 16128];
+    example(&mut codes);
+    ties(&mut codes);
+    ends(&mut codes);
+    refusals(&mut codes);
+    unread(&mut codes);
+    generated(&mut codes);
+}
