@@ -8,11 +8,11 @@ use native.Mathlib.Omega.{arith}
 use lib.Dec.{eqb}
 use lib.ListN.{length}
 use borrow.Author.Tests.{eqb-true, eq-eqb}
+use Rattle.matrix.proofs.Both.{eqb-iff, or-iff}
 use Rattle.branching.specs.Ancestors.{ancestor}
 use Rattle.branching.specs.Nodes.{keep}
 use Rattle.branching.specs.Growing.{climbs, ReachesRoot, root, up}
-use Rattle.branching.proofs.Tests.{eqb-iff, or-iff}
-use Rattle.branching.proofs.Numbers.{keep-grows, mem-keep, mem-length, length-keep-le}
+use Rattle.branching.proofs.Keep.{keep-grows, mem-keep, mem-length, length-keep-le}
 
 module _ (tree : List ℕ) where
   -- one step more: node v is node 1, or its immediate ancestor climbs

@@ -12,10 +12,11 @@ use Rattle.branching.specs.Ancestors.{ancestor}
 use Rattle.branching.specs.Nodes.{inTree, taxaPlaced}
 use Rattle.branching.specs.Growing.{descendantCount, descendantsWanted, InTree, ReachesRoot, root, up, Grown, Unplaced}
 use Rattle.branching.specs.Hanging.{hung}
-use Rattle.branching.proofs.Numbers.{mark}
 use Rattle.branching.proofs.Nodes.{inTree-same, true-inTree}
-use Rattle.branching.proofs.Counts.{taxaPlaced-lt, taxaPlaced-more, count-out, wanted-taxon, wanted-htu}
-use Rattle.branching.proofs.Sums.{count-sum, Joint, hung-taxon, hung-lower, hung-htu, hung-other, sum-hung}
+use Rattle.branching.proofs.Counts.{taxaPlaced-lt, taxaPlaced-more}
+use Rattle.branching.proofs.Sums.{counted}
+use Rattle.branching.proofs.Descendants.{count-out, wanted-taxon, wanted-htu}
+use Rattle.branching.proofs.BranchSums.{count-sum, Joint, hung-taxon, hung-lower, hung-htu, hung-other, sum-hung}
 
 -- with one taxon more the last HTU has the next number
 last-later : (n k v : ℕ) → 2 ≤ k → v ≤ n + k - 2 → v ≤ n + suc k - 2
@@ -147,18 +148,18 @@ module _ (n k : ℕ) (tree : List ℕ) (g : Grown n k tree) (room : 2 * n - 2 < 
       htu-in = inr (omega (arith, at-htu))
 
   -- the descendants of a node, before and after
-  count-change : (v : ℕ) → 1 ≤ v → descendantCount n new v ≡ descendantCount n tree v + (mark (eqb y v) + mark (eqb y v))
+  count-change : (v : ℕ) → 1 ≤ v → descendantCount n new v ≡ descendantCount n tree v + (counted (eqb y v) + counted (eqb y v))
   count-change v l =
-      let none : mark (eqb 0 v) ≡ 0 = ap mark (ne-eqb 0 v (λ e. omega arith)) in
-      let taxon : mark (eqb (ancestor tree b) v) ≡ 0 = ap (λ (a : ℕ). mark (eqb a v)) (u .free) ∙ none in
-      let htu : mark (eqb (ancestor tree y) v) ≡ 0 = ap (λ (a : ℕ). mark (eqb a v)) htu-out ∙ none in
+      let none : counted (eqb 0 v) ≡ 0 = ap counted (ne-eqb 0 v (λ e. omega arith)) in
+      let taxon : counted (eqb (ancestor tree b) v) ≡ 0 = ap (λ (a : ℕ). counted (eqb a v)) (u .free) ∙ none in
+      let htu : counted (eqb (ancestor tree y) v) ≡ 0 = ap (λ (a : ℕ). counted (eqb a v)) htu-out ∙ none in
       let before = count-sum n tree v in
       let after = count-sum n new v in
-      let change = sum-hung n tree b c y hung-joint (λ u a. mark (eqb a v)) in
+      let change = sum-hung n tree b c y hung-joint (λ u a. counted (eqb a v)) in
       omega arith
 
   count-same : (v : ℕ) → 1 ≤ v → v ≢ y → descendantCount n new v ≡ descendantCount n tree v
-  count-same v l ne = let other : mark (eqb y v) ≡ 0 = ap mark (ne-eqb y v (λ e. ne (sym e))) in omega (arith, count-change v l)
+  count-same v l ne = let other : counted (eqb y v) ≡ 0 = ap counted (ne-eqb y v (λ e. ne (sym e))) in omega (arith, count-change v l)
 
   descendantsRight-more : (v : ℕ) → InTree new v → descendantCount n new v ≡ descendantsWanted n v
   descendantsRight-more =
@@ -178,7 +179,7 @@ module _ (n k : ℕ) (tree : List ℕ) (g : Grown n k tree) (room : 2 * n - 2 < 
       htu-count : descendantCount n new y ≡ descendantsWanted n y
       htu-count =
           let two = g .atLeastTwo in
-          let itself : mark (eqb y y) ≡ 1 = ap mark (eq-eqb y y refl) in
+          let itself : counted (eqb y y) ≡ 1 = ap counted (eq-eqb y y refl) in
           let before = count-out n tree y (g .ancestorsIn) (omega arith) htu-out in
           let wanted = wanted-htu n y (omega arith) (omega arith) in
           omega (arith, count-change y (omega arith))

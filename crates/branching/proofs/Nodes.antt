@@ -10,12 +10,13 @@ use lib.Dec.{leb, eqb}
 use lib.ListN.{length, getD, replicate, List·getD-eq-default}
 use borrow.Author.Tests.{ne-eqb, leb-false, lt-leb, not-true}
 use Rattle.matrix.specs.Choice.{numbers}
+use Rattle.matrix.proofs.Choice.{length-numbers, numbers-within, numbers-among}
+use Rattle.matrix.proofs.Both.{leb-iff, eqb-iff, or-iff}
 use Rattle.branching.specs.Ancestors.{ancestor}
 use Rattle.branching.specs.Nodes.{hasAncestor, inTree, nodesIn, otherNodes, taxaPlaced}
 use Rattle.branching.specs.Growing.{InTree}
 use Rattle.branching.specs.Hanging.{noBranches}
-use Rattle.branching.proofs.Numbers.{numbers-between, between-numbers, keep-mem, mem-keep, length-keep-le, length-numbers}
-use Rattle.branching.proofs.Tests.{leb-iff, eqb-iff, or-iff}
+use Rattle.branching.proofs.Keep.{keep-mem, mem-keep, length-keep-le}
 
 -- row 1 alone, as a build starts: 127 places, no branches
 same-everywhere : (count v a : ℕ) → getD (replicate count a) v a ≡ a
@@ -88,11 +89,11 @@ module _ (tree : List ℕ) where
   pub nodesIn-node : (n v : ℕ) → 2 ≤ v → v ≤ 2 * n - 2 → InTree tree v → List·Memᴰ v (nodesIn tree (otherNodes n))
   unfolding nodesIn otherNodes
   nodesIn-node n v l h i =
-      let m = between-numbers v 2 (2 * n - 3) l (omega arith) in mem-keep (inTree tree) (numbers 2 (2 * n - 3)) v m (true-inTree v i)
+      let m = numbers-among 2 (2 * n - 3) v l (omega arith) in mem-keep (inTree tree) (numbers 2 (2 * n - 3)) v m (true-inTree v i)
 
   pub node-nodesIn : (n v : ℕ) → List·Memᴰ v (nodesIn tree (otherNodes n)) → (2 ≤ v) × (v ≤ 2 * n - 2) × (1 ≤ ancestor tree v)
   unfolding nodesIn otherNodes
   node-nodesIn n v m =
       let k = keep-mem (inTree tree) (numbers 2 (2 * n - 3)) v m in
-      let b = numbers-between v 2 (2 * n - 3) (k .0) in
+      let b = numbers-within 2 (2 * n - 3) v (k .0) in
       ⊎-elim (λ e. absurd (omega arith)) (λ h. (omega arith, omega arith, h)) (inTree-true v (k .1))

@@ -10,16 +10,17 @@ use lib.Dec.{eqb}
 use lib.ListN.{length}
 use Rattle.matrix.specs.Choice.{numbers}
 use Rattle.matrix.specs.Shape.{lastNode}
+use Rattle.matrix.proofs.Choice.{numbers-within}
 use Rattle.branching.specs.Ancestors.{ancestor}
 use Rattle.branching.specs.Nodes.{inTree, keep, nodesIn, otherNodes, taxaPlaced}
 use Rattle.branching.specs.Growing.{descendantCount, descendantsWanted, climbs, InTree, ReachesRoot, root, up, Grown, GrowingTree}
 use Rattle.branching.specs.Growing.{alone, several, Branching}
 use Rattle.branching.specs.Branches.{sumOver, treeLength}
-use Rattle.branching.proofs.Numbers.{numbers-between, keep-all}
 use Rattle.branching.proofs.Nodes.{inTree-same, true-inTree, taxaPlaced-le}
-use Rattle.branching.proofs.Counts.{all-placed, wanted-taxon, wanted-htu}
+use Rattle.branching.proofs.Counts.{all-placed}
 use Rattle.branching.proofs.Test.{reaches-within}
-use Rattle.branching.proofs.Sums.{descendants-keep}
+use Rattle.branching.proofs.Keep.{keep-all}
+use Rattle.branching.proofs.Descendants.{wanted-taxon, wanted-htu, descendants-keep}
 
 -- every node of a branching but node 1 has an immediate ancestor
 pub branching-nodes : (n : ℕ) (tree : List ℕ) → Branching n tree → (v : ℕ) → 2 ≤ v → v ≤ 2 * n - 2 → 1 ≤ ancestor tree v
@@ -107,7 +108,7 @@ branching-length d n tree b =
   where
     all : (v : ℕ) → List·Memᴰ v (numbers 2 (2 * n - 3)) → inTree tree v ≡ true
     all v m =
-        let w = numbers-between v 2 (2 * n - 3) m in
+        let w = numbers-within 2 (2 * n - 3) v m in
         true-inTree tree v (inr (branching-nodes n tree b v (w .0) (omega arith)))
 
 -- two lists that give every number one ancestor

@@ -2,21 +2,22 @@
 use mathlib.Core.Path.{_≡_, refl, sym, ap, _∙_}
 use mathlib.Core.Logic.{_≢_, by-cases}
 use mathlib.Core.List.{List, [], _∷_, _++_, append-nil, append-assoc}
-use Prim.Native.Nat.{ℕ, suc, _+_, _-_, _≤_, _<_, min}
+use Prim.Native.Nat.{ℕ, suc, _+_, _-_, _≤_, _<_}
 use native.Mathlib.Nat.{add-zero}
 use native.Mathlib.Omega.{arith}
 use native.Mathlib.Decide.{decLe}
 use lib.IntN.{ℤ, pos}
-use lib.ListN.{take-append-drop, length, getD, take, drop, length-append, length-take, length-drop, List·getD-append}
+use lib.ListN.{take-append-drop, length, getD, take, drop, length-append, length-drop, List·getD-append}
 use lib.Seq.{take-at, drop-at, length-take-le, getD-take, getD-drop, getD-append-add, getD-at, ext-getD}
 use Rattle.matrix.specs.Shape.{rowStart, row, columns}
-use Rattle.branching.proofs.Numbers.{length-map-numbers, map-numbers}
+use Rattle.matrix.proofs.Choice.{length-map-numbers, map-numbers}
+use Rattle.matrix.proofs.Row.{length-row, row-same}
+use Rattle.branching.specs.Hanging.{noBranches}
 use Rattle.wagner.specs.Nodes.{rowOf}
 use Rattle.wagner.specs.Matrix.{rowsOf, withRow, withRows, matrixAfter}
 use Rattle.wagner.specs.Build.{Built}
 use Rattle.wagner.proofs.Lengths.{OfLength}
 use Rattle.wagner.proofs.BuildLength.{Sound}
-use Rattle.branching.specs.Hanging.{noBranches}
 
 -- a matrix, a node v and a row r that fits into its row
 module _ (codes : List ℤ) (v : ℕ) (r : List ℤ) (fits : rowStart v + length r ≤ length codes) where
@@ -55,26 +56,6 @@ module _ (codes : List ℤ) (v : ℕ) (r : List ℤ) (fits : rowStart v + length
       ∙ getD-append-add r last i (pos 0)
       ∙ getD-drop (rowStart v + length r) codes i (pos 0)
       ∙ ap (λ (k : ℕ). getD codes k (pos 0)) back
-
--- the row of node u: its length, and its codes
-pub length-row : (codes : List ℤ) (m u : ℕ) → length (row codes m u) ≡ min m (length codes - rowStart u)
-unfolding row
-length-row codes m u = simp (length-take, length-drop)
-
-pub row-code : (codes : List ℤ) (m u i : ℕ) → i < m → getD (row codes m u) i (pos 0) ≡ getD codes (rowStart u + i) (pos 0)
-unfolding row
-row-code codes m u i h = getD-take m (drop (rowStart u) codes) i (pos 0) h ∙ getD-drop (rowStart u) codes i (pos 0)
-
--- two matrices of one size have one row of node u if its codes are the same
-pub row-same : (old new : List ℤ) (m u : ℕ) → length new ≡ length old
-    → ((i : ℕ) → i < m → getD new (rowStart u + i) (pos 0) ≡ getD old (rowStart u + i) (pos 0)) → row new m u ≡ row old m u
-row-same old new m u size same =
-    ext-getD
-    (pos 0)
-    (row new m u)
-    (row old m u)
-    (length-row new m u ∙ ap (λ (k : ℕ). min m (k - rowStart u)) size ∙ sym (length-row old m u))
-    (λ i h. let l : i < m = omega (arith, length-row new m u) in row-code new m u i l ∙ same i l ∙ sym (row-code old m u i l))
 
 -- the row of another node stays
 pub withRow-other : (codes : List ℤ) (v : ℕ) (r : List ℤ) → rowStart v + length r ≤ length codes → length r ≤ columns
