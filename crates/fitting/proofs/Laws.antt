@@ -11,7 +11,6 @@ pub mod Chosen
 pub mod Order
 pub mod Three
 pub mod Range
-pub mod Sums
 pub mod Walks
 pub mod Shape
 pub mod OneTree

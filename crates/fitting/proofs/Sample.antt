@@ -9,7 +9,7 @@ use lib.ListN.{length}
 use lib.Signed.{_≤ℤ_}
 use Rattle.matrix.specs.Choice.{numbers}
 use Rattle.branching.specs.Ancestors.{ancestor, descendants}
-use Rattle.fitting.specs.Trees.{lowerNodes}
+use Rattle.branching.specs.Nodes.{otherNodes}
 use Rattle.fitting.specs.Assignments.{total, IsAssignment, Occurs}
 use Rattle.fitting.proofs.Examples.{rowsABCD, ancestorsABCD, printed}
 use Rattle.fitting.proofs.Laws.Walks.{Climbs, Branches}
@@ -40,14 +40,14 @@ only-ABCD (suc (suc (suc (suc (suc (suc (suc v))))))) h = absurd (omega arith)
 
 -- document 01's tree is a branching
 pub branches-ABCD : Branches 4 ancestorsABCD
-unfolding lowerNodes numbers descendants ancestor
+unfolding otherNodes numbers descendants ancestor
 branches-ABCD = record {
   several = omega arith;
   onlyNodes = only-ABCD;
   ofRow1 = refl;
-  ofTaxon = λ v p q. two-to-six (λ u. u ≤ 4 → length (descendants ancestorsABCD (lowerNodes 4) u) ≡ 0)
+  ofTaxon = λ v p q. two-to-six (λ u. u ≤ 4 → length (descendants ancestorsABCD (otherNodes 4) u) ≡ 0)
       (λ l. refl) (λ l. refl) (λ l. refl) (λ l. absurd (omega arith)) (λ l. absurd (omega arith)) v p (omega arith) q;
-  ofHtu = λ v p q. two-to-six (λ u. 4 < u → length (descendants ancestorsABCD (lowerNodes 4) u) ≡ 2)
+  ofHtu = λ v p q. two-to-six (λ u. 4 < u → length (descendants ancestorsABCD (otherNodes 4) u) ≡ 2)
       (λ l. absurd (omega arith)) (λ l. absurd (omega arith)) (λ l. absurd (omega arith)) (λ l. refl) (λ l. refl) v (omega arith) q p;
   climbs = two-to-six (λ u. (k : ℕ) × Climbs ancestorsABCD k u) (3, refl) (3, refl) (2, refl) (1, refl) (2, refl);
 }

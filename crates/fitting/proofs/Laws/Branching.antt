@@ -2,10 +2,8 @@
 use mathlib.Core.Path.{refl}
 use mathlib.Core.List.{List}
 use Prim.Native.Nat.{ℕ, zero, suc, _≤_}
-use Rattle.branching.specs.Nodes.{otherNodes}
 use Rattle.branching.specs.Growing.{descendantCount, ReachesRoot, root, up, Branching}
 use Rattle.branching.proofs.Whole.{growing-within, branching-root, branching-taxon, branching-htu, branching-reaches}
-use Rattle.fitting.specs.Trees.{lowerNodes}
 use Rattle.fitting.proofs.Laws.Walks.{Climbs, Branches}
 
 -- what reaches node 1 does so in some number of steps
@@ -15,7 +13,7 @@ reaches-steps (up v r) = let h = reaches-steps r in (suc (h .0), h .1)
 
 -- a branching of two taxa or more is one for the fitting
 pub branching-branches : (n : ℕ) (tree : List ℕ) → 2 ≤ n → Branching n tree → Branches n tree
-unfolding lowerNodes otherNodes descendantCount
+unfolding descendantCount
 branching-branches n tree two b =
     record {
       several = two;

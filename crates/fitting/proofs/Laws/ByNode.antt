@@ -7,9 +7,13 @@ use Prim.Native.Nat.{ℕ, zero, suc, _*_, _-_, _≤_, _<_}
 use native.Mathlib.Omega.{arith}
 use lib.IntN.{ℤ}
 use Rattle.matrix.specs.Choice.{numbers}
+use Rattle.matrix.proofs.Choice.{numbers-among, length-numbers}
 use Rattle.branching.specs.Ancestors.{ancestor, descendants}
+use Rattle.branching.specs.Nodes.{otherNodes}
+use Rattle.branching.proofs.Descendants.{mem-descendants}
+use Rattle.branching.proofs.Sums.{length-sum}
 use Rattle.fitting.specs.Sets.{Span, only, join, nearest, middle}
-use Rattle.fitting.specs.Trees.{Tree, tip, fork, treeAt, lowerNodes}
+use Rattle.fitting.specs.Trees.{Tree, tip, fork, treeAt}
 use Rattle.fitting.specs.Character.{valueAt, up}
 use Rattle.fitting.specs.Assignments.{character}
 use Rattle.fitting.specs.Fit.{chosenState, range}
@@ -17,12 +21,11 @@ use Rattle.fitting.proofs.Laws.Ends.{either}
 use Rattle.fitting.proofs.Laws.Nodes.{Part, whole, left, right}
 use Rattle.fitting.proofs.Laws.Downward.{downward, handed, downward-part, stateFrom, rangeFrom, outsideLeft, outsideRight}
 use Rattle.fitting.proofs.Laws.Downward.{ranges-downward}
-use Rattle.fitting.proofs.Laws.Sums.{sum-count}
 use Rattle.fitting.proofs.Laws.Walks.{Climbs, Branches, never-climbs}
 use Rattle.fitting.proofs.Laws.Chosen.{fit-downward}
 use Rattle.fitting.proofs.Laws.OneTree.{chosenState-fit, chosenState-taxon, range-tree}
 use Rattle.fitting.proofs.Laws.Shape.{Made, TreeOf, tree-of, size, size-fork, Two, two-of, two-given, none-in, treeTo-taxon}
-use Rattle.fitting.proofs.Laws.Shape.{treeTo-htu, treeTo-whole, descendants-has, numbers-has}
+use Rattle.fitting.proofs.Laws.Shape.{treeTo-htu, treeTo-whole}
 
 -- the parts of a part, and of a fork
 part-left : (v : ℕ) (a b t : Tree) → Part (fork v a b) t → Part a t
@@ -76,35 +79,37 @@ module _ (n : ℕ) (ancestors : List ℕ) (branches : Branches n ancestors) wher
 
   -- the tree of a node
   abbrev pub treeFrom : ℕ → Tree
-  treeFrom v = treeAt ancestors (lowerNodes n) (2 * n) v
+  treeFrom v = treeAt ancestors (otherNodes n) (2 * n) v
 
   -- a node stands among the descendants of its ancestor
-  among : (v : ℕ) → 2 ≤ v → v ≤ 2 * n - 2 → List·Memᴰ v (descendants ancestors (lowerNodes n) (ancestor ancestors v))
-  unfolding lowerNodes
-  among v p h = descendants-has ancestors (numbers 2 (2 * n - 3)) v (numbers-has 2 (2 * n - 3) v p (omega (arith, branches .several)))
+  among : (v : ℕ) → 2 ≤ v → v ≤ 2 * n - 2 → List·Memᴰ v (descendants ancestors (otherNodes n) (ancestor ancestors v))
+  unfolding otherNodes
+  among v p h =
+      mem-descendants ancestors (numbers 2 (2 * n - 3)) (ancestor ancestors v) v .1
+      (numbers-among 2 (2 * n - 3) v p (omega (arith, branches .several)), refl)
 
   -- the node that hangs from row 1 has the whole tree
   first-whole : (v : ℕ) → 2 ≤ v → v ≤ 2 * n - 2 → ancestor ancestors v ≡ 1 → treeFrom v ≡ treeOf .tree
   first-whole v p h e = ap treeFrom (List·Memᴰ·eq-of-singleton m) ∙ treeOf .fromRoot
     where
       m : List·Memᴰ v (treeOf .root ∷ [])
-      m = subst (λ us. List·Memᴰ v us) (treeOf .ofRow1) (subst (λ u. List·Memᴰ v (descendants ancestors (lowerNodes n) u)) e (among v p h))
+      m = subst (λ us. List·Memᴰ v us) (treeOf .ofRow1) (subst (λ u. List·Memᴰ v (descendants ancestors (otherNodes n) u)) e (among v p h))
 
   -- a part of the tree that is a node's tree as far as it goes is the node's tree
-  part-whole : (depth v : ℕ) → 2 ≤ v → v ≤ 2 * n - 2 → InTree (treeAt ancestors (lowerNodes n) depth v) →
-      treeFrom v ≡ treeAt ancestors (lowerNodes n) depth v
+  part-whole : (depth v : ℕ) → 2 ≤ v → v ≤ 2 * n - 2 → InTree (treeAt ancestors (otherNodes n) depth v) →
+      treeFrom v ≡ treeAt ancestors (otherNodes n) depth v
   part-whole depth v p h part = treeTo-whole n ancestors branches depth (2 * n) v p h
-      (part-made n ancestors (treeAt ancestors (lowerNodes n) depth v) (treeOf .tree) part (treeOf .isMade))
-      (omega (arith, part-size (treeAt ancestors (lowerNodes n) depth v) (treeOf .tree) part, tree-size))
+      (part-made n ancestors (treeAt ancestors (otherNodes n) depth v) (treeOf .tree) part (treeOf .isMade))
+      (omega (arith, part-size (treeAt ancestors (otherNodes n) depth v) (treeOf .tree) part, tree-size))
     where
       tree-size : size (treeOf .tree) ≤ 2 * n
-      tree-size = unfold size lowerNodes in omega (arith, treeOf .sums (λ v. 1), sum-count 2 (2 * n - 3))
+      tree-size = unfold size otherNodes in omega (arith, treeOf .sums (λ v. 1), length-sum (numbers 2 (2 * n - 3)), length-numbers 2 (2 * n - 3))
 
   -- a and b are the two descendants of HTU u
   pub record Htu (u a b : ℕ) : Type 0 where
     pub above : n < u
     pub last : u ≤ 2 * n - 2
-    pub are : descendants ancestors (lowerNodes n) u ≡ a ∷ b ∷ []
+    pub are : descendants ancestors (otherNodes n) u ≡ a ∷ b ∷ []
 
   -- an HTU is no taxon
   htu-second : (u a b : ℕ) → Htu u a b → 2 ≤ u
@@ -130,7 +135,7 @@ module _ (n : ℕ) (ancestors : List ℕ) (branches : Branches n ancestors) wher
 
       taxon : u ≤ n → ⊥
       taxon l = List·Memᴰ·not-nil
-          (subst (λ us. List·Memᴰ v us) (none-in (descendants ancestors (lowerNodes n) u) (branches .ofTaxon u (node .0) l)) (among v p h))
+          (subst (λ us. List·Memᴰ v us) (none-in (descendants ancestors (otherNodes n) u) (branches .ofTaxon u (node .0) l)) (among v p h))
 
       htu : n < u → Hangs v
       htu l =
@@ -171,13 +176,13 @@ module _ (n : ℕ) (ancestors : List ℕ) (branches : Branches n ancestors) wher
       two = two-given n ancestors branches u a b (htu .are)
 
       A : Tree
-      A = treeAt ancestors (lowerNodes n) less a
+      A = treeAt ancestors (otherNodes n) less a
 
       B : Tree
-      B = treeAt ancestors (lowerNodes n) less b
+      B = treeAt ancestors (otherNodes n) less b
 
       step : treeFrom u ≡ fork u A B
-      step = ap (λ d. treeAt ancestors (lowerNodes n) d u) (omega (arith, branches .several))
+      step = ap (λ d. treeAt ancestors (otherNodes n) d u) (omega (arith, branches .several))
           ∙ treeTo-htu n ancestors branches less u two
 
       l : InTree A
@@ -217,7 +222,7 @@ module _ (n : ℕ) (ancestors : List ℕ) (branches : Branches n ancestors) wher
 
   -- the tree of a taxon is a tip
   pub treeFrom-taxon : (v : ℕ) → 2 ≤ v → v ≤ n → treeFrom v ≡ tip v
-  treeFrom-taxon v p l = ap (λ d. treeAt ancestors (lowerNodes n) d v) (omega (arith, branches .several))
+  treeFrom-taxon v p l = ap (λ d. treeAt ancestors (otherNodes n) d v) (omega (arith, branches .several))
       ∙ treeTo-taxon n ancestors branches (2 * n - 1) v p l
 
   -- the tree of an HTU is the fork of its descendants' trees

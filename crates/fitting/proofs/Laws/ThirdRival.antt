@@ -6,9 +6,11 @@ use native.Mathlib.Omega.{arith}
 use lib.IntN.{ℤ}
 use Rattle.matrix.specs.Choice.{numbers}
 use Rattle.branching.specs.Ancestors.{descendants}
-use Rattle.fitting.specs.Trees.{lowerNodes, treesBelow}
+use Rattle.branching.specs.Nodes.{otherNodes}
+use Rattle.branching.specs.Branches.{sumOver}
+use Rattle.fitting.specs.Trees.{treesBelow}
 use Rattle.fitting.specs.Character.{valueAt}
-use Rattle.fitting.specs.Assignments.{sum, total}
+use Rattle.fitting.specs.Assignments.{total}
 use Rattle.fitting.specs.Fit.{chosenState, fittedTotal}
 use Rattle.fitting.specs.Rival.{FitIsLeast}
 use Rattle.fitting.proofs.Laws.Walks.{Branches}
@@ -22,8 +24,8 @@ third-rival n m ancestors rows branches = fit-is-least n m ancestors rows (branc
 -- row 1 alone: no branch, no HTU, and a total of 0
 pub third-rival-alone : (m : ℕ) (ancestors : List ℕ) (rows : List (List ℤ)) → FitIsLeast ancestors rows 1 m
 third-rival-alone m ancestors rows = record {
-  assigns = record { keeps = λ v j p q r s. unfold chosenState treesBelow lowerNodes numbers descendants flatMap valueAt in refl };
+  assigns = record { keeps = λ v j p q r s. unfold chosenState treesBelow otherNodes numbers descendants flatMap valueAt in refl };
   totals = unfold fittedTotal in refl;
-  least = λ states h. unfold fittedTotal total lowerNodes numbers sum in omega arith;
+  least = λ states h. unfold fittedTotal total otherNodes numbers sumOver in omega arith;
   ranges = λ v j s p q r l. absurd (omega arith);
 }
