@@ -11,6 +11,7 @@ pub mod Chosen
 pub mod Order
 pub mod Three
 pub mod Range
+pub mod Branching
 pub mod Walks
 pub mod Shape
 pub mod OneTree
@@ -18,4 +19,3 @@ pub mod Matrix
 pub mod ThirdRival
 pub mod ByNode
 pub mod Values
-pub mod Branching

@@ -10,6 +10,7 @@ use Rattle.matrix.specs.Choice.{numbers}
 use Rattle.matrix.proofs.Choice.{numbers-among, length-numbers}
 use Rattle.branching.specs.Ancestors.{ancestor, descendants}
 use Rattle.branching.specs.Nodes.{otherNodes}
+use Rattle.branching.specs.Growing.{Grown}
 use Rattle.branching.proofs.Descendants.{mem-descendants}
 use Rattle.branching.proofs.Sums.{length-sum}
 use Rattle.fitting.specs.Sets.{Span, only, join, nearest, middle}
@@ -21,11 +22,11 @@ use Rattle.fitting.proofs.Laws.Ends.{either}
 use Rattle.fitting.proofs.Laws.Nodes.{Part, whole, left, right}
 use Rattle.fitting.proofs.Laws.Downward.{downward, handed, downward-part, stateFrom, rangeFrom, outsideLeft, outsideRight}
 use Rattle.fitting.proofs.Laws.Downward.{ranges-downward}
-use Rattle.fitting.proofs.Laws.Walks.{Climbs, Branches, never-climbs}
 use Rattle.fitting.proofs.Laws.Chosen.{fit-downward}
 use Rattle.fitting.proofs.Laws.OneTree.{chosenState-fit, chosenState-taxon, range-tree}
 use Rattle.fitting.proofs.Laws.Shape.{Made, TreeOf, tree-of, size, size-fork, Two, two-of, two-given, none-in, treeTo-taxon}
 use Rattle.fitting.proofs.Laws.Shape.{treeTo-htu, treeTo-whole}
+use Rattle.fitting.proofs.Laws.Branching.{Climbs, only-nodes, row1-or-node, none-below, steps-up}
 
 -- the parts of a part, and of a fork
 part-left : (v : ℕ) (a b t : Tree) → Part (fork v a b) t → Part a t
@@ -68,10 +69,10 @@ part-made n ancestors s t whole m = m
 part-made n ancestors s t (left v a b p) m = part-made n ancestors s a p (m .4)
 part-made n ancestors s t (right v a b p) m = part-made n ancestors s b p (m .5)
 
-module _ (n : ℕ) (ancestors : List ℕ) (branches : Branches n ancestors) where
+module _ (n : ℕ) (ancestors : List ℕ) (grown : Grown n n ancestors) where
   -- the tree of the branching
   abbrev treeOf : TreeOf n ancestors
-  treeOf = tree-of n ancestors branches
+  treeOf = tree-of n ancestors grown
 
   -- a part of the branching's tree
   abbrev InTree : Tree → Type 0
@@ -86,7 +87,7 @@ module _ (n : ℕ) (ancestors : List ℕ) (branches : Branches n ancestors) wher
   unfolding otherNodes
   among v p h =
       mem-descendants ancestors (numbers 2 (2 * n - 3)) (ancestor ancestors v) v .1
-      (numbers-among 2 (2 * n - 3) v p (omega (arith, branches .several)), refl)
+      (numbers-among 2 (2 * n - 3) v p (omega (arith, grown .atLeastTwo)), refl)
 
   -- the node that hangs from row 1 has the whole tree
   first-whole : (v : ℕ) → 2 ≤ v → v ≤ 2 * n - 2 → ancestor ancestors v ≡ 1 → treeFrom v ≡ treeOf .tree
@@ -98,7 +99,7 @@ module _ (n : ℕ) (ancestors : List ℕ) (branches : Branches n ancestors) wher
   -- a part of the tree that is a node's tree as far as it goes is the node's tree
   part-whole : (depth v : ℕ) → 2 ≤ v → v ≤ 2 * n - 2 → InTree (treeAt ancestors (otherNodes n) depth v) →
       treeFrom v ≡ treeAt ancestors (otherNodes n) depth v
-  part-whole depth v p h part = treeTo-whole n ancestors branches depth (2 * n) v p h
+  part-whole depth v p h part = treeTo-whole n ancestors grown depth (2 * n) v p h
       (part-made n ancestors (treeAt ancestors (otherNodes n) depth v) (treeOf .tree) part (treeOf .isMade))
       (omega (arith, part-size (treeAt ancestors (otherNodes n) depth v) (treeOf .tree) part, tree-size))
     where
@@ -113,7 +114,7 @@ module _ (n : ℕ) (ancestors : List ℕ) (branches : Branches n ancestors) wher
 
   -- an HTU is no taxon
   htu-second : (u a b : ℕ) → Htu u a b → 2 ≤ u
-  htu-second u a b htu = omega (arith, htu .above, branches .several)
+  htu-second u a b htu = omega (arith, htu .above, grown .atLeastTwo)
 
   -- a node hangs from row 1, or from an HTU beside a sister
   pub data Hangs (v : ℕ) : Type 0 where
@@ -121,38 +122,28 @@ module _ (n : ℕ) (ancestors : List ℕ) (branches : Branches n ancestors) wher
     onLeft : (sister : ℕ) → Htu (ancestor ancestors v) v sister → Hangs v
     onRight : (sister : ℕ) → Htu (ancestor ancestors v) sister v → Hangs v
 
-  -- a node from which going up reaches row 1 hangs so
-  hangs-climbs : (k v : ℕ) → 2 ≤ v → v ≤ 2 * n - 2 → Climbs ancestors (suc k) v → Hangs v
-  hangs-climbs zero v p h c = fromRow1 c
-  hangs-climbs (suc k) v p h c = either u n (λ l. absurd (taxon l)) htu
+  -- every node below row 1 hangs so
+  pub hangs : (v : ℕ) → 2 ≤ v → v ≤ 2 * n - 2 → Hangs v
+  hangs v p h = ⊎-elim fromRow1 (λ a. below (only-nodes n ancestors grown u a)) (row1-or-node n ancestors grown v p h)
     where
       u : ℕ
       u = ancestor ancestors v
 
-      node : (2 ≤ u) × (u ≤ 2 * n - 2)
-      node = branches .onlyNodes u (either 1 (ancestor ancestors u) (λ l. l)
-          (λ l. absurd (never-climbs n ancestors branches k (subst (λ w. Climbs ancestors k w) (omega arith) c))))
+      taxon : 2 ≤ u → u ≤ n → ⊥
+      taxon q l = List·Memᴰ·not-nil
+          (subst (λ us. List·Memᴰ v us) (none-in (descendants ancestors (otherNodes n) u) (none-below n ancestors grown u q l)) (among v p h))
 
-      taxon : u ≤ n → ⊥
-      taxon l = List·Memᴰ·not-nil
-          (subst (λ us. List·Memᴰ v us) (none-in (descendants ancestors (otherNodes n) u) (branches .ofTaxon u (node .0) l)) (among v p h))
-
-      htu : n < u → Hangs v
-      htu l =
-          let two = two-of n ancestors branches u l (node .1) in
+      htu : n < u → u ≤ 2 * n - 2 → Hangs v
+      htu l q =
+          let two = two-of n ancestors grown u l q in
           ⊎-elim
-          (λ e. onLeft (two .right) (record { above = l; last = node .1; are = two .are ∙ ap (λ w. w ∷ two .right ∷ []) (sym e) }))
+          (λ e. onLeft (two .right) (record { above = l; last = q; are = two .are ∙ ap (λ w. w ∷ two .right ∷ []) (sym e) }))
           (λ m. onRight (two .left)
-          (record { above = l; last = node .1; are = two .are ∙ ap (λ w. two .left ∷ w ∷ []) (sym (List·Memᴰ·eq-of-singleton m)) }))
+          (record { above = l; last = q; are = two .are ∙ ap (λ w. two .left ∷ w ∷ []) (sym (List·Memᴰ·eq-of-singleton m)) }))
           (List·Memᴰ·cases-cons (subst (λ us. List·Memᴰ v us) (two .are) (among v p h)))
 
-  -- every node below row 1 hangs so
-  pub hangs : (v : ℕ) → 2 ≤ v → v ≤ 2 * n - 2 → Hangs v
-  hangs v p h = let c = branches .climbs v p h in go (c .0) (c .1)
-    where
-      go : (k : ℕ) → Climbs ancestors k v → Hangs v
-      go zero c = absurd (omega arith)
-      go (suc k) c = hangs-climbs k v p h c
+      below : (2 ≤ u) × (u ≤ 2 * n - 2) → Hangs v
+      below node = either u n (λ l. absurd (taxon (node .0) l)) (λ l. htu l (node .1))
 
   -- if an HTU's tree is a part of the whole, so are those of its descendants, and it is their fork
   record Split (u a b : ℕ) : Type 0 where
@@ -172,8 +163,8 @@ module _ (n : ℕ) (ancestors : List ℕ) (branches : Branches n ancestors) wher
       less : ℕ
       less = 2 * n - 1
 
-      two : Two n ancestors branches u
-      two = two-given n ancestors branches u a b (htu .are)
+      two : Two n ancestors grown u
+      two = two-given n ancestors grown u a b (htu .are)
 
       A : Tree
       A = treeAt ancestors (otherNodes n) less a
@@ -182,8 +173,8 @@ module _ (n : ℕ) (ancestors : List ℕ) (branches : Branches n ancestors) wher
       B = treeAt ancestors (otherNodes n) less b
 
       step : treeFrom u ≡ fork u A B
-      step = ap (λ d. treeAt ancestors (otherNodes n) d u) (omega (arith, branches .several))
-          ∙ treeTo-htu n ancestors branches less u two
+      step = ap (λ d. treeAt ancestors (otherNodes n) d u) (omega (arith, grown .atLeastTwo))
+          ∙ treeTo-htu n ancestors grown less u two
 
       l : InTree A
       l = part-left u A B (treeOf .tree) (subst InTree step part)
@@ -210,11 +201,11 @@ module _ (n : ℕ) (ancestors : List ℕ) (branches : Branches n ancestors) wher
   -- by the number of steps up to row 1
   part-climbs : (k v : ℕ) → 2 ≤ v → v ≤ 2 * n - 2 → Climbs ancestors (suc k) v → InTree (treeFrom v)
   part-climbs zero v p h c = subst InTree (sym (first-whole v p h c)) whole
-  part-climbs (suc k) v p h c = part-hangs v p h (hangs-climbs (suc k) v p h c) (λ q r. part-climbs k (ancestor ancestors v) q r c)
+  part-climbs (suc k) v p h c = part-hangs v p h (hangs v p h) (λ q r. part-climbs k (ancestor ancestors v) q r c)
 
   -- for every node below row 1
   part-of : (v : ℕ) → 2 ≤ v → v ≤ 2 * n - 2 → InTree (treeFrom v)
-  part-of v p h = let c = branches .climbs v p h in go (c .0) (c .1)
+  part-of v p h = let c = steps-up n ancestors grown v p h in go (c .0) (c .2)
     where
       go : (k : ℕ) → Climbs ancestors k v → InTree (treeFrom v)
       go zero c = absurd (omega arith)
@@ -222,8 +213,8 @@ module _ (n : ℕ) (ancestors : List ℕ) (branches : Branches n ancestors) wher
 
   -- the tree of a taxon is a tip
   pub treeFrom-taxon : (v : ℕ) → 2 ≤ v → v ≤ n → treeFrom v ≡ tip v
-  treeFrom-taxon v p l = ap (λ d. treeAt ancestors (otherNodes n) d v) (omega (arith, branches .several))
-      ∙ treeTo-taxon n ancestors branches (2 * n - 1) v p l
+  treeFrom-taxon v p l = ap (λ d. treeAt ancestors (otherNodes n) d v) (omega (arith, grown .atLeastTwo))
+      ∙ treeTo-taxon n ancestors grown (2 * n - 1) v p l
 
   -- the tree of an HTU is the fork of its descendants' trees
   module _ (u a b : ℕ) (htu : Htu u a b) where
@@ -331,7 +322,7 @@ module _ (n : ℕ) (ancestors : List ℕ) (branches : Branches n ancestors) wher
             let q = first-handed (stateFrom code) (stateFrom code) (code 1) v (htu-second v c d htu) (htu .last) e in
             state-handed v c d htu (chosenState ancestors rows n u j) (q .0)
             (q .1 ∙ sym (ap (λ w. chosenState ancestors rows n w j) e
-            ∙ chosenState-taxon n ancestors rows treeOf 1 j (omega (arith, branches .several))))
+            ∙ chosenState-taxon n ancestors rows treeOf 1 j (omega (arith, grown .atLeastTwo))))
         go (onLeft sister up) =
             let q = hands-left u v sister up (stateFrom code) (stateFrom code) (code 1) (htu-part u v sister up) in
             state-handed v c d htu (chosenState ancestors rows n u j) (q .0)

@@ -10,19 +10,21 @@ use lib.IntN.{ℤ}
 use lib.ListN.{length}
 use borrow.Author.Tests.{eq-eqb}
 use Rattle.matrix.specs.Choice.{numbers}
-use Rattle.matrix.proofs.Choice.{numbers-within, length-numbers}
+use Rattle.matrix.proofs.Choice.{numbers-within}
 use Rattle.difference.specs.Rows.{apart}
 use Rattle.branching.specs.Ancestors.{ancestor, descendants}
 use Rattle.branching.specs.Nodes.{otherNodes}
 use Rattle.branching.specs.Branches.{sumOver}
-use Rattle.branching.proofs.Sums.{pick, sum-outside, sum-one, length-sum}
+use Rattle.branching.specs.Growing.{Grown}
+use Rattle.branching.proofs.Sums.{pick, sum-outside, sum-one}
 use Rattle.branching.proofs.Descendants.{mem-descendants}
 use Rattle.fitting.specs.Trees.{Tree, tip, fork, above, treeAt, treesBelow}
 use Rattle.fitting.proofs.Laws.Ends.{either}
 use Rattle.fitting.proofs.Laws.Order.{apart-comm}
 use Rattle.fitting.proofs.Laws.Basic.{cost}
 use Rattle.fitting.proofs.Laws.Nodes.{has, Distinct, top}
-use Rattle.fitting.proofs.Laws.Walks.{Climbs, Branches, Within, some-depth, sumTree, sumTree-all, climbs-unique}
+use Rattle.fitting.proofs.Laws.Walks.{sumTree, sumTree-all, climbs-unique}
+use Rattle.fitting.proofs.Laws.Branching.{Climbs, one-below, none-below, two-below, steps-up}
 
 -- how often node w stands in a tree
 unfoldable pub count : ℕ → Tree → ℕ
@@ -149,7 +151,7 @@ two-in (a ∷ []) e = absurd (omega arith)
 two-in (a ∷ b ∷ []) e = (a, b, refl)
 two-in (a ∷ b ∷ c ∷ us) e = absurd (omega arith)
 
-module _ (n : ℕ) (ancestors : List ℕ) (branches : Branches n ancestors) where
+module _ (n : ℕ) (ancestors : List ℕ) (grown : Grown n n ancestors) where
   -- a descendant of u is a node below row 1 with ancestor u
   pub record Descends (u a : ℕ) : Type 0 where
     pub from : ancestor ancestors a ≡ u
@@ -162,7 +164,7 @@ module _ (n : ℕ) (ancestors : List ℕ) (branches : Branches n ancestors) wher
   descends-of u a m =
       let r = mem-descendants ancestors (numbers 2 (2 * n - 3)) u a .0 m in
       let s = numbers-within 2 (2 * n - 3) a (r .0) in
-      record { from = r .1; second = s .0; last = omega (arith, s .1, branches .several) }
+      record { from = r .1; second = s .0; last = omega (arith, s .1, grown .atLeastTwo) }
 
   -- the two descendants of an HTU
   pub record Two (u : ℕ) : Type 0 where
@@ -184,7 +186,7 @@ module _ (n : ℕ) (ancestors : List ℕ) (branches : Branches n ancestors) wher
 
   -- every HTU has two
   pub two-of : (u : ℕ) → n < u → u ≤ 2 * n - 2 → Two u
-  two-of u l h = let two = two-in (descendants ancestors (otherNodes n) u) (branches .ofHtu u l h) in two-given u (two .0) (two .1) (two .2)
+  two-of u l h = let two = two-in (descendants ancestors (otherNodes n) u) (two-below n ancestors grown u l h) in two-given u (two .0) (two .1) (two .2)
 
   -- the tree of a node to some depth
   abbrev pub treeTo : ℕ → ℕ → Tree
@@ -194,7 +196,7 @@ module _ (n : ℕ) (ancestors : List ℕ) (branches : Branches n ancestors) wher
   pub treeTo-taxon : (depth u : ℕ) → 2 ≤ u → u ≤ n → treeTo (suc depth) u ≡ tip u
   unfolding treeAt above
   treeTo-taxon depth u p l = ap (λ us. above u (map (treeTo depth) us))
-      (none-in (descendants ancestors (otherNodes n) u) (branches .ofTaxon u p l))
+      (none-in (descendants ancestors (otherNodes n) u) (none-below n ancestors grown u p l))
 
   -- an HTU's
   pub treeTo-htu : (depth u : ℕ) (two : Two u) → treeTo (suc depth) u ≡ fork u (treeTo depth (two .left)) (treeTo depth (two .right))
@@ -206,13 +208,12 @@ module _ (n : ℕ) (ancestors : List ℕ) (branches : Branches n ancestors) wher
   top-descends depth u a d = ap (ancestor ancestors) (top-treeAt ancestors (otherNodes n) depth a) ∙ d .from
 
   -- the tree of a node, if it goes as far down as there are nodes
-  made : (all : ℕ) → Within n ancestors branches all → (depth u steps : ℕ) → 2 ≤ u → u ≤ 2 * n - 2 → Climbs ancestors steps u →
-      all < steps + depth →
+  made : (depth u steps : ℕ) → 2 ≤ u → u ≤ 2 * n - 2 → Climbs ancestors steps u → 2 * n - 2 < steps + depth →
       Made n ancestors (treeTo depth u)
-  made all within zero u steps p h c e =
-      let k = within u p h in
-      absurd (omega (arith, climbs-unique n ancestors branches steps (k .0) u c (k .2), k .1))
-  made all within (suc depth) u steps p h c e = either u n
+  made zero u steps p h c e =
+      let k = steps-up n ancestors grown u p h in
+      absurd (omega (arith, climbs-unique n ancestors grown steps (k .0) u c (k .2), k .1))
+  made (suc depth) u steps p h c e = either u n
       (λ l. rw (treeTo-taxon depth u p l) (p, l))
       (λ l.
       let two = two-of u l h in
@@ -223,8 +224,8 @@ module _ (n : ℕ) (ancestors : List ℕ) (branches : Branches n ancestors) wher
         h,
         top-descends depth u (two .left) da,
         top-descends depth u (two .right) db,
-        made all within depth (two .left) (suc steps) (da .second) (da .last) (rw (da .from) c) (omega arith),
-        made all within depth (two .right) (suc steps) (db .second) (db .last) (rw (db .from) c) (omega arith),
+        made depth (two .left) (suc steps) (da .second) (da .last) (rw (da .from) c) (omega arith),
+        made depth (two .right) (suc steps) (db .second) (db .last) (rw (db .from) c) (omega arith),
       ))
 
   -- it is the whole tree of the node already if it goes down as many steps as the tree has nodes
@@ -273,48 +274,36 @@ count-numbers first number w = either first w
     (λ p. omega (arith, sum-outside first number w (λ v. 1) (λ r s. omega arith)))
 
 -- every branching of two taxa or more has such a tree
-pub tree-of : (n : ℕ) (ancestors : List ℕ) → Branches n ancestors → TreeOf n ancestors
-tree-of n ancestors branches = record {
+pub tree-of : (n : ℕ) (ancestors : List ℕ) → Grown n n ancestors → TreeOf n ancestors
+tree-of n ancestors grown = record {
   tree = t;
   root = one .0;
   ofRow1 = one .1;
-  fromRoot = whole;
-  below = unfold treesBelow in ap (map (treeTo n ancestors branches (2 * n))) (one .1) ∙ ap (λ x. x ∷ []) whole;
-  fromRow1 = top-descends n ancestors branches deep 1 (one .0) first;
-  isMade = isMade′;
+  fromRoot = refl;
+  below = unfold treesBelow in ap (map (treeTo n ancestors grown (2 * n))) (one .1);
+  fromRow1 = top-descends n ancestors grown (2 * n) 1 (one .0) first;
+  isMade = made n ancestors grown (2 * n) (one .0) 1 (first .second) (first .last) (first .from) (omega arith);
   isDistinct = distinct-of t (λ w. unfold count otherNodes in omega
       (arith, sums′ (λ v. pick (eqb v w) 1), count-numbers 2 (2 * n - 3) w));
   hasAll = λ v p h. count-has t v
       (unfold count otherNodes in
-      omega (arith, sums′ (λ u. pick (eqb u v) 1), sum-one 2 (2 * n - 3) v (λ u. 1) p (omega (arith, branches .several))));
+      omega (arith, sums′ (λ u. pick (eqb u v) 1), sum-one 2 (2 * n - 3) v (λ u. 1) p (omega (arith, grown .atLeastTwo))));
   sums = sums′;
 }
   where
     one : (a : ℕ) × (descendants ancestors (otherNodes n) 1 ≡ a ∷ [])
-    one = one-in (descendants ancestors (otherNodes n) 1) (branches .ofRow1)
-
-    deep : ℕ
-    deep = some-depth n ancestors branches .0
+    one = one-in (descendants ancestors (otherNodes n) 1) (one-below n ancestors grown)
 
     t : Tree
-    t = treeTo n ancestors branches deep (one .0)
+    t = treeTo n ancestors grown (2 * n) (one .0)
 
-    first : Descends n ancestors branches 1 (one .0)
-    first = descends-of n ancestors branches 1 (one .0) (subst (λ us. List·Memᴰ (one .0) us) (sym (one .1)) (List·Memᴰ·head refl))
-
-    isMade′ : Made n ancestors t
-    isMade′ = made n ancestors branches deep (some-depth n ancestors branches .1) deep (one .0) 1 (first .second) (first .last)
-        (first .from) (omega arith)
+    first : Descends n ancestors grown 1 (one .0)
+    first = descends-of n ancestors grown 1 (one .0) (subst (λ us. List·Memᴰ (one .0) us) (sym (one .1)) (List·Memᴰ·head refl))
 
     sums′ : (q : ℕ → ℕ) → sumTree q t ≡ sumOver q (otherNodes n)
     sums′ q = alone
-        ∙ ap (λ us. sumOver (λ a. sumTree q (treeTo n ancestors branches deep a)) us) (sym (one .1))
-        ∙ sumTree-all n ancestors branches deep (some-depth n ancestors branches .1) q
+        ∙ ap (λ us. sumOver (λ a. sumTree q (treeTo n ancestors grown (2 * n) a)) us) (sym (one .1))
+        ∙ sumTree-all n ancestors grown (2 * n) (omega arith) q
       where
-        alone : sumTree q t ≡ sumOver (λ a. sumTree q (treeTo n ancestors branches deep a)) (one .0 ∷ [])
+        alone : sumTree q t ≡ sumOver (λ a. sumTree q (treeTo n ancestors grown (2 * n) a)) (one .0 ∷ [])
         alone = unfold sumOver in omega arith
-
-    -- 2n steps down are enough, because the tree has 2n-3 nodes
-    whole : treeTo n ancestors branches (2 * n) (one .0) ≡ t
-    whole = treeTo-whole n ancestors branches deep (2 * n) (one .0) (first .second) (first .last) isMade′
-        (unfold size otherNodes in omega (arith, sums′ (λ v. 1), length-sum (numbers 2 (2 * n - 3)), length-numbers 2 (2 * n - 3)))
