@@ -1,5 +1,4 @@
 -- The laws of fitting.
-pub mod Shift
 pub mod Ends
 pub mod Sets
 pub mod Basic

@@ -7,10 +7,10 @@ use native.Mathlib.Omega.{arith}
 use lib.IntN.{ℤ}
 use lib.Signed.{_≤ℤ_, ≤ℤ-refl}
 use Rattle.difference.specs.Rows.{apart, lower, higher}
+use Rattle.difference.proofs.Laws.Codes.{apart-sym}
+use Rattle.difference.proofs.Laws.Places.{place, apart-place, lower-place, higher-place, le-place, place-le, everywhere}
 use Rattle.fitting.specs.Sets.{Span, only, join, nearest}
 use Rattle.fitting.proofs.Laws.Ends.{either-side, join-apart, in-join, nearest-apart}
-use Rattle.fitting.proofs.Laws.Order.{apart-comm}
-use Rattle.fitting.proofs.Laws.Shift.{place, apart-place, lower-place, higher-place, le-place, place-le, everywhere}
 
 -- a set has at least one member
 pub record Nonempty (a : Span) : Type 0 where
@@ -181,4 +181,4 @@ offset-nearest a b = everywhere
 pub gap-only : (s : ℤ) (a : Span) → Nonempty a → gap a (only s) ≡ offset s a
 unfolding only
 gap-only s a p = sym (offset-nearest a (only s) p (only-nonempty s)) ∙ offset-only (nearest s a) s
-    ∙ unfold offset in apart-comm (nearest s a) s
+    ∙ unfold offset in apart-sym (nearest s a) s

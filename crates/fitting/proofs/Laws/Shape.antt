@@ -12,6 +12,7 @@ use borrow.Author.Tests.{eq-eqb}
 use Rattle.matrix.specs.Choice.{numbers}
 use Rattle.matrix.proofs.Choice.{numbers-within}
 use Rattle.difference.specs.Rows.{apart}
+use Rattle.difference.proofs.Laws.Codes.{apart-sym}
 use Rattle.branching.specs.Ancestors.{ancestor, descendants}
 use Rattle.branching.specs.Nodes.{otherNodes}
 use Rattle.branching.specs.Branches.{sumOver}
@@ -20,7 +21,6 @@ use Rattle.branching.proofs.Sums.{pick, sum-outside, sum-one}
 use Rattle.branching.proofs.Descendants.{mem-descendants}
 use Rattle.fitting.specs.Trees.{Tree, tip, fork, above, treeAt, treesBelow}
 use Rattle.fitting.proofs.Laws.Ends.{either}
-use Rattle.fitting.proofs.Laws.Order.{apart-comm}
 use Rattle.fitting.proofs.Laws.Basic.{cost}
 use Rattle.fitting.proofs.Laws.Nodes.{has, Distinct, top}
 use Rattle.fitting.proofs.Laws.Walks.{sumTree, sumTree-all, climbs-unique}
@@ -111,11 +111,11 @@ Made n ancestors (fork v a b) =
 pub cost-sumTree : (n : ℕ) (ancestors : List ℕ) (f : ℕ → ℤ) (y : ℤ) (t : Tree) → Made n ancestors t → f (ancestor ancestors (top t)) ≡ y →
     cost f y t ≡ sumTree (λ v. apart (f v) (f (ancestor ancestors v))) t
 unfolding cost sumTree top
-cost-sumTree n ancestors f y (tip v) m e = rw (e, apart-comm y (f v))
+cost-sumTree n ancestors f y (tip v) m e = rw (e, apart-sym y (f v))
 cost-sumTree n ancestors f y (fork v a b) m e =
     rw (
       e,
-      apart-comm y (f v),
+      apart-sym y (f v),
       cost-sumTree n ancestors f (f v) a (m .4) (ap f (m .2)),
       cost-sumTree n ancestors f (f v) b (m .5) (ap f (m .3)),
     )
