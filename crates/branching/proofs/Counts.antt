@@ -3,14 +3,14 @@ use mathlib.Core.Path.{_≡_, refl, ap}
 use mathlib.Core.Logic.{inl, inr, ⊎-elim, _≢_}
 use mathlib.Core.List.{List, List·Memᴰ}
 use mathlib.Core.Bool.{true, not}
-use Prim.Native.Nat.{ℕ, suc, _≤_, _<_}
+use Prim.Native.Nat.{ℕ, suc, _*_, _-_, _≤_, _<_}
 use native.Mathlib.Omega.{arith}
 use Rattle.matrix.specs.Choice.{numbers}
 use Rattle.matrix.proofs.Choice.{length-numbers, numbers-within, numbers-among}
 use Rattle.branching.specs.Ancestors.{ancestor}
 use Rattle.branching.specs.Nodes.{inTree, keep, nodesIn, nodesOut, otherNodes, taxaPlaced}
 use Rattle.branching.specs.Growing.{descendantsWanted, Grown, Unplaced}
-use Rattle.branching.proofs.Nodes.{inTree-true, true-inTree, false-inTree, not-inTree, taxaPlaced-le, nodesIn-node}
+use Rattle.branching.proofs.Nodes.{false-inTree, not-inTree, taxaPlaced-le, nodesIn-node, inTree-iff}
 use Rattle.branching.proofs.Sums.{length-keep, sum-changed, counted}
 use Rattle.branching.proofs.Keep.{keep-mem, mem-keep, keep-split, keep-grows, length-mem, length-keep-le}
 use Rattle.branching.proofs.Descendants.{has-descendant}
@@ -22,7 +22,7 @@ all-placed n tree all v l h =
     ⊎-elim
     (λ back.
     let m = numbers-among 1 n v (omega arith) (omega arith) in
-    ⊎-elim (λ e. absurd (omega arith)) (λ a. a) (inTree-true tree v (back v m refl)))
+    ⊎-elim (λ e. absurd (omega arith)) (λ a. a) (inTree-iff tree v .0 (back v m refl)))
     (λ less. absurd (omega (arith, length-keep-le (λ v. true) (numbers 1 n), length-numbers 1 n)))
     (keep-grows (inTree tree) (λ v. true) (numbers 1 n) (λ v m t. refl))
 
@@ -40,7 +40,7 @@ unfolding taxaPlaced nodesIn
 taxaPlaced-more n old new b u comes same =
     let before = length-keep (inTree old) (numbers 1 n) in
     let after = length-keep (inTree new) (numbers 1 n) in
-    let b-in : counted (inTree new b) ≡ 1 = ap counted (true-inTree new b (inr comes)) in
+    let b-in : counted (inTree new b) ≡ 1 = ap counted (inTree-iff new b .1 (inr comes)) in
     let b-out : counted (inTree old b) ≡ 0 = ap counted (false-inTree old b (u .other) (u .free)) in
     let change =
     sum-changed (λ v. counted (inTree new v)) (λ v. counted (inTree old v)) b 1 n (omega arith) (omega arith) λ v m ne.
@@ -69,12 +69,18 @@ pub grown-node : (n k : ℕ) (tree : List ℕ) → Grown n k tree → (u : ℕ) 
 unfolding descendantsWanted nodesIn
 grown-node n k tree g =
     let h = has-descendant n tree 1 (rw (g .descendantsRight 1 (inl refl)) (omega arith)) in
-    (h .0, mem-keep (inTree tree) (otherNodes n) (h .0) (h .1) (true-inTree tree (h .0) (inr (omega (arith, h .2)))))
+    (h .0, mem-keep (inTree tree) (otherNodes n) (h .0) (h .1) (inTree-iff tree (h .0) .1 (inr (omega (arith, h .2)))))
 
 -- every node of it with an ancestor is one of nodes 2 to 2n-2
+pub grown-within : (n k : ℕ) (tree : List ℕ) → Grown n k tree → (v : ℕ) → 1 ≤ ancestor tree v → (2 ≤ v) × (v ≤ 2 * n - 2)
+grown-within n k tree g v a =
+    let within = g .nodesOnly v a in
+    let taxa = g .placed in
+    let most = taxaPlaced-le tree n in
+    omega arith
+
+-- and stands in the list of those in the tree
 pub grown-nodes : (n k : ℕ) (tree : List ℕ) → Grown n k tree → (v : ℕ) → 1 ≤ ancestor tree v → List·Memᴰ v (nodesIn tree (otherNodes n))
 grown-nodes n k tree g v a =
-    let within = g .nodesOnly v a in
-    let l = taxaPlaced-le tree n in
-    let taxa = g .placed in
-    nodesIn-node tree n v (within .0) (omega arith) (inr a)
+    let within = grown-within n k tree g v a in
+    nodesIn-node tree n v (within .0) (within .1) (inr a)

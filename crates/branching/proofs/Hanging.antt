@@ -12,7 +12,7 @@ use Rattle.branching.specs.Ancestors.{ancestor}
 use Rattle.branching.specs.Nodes.{inTree, taxaPlaced}
 use Rattle.branching.specs.Growing.{descendantCount, descendantsWanted, InTree, ReachesRoot, root, up, Grown, Unplaced}
 use Rattle.branching.specs.Hanging.{hung}
-use Rattle.branching.proofs.Nodes.{inTree-same, true-inTree}
+use Rattle.branching.proofs.Nodes.{inTree-same, inTree-iff}
 use Rattle.branching.proofs.Counts.{taxaPlaced-lt, taxaPlaced-more}
 use Rattle.branching.proofs.Sums.{counted}
 use Rattle.branching.proofs.Descendants.{count-out, wanted-taxon, wanted-htu}
@@ -105,7 +105,7 @@ module _ (n k : ℕ) (tree : List ℕ) (g : Grown n k tree) (room : 2 * n - 2 < 
   only-taxon v nb ny =
       by-cases
       (ℕ-discrete v c)
-      (λ e. rw e (true-inTree new c (stays c (inr inside)) ∙ sym (true-inTree tree c (inr inside))))
+      (λ e. rw e (inTree-iff new c .1 (stays c (inr inside)) ∙ sym (inTree-iff tree c .1 (inr inside))))
       (λ nc. inTree-same tree new v (at-other v nb nc ny))
 
   -- the parts of a growing tree with one taxon more, one by one

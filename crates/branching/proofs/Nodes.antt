@@ -63,12 +63,6 @@ module _ (tree : List ℕ) where
   unfolding inTree
   inTree-iff v = or-iff (eqb-iff v 1) (hasAncestor-iff v)
 
-  pub inTree-true : (v : ℕ) → inTree tree v ≡ true → InTree tree v
-  inTree-true v = inTree-iff v .0
-
-  pub true-inTree : (v : ℕ) → InTree tree v → inTree tree v ≡ true
-  true-inTree v = inTree-iff v .1
-
   -- a number other than 1 without an ancestor is not in the tree
   pub false-inTree : (v : ℕ) → 2 ≤ v → ancestor tree v ≡ 0 → inTree tree v ≡ false
   unfolding inTree hasAncestor
@@ -77,7 +71,7 @@ module _ (tree : List ℕ) where
   -- what is not in the tree is not node 1 and has no ancestor
   pub not-inTree : (v : ℕ) → not (inTree tree v) ≡ true → (v ≢ 1) × (ancestor tree v ≡ 0)
   not-inTree v e =
-      let out : ¬ InTree tree v = λ i. false≢true (sym (not-true (inTree tree v) e) ∙ true-inTree v i) in
+      let out : ¬ InTree tree v = λ i. false≢true (sym (not-true (inTree tree v) e) ∙ inTree-iff v .1 i) in
       (λ p. out (inl p), by-cases (decLe 1 (ancestor tree v)) (λ a. absurd (out (inr a))) (λ a. omega arith))
 
   -- at most all taxa are placed
@@ -89,11 +83,11 @@ module _ (tree : List ℕ) where
   pub nodesIn-node : (n v : ℕ) → 2 ≤ v → v ≤ 2 * n - 2 → InTree tree v → List·Memᴰ v (nodesIn tree (otherNodes n))
   unfolding nodesIn otherNodes
   nodesIn-node n v l h i =
-      let m = numbers-among 2 (2 * n - 3) v l (omega arith) in mem-keep (inTree tree) (numbers 2 (2 * n - 3)) v m (true-inTree v i)
+      let m = numbers-among 2 (2 * n - 3) v l (omega arith) in mem-keep (inTree tree) (numbers 2 (2 * n - 3)) v m (inTree-iff v .1 i)
 
   pub node-nodesIn : (n v : ℕ) → List·Memᴰ v (nodesIn tree (otherNodes n)) → (2 ≤ v) × (v ≤ 2 * n - 2) × (1 ≤ ancestor tree v)
   unfolding nodesIn otherNodes
   node-nodesIn n v m =
       let k = keep-mem (inTree tree) (numbers 2 (2 * n - 3)) v m in
       let b = numbers-within 2 (2 * n - 3) v (k .0) in
-      ⊎-elim (λ e. absurd (omega arith)) (λ h. (omega arith, omega arith, h)) (inTree-true v (k .1))
+      ⊎-elim (λ e. absurd (omega arith)) (λ h. (omega arith, omega arith, h)) (inTree-iff v .0 (k .1))

@@ -21,8 +21,8 @@ use Rattle.branching.specs.Growing.{descendantCount, descendantsWanted, 
 use Rattle.branching.specs.Growing.{descendantsRight, allClimb, grown, growingTree, branching, InTree, ReachesRoot, root, Grown}
 use Rattle.branching.specs.Growing.{GrowingTree, alone, several, Branching}
 use Rattle.branching.proofs.Climbing.{climbs-reaches, reaches-climbs, never-climbs}
-use Rattle.branching.proofs.Nodes.{ancestor-place, hasAncestor-iff, no-ancestor-iff, inTree-iff, inTree-true, taxaPlaced-le}
-use Rattle.branching.proofs.Nodes.{nodesIn-node, node-nodesIn}
+use Rattle.branching.proofs.Nodes.{ancestor-place, hasAncestor-iff, no-ancestor-iff, inTree-iff, taxaPlaced-le, nodesIn-node}
+use Rattle.branching.proofs.Nodes.{node-nodesIn}
 use Rattle.branching.proofs.Keep.{keep-none}
 
 -- only nodes 2 to `last` have an ancestor
@@ -58,7 +58,7 @@ module _ (tree : List ℕ) where
   alone-placed (suc m) l h = ap suc (keep-none (inTree tree) (numbers 2 m) none)
     where
       none : (v : ℕ) → List·Memᴰ v (numbers 2 m) → inTree tree v ≡ true → ⊥
-      none v i t = ⊎-elim (λ e. omega (arith, numbers-within 2 m v i)) (λ a. omega (arith, h v)) (inTree-true tree v t)
+      none v i t = ⊎-elim (λ e. omega (arith, numbers-within 2 m v i)) (λ a. omega (arith, h v)) (inTree-iff tree v .0 t)
 
   module _ (n k : ℕ) where
     -- only nodes 2 to n+k-2 have an ancestor

@@ -16,8 +16,8 @@ use Rattle.branching.specs.Nodes.{inTree, keep, nodesIn, otherNodes, tax
 use Rattle.branching.specs.Growing.{descendantCount, descendantsWanted, climbs, InTree, ReachesRoot, root, up, Grown, GrowingTree}
 use Rattle.branching.specs.Growing.{alone, several, Branching}
 use Rattle.branching.specs.Branches.{sumOver, treeLength}
-use Rattle.branching.proofs.Nodes.{inTree-same, true-inTree, taxaPlaced-le}
-use Rattle.branching.proofs.Counts.{all-placed}
+use Rattle.branching.proofs.Nodes.{inTree-same, taxaPlaced-le, inTree-iff}
+use Rattle.branching.proofs.Counts.{all-placed, grown-within}
 use Rattle.branching.proofs.Test.{reaches-within}
 use Rattle.branching.proofs.Keep.{keep-all}
 use Rattle.branching.proofs.Descendants.{wanted-taxon, wanted-htu, descendants-keep}
@@ -37,12 +37,9 @@ branching-nodes n tree b v l h = go b refl
 -- only nodes 2 to 2n-2 of a growing tree have an ancestor
 pub growing-within : (n : ℕ) (tree : List ℕ) {k : ℕ} → GrowingTree n tree k → (v : ℕ) → 1 ≤ ancestor tree v → (2 ≤ v) × (v ≤ 2 * n - 2)
 growing-within n tree (alone none) v a = absurd (omega (arith, none v))
-growing-within n tree (several {k = k} g) v a =
-    let w = g .nodesOnly v a in
-    let taxa = g .placed in
-    let most = taxaPlaced-le tree n in
-    omega arith
+growing-within n tree (several {k = k} g) v a = grown-within n k tree g v a
 
+-- no other number has one
 pub growing-outside : (n : ℕ) (tree : List ℕ) {k : ℕ} → GrowingTree n tree k → (v : ℕ) → (v < 2) ⊎ (2 * n - 2 < v) → ancestor tree v ≡ 0
 growing-outside n tree g v out =
     by-cases
@@ -109,7 +106,7 @@ branching-length d n tree b =
     all : (v : ℕ) → List·Memᴰ v (numbers 2 (2 * n - 3)) → inTree tree v ≡ true
     all v m =
         let w = numbers-within 2 (2 * n - 3) v m in
-        true-inTree tree v (inr (branching-nodes n tree b v (w .0) (omega arith)))
+        inTree-iff tree v .1 (inr (branching-nodes n tree b v (w .0) (omega arith)))
 
 -- two lists that give every number one ancestor
 module _ (n : ℕ) (old new : List ℕ) (same : (v : ℕ) → ancestor old v ≡ ancestor new v) where

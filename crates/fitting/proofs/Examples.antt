@@ -8,15 +8,12 @@ use Rattle.difference.specs.Rows.{apart, lower, higher}
 use Rattle.branching.specs.Ancestors.{ancestor, descendants}
 use Rattle.branching.specs.Nodes.{otherNodes}
 use Rattle.branching.specs.Branches.{sumOver}
-use Rattle.fitting.specs.Sets.{Span, only, join, nearest, insert, inOrder, middle}
+use Rattle.fitting.specs.Sets.{only, join, nearest, insert, inOrder, middle}
 use Rattle.fitting.specs.Trees.{tip, fork, above, treeAt, treesBelow}
 use Rattle.fitting.specs.Character.{valueAt, up, chosen, ranges}
 use Rattle.fitting.specs.Assignments.{character, branchLength, total}
 use Rattle.fitting.specs.Fit.{chosenState, range, fittedLength, fittedTotal}
-
--- the set from one state to another
-abbrev pub span : ℤ → ℤ → Span
-span a b = record { low = a; high = b }
+use Rattle.fitting.proofs.Laws.Sets.{span}
 
 -- [0,1] with [2,2] gives [1,2]
 pub join-apart : join (span (pos 0) (pos 1)) (span (pos 2) (pos 2)) ≡ span (pos 1) (pos 2)

@@ -5,7 +5,7 @@ use mathlib.Core.Logic.{_↔_, _⊎_, inl, inr}
 use mathlib.Core.Bool.{Bool, true, false, not, _&&_, _||_, and-eq-true-iff, false≢true}
 use Prim.Native.Nat.{ℕ, _≤_}
 use lib.Dec.{leb, eqb}
-use borrow.Author.Tests.{eqb-true, eq-eqb, leb-true, le-leb}
+use borrow.Author.Tests.{eqb-true, eqb-false, eq-eqb, ne-eqb, leb-true, le-leb}
 
 -- of two tests that both pass, the first, the second, and both together
 pub and-left : (a b : Bool) → a && b ≡ true → a ≡ true
@@ -38,6 +38,14 @@ leb-iff a b = (leb-true a b, le-leb a b)
 
 pub eqb-iff : (a b : ℕ) → (eqb a b ≡ true) ↔ (a ≡ b)
 eqb-iff a b = (eqb-true a b, eq-eqb a b)
+
+-- a test of equality is the same either way round
+pub eqb-sym : (a b : ℕ) → eqb a b ≡ eqb b a
+eqb-sym a b = go (eqb a b) refl
+  where
+    go : (t : Bool) → eqb a b ≡ t → t ≡ eqb b a
+    go true e = sym (eq-eqb b a (sym (eqb-true a b e)))
+    go false e = sym (ne-eqb b a (λ p. eqb-false a b e (sym p)))
 
 module _ {a b : Bool} {A B : Type 0} (p : (a ≡ true) ↔ A) (q : (b ≡ true) ↔ B) where
   -- both of two tests pass exactly if both facts hold

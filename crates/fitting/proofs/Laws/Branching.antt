@@ -11,7 +11,7 @@ use borrow.Author.Tests.{eqb-true}
 use Rattle.branching.specs.Ancestors.{ancestor, descendants}
 use Rattle.branching.specs.Nodes.{otherNodes}
 use Rattle.branching.specs.Growing.{descendantCount, climbs, Grown, several}
-use Rattle.branching.proofs.Climbing.{climbs-cases}
+use Rattle.branching.proofs.Climbing.{climbs-iff}
 use Rattle.branching.proofs.Whole.{growing-within, growing-outside, branching-nodes, branching-root, branching-taxon, branching-htu}
 use Rattle.branching.proofs.Whole.{branching-climbs}
 
@@ -28,7 +28,7 @@ climbs-steps ancestors (suc steps) v c =
     ⊎-elim
     (λ e. (0, omega arith, e))
     (λ r. let h = climbs-steps ancestors steps (ancestor ancestors v) r in (suc (h .0), omega (arith, h .1), h .2))
-    (climbs-cases ancestors steps v c)
+    (climbs-iff ancestors steps v .0 c)
 
 module _ (n : ℕ) (ancestors : List ℕ) (grown : Grown n n ancestors) where
   -- only nodes 2 to 2n-2 have an immediate ancestor

@@ -93,15 +93,6 @@ offset-triangle y s a = everywhere
     simp (apart-place, offset-places K (n 0) (n 2) (n 3) q, offset-places K (n 1) (n 2) (n 3) q) (omega arith))
     (y ∷ s ∷ a .low ∷ a .high ∷ [])
 
--- a member of a set is at no distance from it
-pub offset-member : (s : ℤ) (a : Span) → In s a → offset s a ≡ 0
-offset-member s a = everywhere (λ z. In (z 0) (span (z 1) (z 2)) → offset (z 0) (span (z 1) (z 2)) ≡ 0)
-    (λ K n p.
-    let q = place-le K (n 1) (n 0) (p .fromLow) in
-    let r = place-le K (n 0) (n 2) (p .toHigh) in
-    rw (offset-places K (n 0) (n 1) (n 2) (omega arith)) (omega arith))
-    (s ∷ a .low ∷ a .high ∷ [])
-
 -- from a taxon's set a state is as far as from its code
 pub offset-only : (y s : ℤ) → offset y (only s) ≡ apart y s
 unfolding only

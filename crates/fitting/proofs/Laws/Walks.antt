@@ -7,9 +7,10 @@ use Prim.Native.Nat.{ℕ, zero, suc, _+_, _*_, _-_, _≤_, _<_}
 use native.Mathlib.Omega.{arith}
 use lib.Dec.{eqb}
 use lib.ListN.{length}
-use borrow.Author.Tests.{eqb-true, eqb-false, eq-eqb, ne-eqb}
+use borrow.Author.Tests.{eq-eqb, ne-eqb}
 use Rattle.matrix.specs.Choice.{numbers}
 use Rattle.matrix.proofs.Choice.{numbers-within}
+use Rattle.matrix.proofs.Both.{eqb-sym}
 use Rattle.branching.specs.Ancestors.{ancestor, descendants}
 use Rattle.branching.specs.Nodes.{otherNodes}
 use Rattle.branching.specs.Branches.{sumOver}
@@ -37,14 +38,6 @@ pick-swap true false x = refl
 pick-swap false true x = refl
 pick-swap false false x = refl
 
--- a test of equality, either way round
-eqb-comm : (a b : ℕ) → eqb a b ≡ eqb b a
-eqb-comm a b = go (eqb a b) refl
-  where
-    go : (t : Bool) → eqb a b ≡ t → t ≡ eqb b a
-    go true e = sym (eq-eqb b a (sym (eqb-true a b e)))
-    go false e = sym (ne-eqb b a (λ p. eqb-false a b e (sym p)))
-
 -- the last of the nodes below row 1
 below-last : (n v : ℕ) → 2 ≤ n → v ≤ 2 * n - 2 → v < 2 + (2 * n - 3)
 below-last n v p q = omega arith
@@ -57,7 +50,7 @@ module _ (n : ℕ) (ancestors : List ℕ) (grown : Grown n n ancestors) where
   descends u v x h = sum-descendants (λ a. pick (eqb v a) x) ancestors (numbers 2 (2 * n - 3)) u
       ∙ sum-same (λ a. pick (eqb (ancestor ancestors a) u) (pick (eqb v a) x))
       (λ a. pick (eqb a v) (pick (eqb (ancestor ancestors a) u) x)) (numbers 2 (2 * n - 3))
-      (λ a m. pick-swap (eqb (ancestor ancestors a) u) (eqb v a) x ∙ ap (λ t. pick t (pick (eqb (ancestor ancestors a) u) x)) (eqb-comm v a))
+      (λ a m. pick-swap (eqb (ancestor ancestors a) u) (eqb v a) x ∙ ap (λ t. pick t (pick (eqb (ancestor ancestors a) u) x)) (eqb-sym v a))
       ∙ either 2 v
       (λ p. either v (2 * n - 2)
       (λ q. sum-one 2 (2 * n - 3) v (λ a. pick (eqb (ancestor ancestors a) u) x) p (below-last n v (grown .atLeastTwo) q))
