@@ -18,11 +18,12 @@ use Rattle.branching.specs.Branches.{sumOver, treeLength}
 use Rattle.branching.proofs.Sums.{length-keep, sum-keep, sum-same, sum-changed, counted, pick}
 use Rattle.branching.proofs.Descendants.{descendants-keep}
 
--- the ancestors after one of them is changed
+-- a node whose ancestor is changed has the new one
 pub ancestor-set-same : (tree : List ℕ) (u a : ℕ) → u < length tree → ancestor (set tree u a) u ≡ a
 unfolding ancestor
 ancestor-set-same tree u a h = getD-set-same tree u a 0 h
 
+-- any other node keeps its own
 pub ancestor-set-other : (tree : List ℕ) (u a v : ℕ) → v ≢ u → ancestor (set tree u a) v ≡ ancestor tree v
 unfolding ancestor
 ancestor-set-other tree u a v ne = getD-set-other tree u v a 0 ne
@@ -77,17 +78,19 @@ pub record Joint (n : ℕ) (tree : List ℕ) (b c y : ℕ) : Type 0 where
   pub lowerHtu : c ≢ y
 
 module _ (n : ℕ) (tree : List ℕ) (b c y : ℕ) (j : Joint n tree b c y) where
-  -- taxon b and the lower end have y, y has the lower end's old ancestor, and no other ancestor changes
+  -- taxon b has y
   pub hung-taxon : ancestor (hung tree b c y) b ≡ y
   unfolding hung
   hung-taxon = ancestor-set-same (set (set tree y (ancestor tree c)) c y) b y (simp length-set (j .taxon .0))
 
+  -- so has the lower end
   pub hung-lower : ancestor (hung tree b c y) c ≡ y
   unfolding hung
   hung-lower =
       ancestor-set-other (set (set tree y (ancestor tree c)) c y) b y c (λ e. j .taxonLower (sym e))
       ∙ ancestor-set-same (set tree y (ancestor tree c)) c y (simp length-set (j .lower .0))
 
+  -- y has the lower end's old ancestor
   pub hung-htu : ancestor (hung tree b c y) y ≡ ancestor tree c
   unfolding hung
   hung-htu =
@@ -95,6 +98,7 @@ module _ (n : ℕ) (tree : List ℕ) (b c y : ℕ) (j : Joint n tree b c y) wher
       ∙ ancestor-set-other (set tree y (ancestor tree c)) c y y (λ e. j .lowerHtu (sym e))
       ∙ ancestor-set-same tree y (ancestor tree c) (j .htu .0)
 
+  -- no other ancestor changes
   pub hung-other : (v : ℕ) → v ≢ b → v ≢ c → v ≢ y → ancestor (hung tree b c y) v ≡ ancestor tree v
   unfolding hung
   hung-other v nb nc ny =

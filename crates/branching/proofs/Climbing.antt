@@ -15,7 +15,7 @@ use Rattle.branching.specs.Growing.{climbs, ReachesRoot, root, up}
 use Rattle.branching.proofs.Keep.{keep-grows, mem-keep, mem-length, length-keep-le}
 
 module _ (tree : List ℕ) where
-  -- one step more: node v is node 1, or its immediate ancestor climbs
+  -- the test with one step more, by cases of node v and its immediate ancestor
   climbs-suc : (steps v : ℕ) → climbs tree (suc steps) v ≡ (eqb v 1 || climbs tree steps (ancestor tree v))
   unfolding climbs
   climbs-suc steps v = go (eqb v 1) (climbs tree steps (ancestor tree v))
@@ -24,9 +24,11 @@ module _ (tree : List ℕ) where
       go true c = refl
       go false c = refl
 
+  -- with one step more, node v climbs exactly if it is node 1 or its immediate ancestor climbs
   pub climbs-iff : (steps v : ℕ) → (climbs tree (suc steps) v ≡ true) ↔ ((v ≡ 1) ⊎ (climbs tree steps (ancestor tree v) ≡ true))
   climbs-iff steps v = rw (climbs-suc steps v) (or-iff (eqb-iff v 1) Iff·rfl)
 
+  -- if the immediate ancestor climbs, so does the node with one step more
   climbs-up : (steps v : ℕ) → climbs tree steps (ancestor tree v) ≡ true → climbs tree (suc steps) v ≡ true
   climbs-up steps v c = climbs-iff steps v .1 (inr c)
 
@@ -64,6 +66,7 @@ module _ (tree : List ℕ) where
   abbrev Settled : ℕ → Type 0
   Settled steps = (v : ℕ) → climbs tree (suc steps) v ≡ true → climbs tree steps v ≡ true
 
+  -- nor after one more
   settled-suc : (steps : ℕ) → Settled steps → Settled (suc steps)
   settled-suc steps s v c =
       ⊎-elim

@@ -21,6 +21,7 @@ unfolding descendants keep
 descendants-keep tree [] v = refl
 descendants-keep tree (u ∷ us) v =
     ap (λ (rest : List ℕ). cond (eqb (ancestor tree u) v) (u ∷ rest) rest) (descendants-keep tree us v)
+
 -- a node is a descendant of v exactly if it is one of the list and v is its immediate ancestor
 pub mem-descendants : (tree us : List ℕ) (v u : ℕ) → List·Memᴰ u (descendants tree us v) ↔ (List·Memᴰ u us × (ancestor tree u ≡ v))
 mem-descendants tree us v u = rw (descendants-keep tree us v) (
@@ -58,11 +59,12 @@ pub count-out : (n : ℕ) (tree : List ℕ) (w : ℕ) → ((v : ℕ) → 1 ≤ a
 count-out n tree w all l out =
     count-none n tree w λ u e. ⊎-elim (λ p. omega arith) (λ p. omega (arith, ap (ancestor tree) e)) (all u (omega arith))
 
--- a taxon other than row 1 has to have no descendant, an HTU two
+-- a taxon other than row 1 has to have no descendant
 pub wanted-taxon : (n v : ℕ) → 2 ≤ v → v ≤ n → descendantsWanted n v ≡ 0
 unfolding descendantsWanted
 wanted-taxon n v l h = rw (ne-eqb v 1 (λ e. omega arith), le-leb v n h)
 
+-- an HTU has to have two
 pub wanted-htu : (n v : ℕ) → 2 ≤ v → n < v → descendantsWanted n v ≡ 2
 unfolding descendantsWanted
 wanted-htu n v l h = rw (ne-eqb v 1 (λ e. omega arith), lt-leb v n h)

@@ -31,11 +31,12 @@ module _ (d : ℕ → ℕ → ℕ) where
   span : ℕ → ℕ → ℕ
   span v a = pick (leb 1 a) (d v a)
 
-  -- nothing where there is no branch, the difference where there is one
+  -- nothing where there is no branch
   span-none : (v a : ℕ) → a ≡ 0 → span v a ≡ 0
   unfolding span
   span-none v a e = rw e
 
+  -- the difference where there is one
   span-some : (v a : ℕ) → 1 ≤ a → span v a ≡ d v a
   unfolding span
   span-some v a h = ap (λ (t : Bool). pick t (d v a)) (le-leb 1 a h)

@@ -22,14 +22,16 @@ use Rattle.branching.proofs.Descendants.{count-none, wanted-taxon}
 -- row 1 alone with a place for every node, and a taxon b
 module _ (n : ℕ) (tree : List ℕ) (none : (v : ℕ) → ancestor tree v ≡ 0) (room : 2 * n - 2 < length tree) (b : ℕ)
     (u : Unplaced n tree b) where
+  -- the tree with b linked to row 1
   abbrev new : List ℕ
   new = linked tree b
 
-  -- b has row 1 as ancestor, and nothing else has one
+  -- b has row 1 as ancestor
   pub linked-taxon : ancestor new b ≡ 1
   unfolding linked
   linked-taxon = ancestor-set-same tree b 1 (omega arith)
 
+  -- nothing else has an ancestor
   pub linked-other : (v : ℕ) → v ≢ b → ancestor new v ≡ 0
   unfolding linked
   linked-other v ne = ancestor-set-other tree b 1 v ne ∙ none v
@@ -57,6 +59,7 @@ module _ (n : ℕ) (tree : List ℕ) (none : (v : ℕ) → ancestor tree v ≡ 0
       let change = sum-set (λ u a. counted (eqb a v)) n tree b 1 (omega arith) (u .other) (omega arith) in
       omega arith
 
+  -- so each node in the tree has as many as it has to have
   descendantsRight-linked : (v : ℕ) → InTree new v → descendantCount n new v ≡ descendantsWanted n v
   unfolding descendantsWanted
   descendantsRight-linked v (inl e) = rw e (count-linked 1 (omega arith))
@@ -65,10 +68,12 @@ module _ (n : ℕ) (tree : List ℕ) (none : (v : ℕ) → ancestor tree v ≡ 0
       (only-taxon v a)
       (count-linked b (omega arith) ∙ ap counted (ne-eqb 1 b (λ e. omega arith)) ∙ sym (wanted-taxon n b (u .other) (u .taxon)))
 
+  -- going up from b reaches node 1
   rooted-linked : (v : ℕ) → InTree new v → ReachesRoot new v
   rooted-linked v (inl e) = rw e root
   rooted-linked v (inr a) = rw (only-taxon v a) (up b (rw linked-taxon root))
 
+  -- the first taxon linked to row 1 gives a growing tree with two taxa
   pub linked-grown : Grown n 2 new
   linked-grown =
       record {

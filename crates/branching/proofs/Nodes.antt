@@ -18,16 +18,18 @@ use Rattle.branching.specs.Growing.{InTree}
 use Rattle.branching.specs.Hanging.{noBranches}
 use Rattle.branching.proofs.Keep.{keep-mem, mem-keep, length-keep-le}
 
--- row 1 alone, as a build starts: 127 places, no branches
+-- a list of one number throughout has it at every place, and beyond its end if it stands in there
 same-everywhere : (count v a : ℕ) → getD (replicate count a) v a ≡ a
 same-everywhere zero v a = refl
 same-everywhere (suc count) zero a = refl
 same-everywhere (suc count) (suc v) a = same-everywhere count v a
 
+-- in row 1 alone, as a build starts, no node has an ancestor
 pub noBranches-none : (v : ℕ) → ancestor noBranches v ≡ 0
 unfolding noBranches ancestor
 noBranches-none v = same-everywhere 127 v 0
 
+-- it has 127 places
 pub noBranches-places : length noBranches ≡ 127
 unfolding noBranches
 noBranches-places = refl
@@ -47,11 +49,12 @@ module _ (tree : List ℕ) where
   pub ancestor-place : (v : ℕ) → 1 ≤ ancestor tree v → v < length tree
   ancestor-place v h = by-cases (decLe (length tree) v) (λ b. absurd (omega (arith, ancestor-beyond v b))) (λ b. omega arith)
 
-  -- the tests for having an ancestor, for having none, and for being in the tree
+  -- the test for having an ancestor
   pub hasAncestor-iff : (v : ℕ) → (hasAncestor tree v ≡ true) ↔ (1 ≤ ancestor tree v)
   unfolding hasAncestor
   hasAncestor-iff v = leb-iff 1 (ancestor tree v)
 
+  -- the test for having none
   pub no-ancestor-iff : (v : ℕ) → (not (hasAncestor tree v) ≡ true) ↔ (ancestor tree v ≡ 0)
   unfolding hasAncestor
   no-ancestor-iff v = (
@@ -59,6 +62,7 @@ module _ (tree : List ℕ) where
     λ e. ap not (lt-leb 1 (ancestor tree v) (omega arith)),
   )
 
+  -- the test for being in the tree
   pub inTree-iff : (v : ℕ) → (inTree tree v ≡ true) ↔ InTree tree v
   unfolding inTree
   inTree-iff v = or-iff (eqb-iff v 1) (hasAncestor-iff v)
@@ -79,12 +83,13 @@ module _ (tree : List ℕ) where
   unfolding taxaPlaced nodesIn
   taxaPlaced-le n = omega (arith, length-keep-le (inTree tree) (numbers 1 n), length-numbers 1 n)
 
-  -- the nodes in the tree other than node 1
+  -- a node in the tree other than node 1 is one of nodes 2 to 2n-2 in the tree
   pub nodesIn-node : (n v : ℕ) → 2 ≤ v → v ≤ 2 * n - 2 → InTree tree v → List·Memᴰ v (nodesIn tree (otherNodes n))
   unfolding nodesIn otherNodes
   nodesIn-node n v l h i =
       let m = numbers-among 2 (2 * n - 3) v l (omega arith) in mem-keep (inTree tree) (numbers 2 (2 * n - 3)) v m (inTree-iff v .1 i)
 
+  -- and each of these has an ancestor
   pub node-nodesIn : (n v : ℕ) → List·Memᴰ v (nodesIn tree (otherNodes n)) → (2 ≤ v) × (v ≤ 2 * n - 2) × (1 ≤ ancestor tree v)
   unfolding nodesIn otherNodes
   node-nodesIn n v m =

@@ -170,6 +170,7 @@ module _ (tree : List ℕ) where
     within : NodesTo tree (n + k - 2) → NodesTo tree (2 * n - 2)
     within only v a = let b = only v a in let l = taxaPlaced-le tree n in omega arith
 
+    -- what passes the test is a tree of k taxa
     pub grown-fact : grown n k tree ≡ true → Grown n k tree
     unfolding grown
     grown-fact e =
@@ -187,6 +188,7 @@ module _ (tree : List ℕ) where
           rooted = shape .1 .1;
         }
 
+    -- and a tree of k taxa passes it
     pub grown-test : Grown n k tree → grown n k tree ≡ true
     unfolding grown
     grown-test g =

@@ -110,11 +110,12 @@ branching-length d n tree b =
 
 -- two lists that give every number one ancestor
 module _ (n : ℕ) (old new : List ℕ) (same : (v : ℕ) → ancestor old v ≡ ancestor new v) where
-  -- as many taxa are placed, each node has as many descendants, and going up reaches node 1 from the same nodes
+  -- as many taxa are placed
   taxaPlaced-same : taxaPlaced n old ≡ taxaPlaced n new
   unfolding taxaPlaced nodesIn
   taxaPlaced-same = ap (λ (test : ℕ → Bool). length (keep test (numbers 1 n))) (fun-ext (λ v. inTree-same new old v (same v)))
 
+  -- each node has as many descendants
   count-same : (v : ℕ) → descendantCount n old v ≡ descendantCount n new v
   unfolding descendantCount
   count-same v =
@@ -122,14 +123,17 @@ module _ (n : ℕ) (old new : List ℕ) (same : (v : ℕ) → ancestor old v ≡
       ∙ ap (λ (test : ℕ → Bool). length (keep test (otherNodes n))) (fun-ext (λ u. ap (λ (a : ℕ). eqb a v) (same u)))
       ∙ sym (ap length (descendants-keep new (otherNodes n) v))
 
+  -- going up reaches node 1 from the same nodes
   reaches-same : {v : ℕ} → ReachesRoot old v → ReachesRoot new v
   reaches-same root = root
   reaches-same (up v r) = up v (rw same at (reaches-same r))
 
+  -- what is in the second tree is in the first
   back : (v : ℕ) → InTree new v → InTree old v
   back v (inl e) = inl e
   back v (inr a) = inr (rw same a)
 
+  -- and the other way round
   forth : (v : ℕ) → InTree old v → InTree new v
   forth v (inl e) = inl e
   forth v (inr a) = inr (rw same at a)

@@ -33,4 +33,5 @@ at-least-9 states h = third-rival 4 3 ancestorsABCD rowsABCD (omega arith) branc
 pub #1-in-character-3 : (s : ℤ) → ((pos 0 ≤ℤ s) × (s ≤ℤ pos 1)) ↔ Occurs ancestorsABCD rowsABCD 4 3 5 3 s
 unfolding printed
 #1-in-character-3 s =
-    third-rival 4 3 ancestorsABCD rowsABCD (omega arith) branching-ABCD .ranges 5 3 s (omega arith) (omega arith) (omega arith) (omega arith)
+    third-rival 4 3 ancestorsABCD rowsABCD (omega arith) branching-ABCD
+    .ranges 5 3 s (omega arith) (omega arith) (omega arith) (omega arith)

@@ -7,13 +7,15 @@ use Prim.Native.Nat.{ℕ, _≤_}
 use lib.Dec.{leb, eqb}
 use borrow.Author.Tests.{eqb-true, eqb-false, eq-eqb, ne-eqb, leb-true, le-leb}
 
--- of two tests that both pass, the first, the second, and both together
+-- of two tests that both pass, the first passes
 pub and-left : (a b : Bool) → a && b ≡ true → a ≡ true
 and-left a b e = and-eq-true-iff a b .0 e .0
 
+-- and the second
 pub and-right : (a b : Bool) → a && b ≡ true → b ≡ true
 and-right a b e = and-eq-true-iff a b .0 e .1
 
+-- and two tests that pass both pass together
 pub and-both : {a b : Bool} → a ≡ true → b ≡ true → a && b ≡ true
 and-both {a} {b} p q = and-eq-true-iff a b .1 (p, q)
 
@@ -32,10 +34,11 @@ pub or-right : (a b : Bool) → b ≡ true → a || b ≡ true
 or-right true b e = refl
 or-right false b e = e
 
--- a test of two numbers and the fact that it tells
+-- the test for "at most" and its fact
 pub leb-iff : (a b : ℕ) → (leb a b ≡ true) ↔ (a ≤ b)
 leb-iff a b = (leb-true a b, le-leb a b)
 
+-- the test for "equal" and its fact
 pub eqb-iff : (a b : ℕ) → (eqb a b ≡ true) ↔ (a ≡ b)
 eqb-iff a b = (eqb-true a b, eq-eqb a b)
 

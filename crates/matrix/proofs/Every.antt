@@ -13,15 +13,17 @@ use Rattle.matrix.specs.Every.{every}
 use Rattle.matrix.proofs.Both.{and-left, and-right, and-both}
 
 module _ {A : Type 0} (test : A → Bool) where
-  -- the first element passes, the others pass, and all together
+  -- of a list that passes, the first element passes
   pub every-head : (x : A) (xs : List A) → every test (x ∷ xs) ≡ true → test x ≡ true
   unfolding every
   every-head x xs e = and-left (test x) (every test xs) e
 
+  -- and the others pass
   pub every-tail : (x : A) (xs : List A) → every test (x ∷ xs) ≡ true → every test xs ≡ true
   unfolding every
   every-tail x xs e = and-right (test x) (every test xs) e
 
+  -- and all together pass if the first and the others do
   pub every-cons : (x : A) (xs : List A) → test x ≡ true → every test xs ≡ true → every test (x ∷ xs) ≡ true
   unfolding every
   every-cons x xs p q = and-both p q

@@ -31,6 +31,7 @@ record Shown : Type 0 where
   total : ℕ
   isBranching : Bool
 
+-- the Wagner tree of n rows as such a listing shows it
 shown : ℕ → List (List ℤ) → Shown
 unfolding apart lower higher median medians difference numbers firstLeast lastNode ancestor descendants hasAncestor inTree keep
     nodesIn nodesOut otherNodes taxaPlaced every descendantCount descendantsWanted climbs rowOneAlone nodesOnly htusIn ancestorsIn

@@ -21,6 +21,7 @@ use Rattle.wagner.proofs.BuildLength.{Sound}
 
 -- a matrix, a node v and a row r that fits into its row
 module _ (codes : List ℤ) (v : ℕ) (r : List ℤ) (fits : rowStart v + length r ≤ length codes) where
+  -- before the row of node v stand as many codes as that row starts at
   front : length (take (rowStart v) codes) ≡ rowStart v
   front = length-take-le (rowStart v) codes (omega arith)
 
@@ -36,13 +37,14 @@ module _ (codes : List ℤ) (v : ℕ) (r : List ℤ) (fits : rowStart v + length
       ap (take (length r)) (drop-at (take (rowStart v) codes) (r ++ drop (rowStart v + length r) codes) (rowStart v) front)
       ∙ take-at r (drop (rowStart v + length r) codes) (length r) refl
 
-  -- no code before it or behind it changes
+  -- no code before it changes
   withRow-before : (j : ℕ) → j < rowStart v → getD (withRow codes v r) j (pos 0) ≡ getD codes j (pos 0)
   unfolding withRow
   withRow-before j h =
       List·getD-append (take (rowStart v) codes) (r ++ drop (rowStart v + length r) codes) (pos 0) j (omega (arith, front))
       ∙ getD-take (rowStart v) codes j (pos 0) h
 
+  -- nor one behind it
   withRow-behind : (j : ℕ) → rowStart v + length r ≤ j → getD (withRow codes v r) j (pos 0) ≡ getD codes j (pos 0)
   unfolding withRow
   withRow-behind j h =
@@ -74,10 +76,12 @@ rowOf-next rows i = ap (λ (k : ℕ). getD rows k []) (omega arith)
 
 -- the rows of nodes 1 to count
 module _ (codes : List ℤ) (m count : ℕ) where
+  -- there are as many as nodes
   pub length-rowsOf : length (rowsOf codes m count) ≡ count
   unfolding rowsOf
   length-rowsOf = length-map-numbers (row codes m) 1 count
 
+  -- that of node v is its row in the matrix
   pub rowOf-rowsOf : (v : ℕ) → 1 ≤ v → v ≤ count → rowOf (rowsOf codes m count) v ≡ row codes m v
   unfolding rowOf rowsOf
   rowOf-rowsOf v l h = map-numbers (row codes m) [] 1 count (v - 1) (omega arith) ∙ ap (row codes m) (omega arith)
@@ -147,9 +151,11 @@ rowsOf-all codes m count (r ∷ rs) each wide room =
 -- a build of n taxa from the rows of a lent matrix
 module _ (d : List ℤ → List ℤ → ℕ) (codes : List ℤ) (n m : ℕ) (wide : m ≤ columns) (room : rowStart (suc (n + (n - 2))) ≤ length codes)
     (built : Built) (s : Sound d n m n noBranches (rowsOf codes m n) built) where
+  -- there is a row for each of the n taxa and n-2 HTUs
   long : length (built .rows) ≡ n + (n - 2)
   long = s .growth .full
 
+  -- behind the taxa stand those of the n-2 HTUs
   later : length (drop n (built .rows)) ≡ n - 2
   later = omega (arith, length-drop n (built .rows), long)
 
@@ -176,6 +182,7 @@ module _ (d : List ℤ → List ℤ → ℕ) (codes : List ℤ) (n m : ℕ) (wid
       ap length (getD-drop n (built .rows) i [] ∙ sym (rowOf-next (built .rows) (n + i)))
       ∙ s .growth .each (suc (n + i)) (omega arith) (omega (arith, long, later))
 
+  -- with those of the HTUs written behind them the matrix holds the rows of the taxa and these, and keeps its size
   written : (rowsOf (matrixAfter codes n built) m (n + length (drop n (built .rows))) ≡ rowsOf codes m n ++ drop n (built .rows))
       × (length (matrixAfter codes n built) ≡ length codes)
   unfolding matrixAfter

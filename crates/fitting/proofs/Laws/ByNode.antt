@@ -75,8 +75,8 @@ module _ (n : ℕ) (ancestors : List ℕ) (grown : Grown n n ancestors) where
   treeOf = tree-of n ancestors grown
 
   -- a part of the branching's tree
-  abbrev InTree : Tree → Type 0
-  InTree s = Part s (treeOf .tree)
+  abbrev InWhole : Tree → Type 0
+  InWhole s = Part s (treeOf .tree)
 
   -- the tree of a node
   abbrev pub treeFrom : ℕ → Tree
@@ -97,14 +97,15 @@ module _ (n : ℕ) (ancestors : List ℕ) (grown : Grown n n ancestors) where
       m = subst (λ us. List·Memᴰ v us) (treeOf .ofRow1) (subst (λ u. List·Memᴰ v (descendants ancestors (otherNodes n) u)) e (among v p h))
 
   -- a part of the tree that is a node's tree as far as it goes is the node's tree
-  part-whole : (depth v : ℕ) → 2 ≤ v → v ≤ 2 * n - 2 → InTree (treeAt ancestors (otherNodes n) depth v) →
+  part-whole : (depth v : ℕ) → 2 ≤ v → v ≤ 2 * n - 2 → InWhole (treeAt ancestors (otherNodes n) depth v) →
       treeFrom v ≡ treeAt ancestors (otherNodes n) depth v
   part-whole depth v p h part = treeTo-whole n ancestors grown depth (2 * n) v p h
       (part-made n ancestors (treeAt ancestors (otherNodes n) depth v) (treeOf .tree) part (treeOf .isMade))
       (omega (arith, part-size (treeAt ancestors (otherNodes n) depth v) (treeOf .tree) part, tree-size))
     where
       tree-size : size (treeOf .tree) ≤ 2 * n
-      tree-size = unfold size otherNodes in omega (arith, treeOf .sums (λ v. 1), length-sum (numbers 2 (2 * n - 3)), length-numbers 2 (2 * n - 3))
+      tree-size = unfold size otherNodes in
+          omega (arith, treeOf .sums (λ v. 1), length-sum (numbers 2 (2 * n - 3)), length-numbers 2 (2 * n - 3))
 
   -- a and b are the two descendants of HTU u
   pub record Htu (u a b : ℕ) : Type 0 where
@@ -130,8 +131,9 @@ module _ (n : ℕ) (ancestors : List ℕ) (grown : Grown n n ancestors) where
       u = ancestor ancestors v
 
       taxon : 2 ≤ u → u ≤ n → ⊥
-      taxon q l = List·Memᴰ·not-nil
-          (subst (λ us. List·Memᴰ v us) (none-in (descendants ancestors (otherNodes n) u) (none-below n ancestors grown u q l)) (among v p h))
+      taxon q l =
+          let none = none-in (descendants ancestors (otherNodes n) u) (none-below n ancestors grown u q l) in
+          List·Memᴰ·not-nil (subst (λ us. List·Memᴰ v us) none (among v p h))
 
       htu : n < u → u ≤ 2 * n - 2 → Hangs v
       htu l q =
@@ -148,16 +150,16 @@ module _ (n : ℕ) (ancestors : List ℕ) (grown : Grown n n ancestors) where
   -- if an HTU's tree is a part of the whole, so are those of its descendants, and it is their fork
   record Split (u a b : ℕ) : Type 0 where
     isFork : treeFrom u ≡ fork u (treeFrom a) (treeFrom b)
-    leftPart : InTree (treeFrom a)
-    rightPart : InTree (treeFrom b)
+    leftPart : InWhole (treeFrom a)
+    rightPart : InWhole (treeFrom b)
 
   -- its tree goes down far enough, because the whole has at most 2n nodes
-  split : (u a b : ℕ) → Htu u a b → InTree (treeFrom u) → Split u a b
+  split : (u a b : ℕ) → Htu u a b → InWhole (treeFrom u) → Split u a b
   unfolding two-given
   split u a b htu part = record {
     isFork = step ∙ ap₂ (fork u) (sym wholeLeft) (sym wholeRight);
-    leftPart = subst InTree (sym wholeLeft) l;
-    rightPart = subst InTree (sym wholeRight) r;
+    leftPart = subst InWhole (sym wholeLeft) l;
+    rightPart = subst InWhole (sym wholeRight) r;
   }
     where
       less : ℕ
@@ -176,11 +178,11 @@ module _ (n : ℕ) (ancestors : List ℕ) (grown : Grown n n ancestors) where
       step = ap (λ d. treeAt ancestors (otherNodes n) d u) (omega (arith, grown .atLeastTwo))
           ∙ treeTo-htu n ancestors grown less u two
 
-      l : InTree A
-      l = part-left u A B (treeOf .tree) (subst InTree step part)
+      l : InWhole A
+      l = part-left u A B (treeOf .tree) (subst InWhole step part)
 
-      r : InTree B
-      r = part-right u A B (treeOf .tree) (subst InTree step part)
+      r : InWhole B
+      r = part-right u A B (treeOf .tree) (subst InWhole step part)
 
       wholeLeft : treeFrom a ≡ A
       wholeLeft = part-whole less a (two .leftDescends .second) (two .leftDescends .last) l
@@ -190,24 +192,24 @@ module _ (n : ℕ) (ancestors : List ℕ) (grown : Grown n n ancestors) where
 
   -- the tree of every node is a part of the whole
   part-hangs : (v : ℕ) → 2 ≤ v → v ≤ 2 * n - 2 → Hangs v →
-      (2 ≤ ancestor ancestors v → ancestor ancestors v ≤ 2 * n - 2 → InTree (treeFrom (ancestor ancestors v))) →
-      InTree (treeFrom v)
-  part-hangs v p h (fromRow1 e) f = subst InTree (sym (first-whole v p h e)) whole
+      (2 ≤ ancestor ancestors v → ancestor ancestors v ≤ 2 * n - 2 → InWhole (treeFrom (ancestor ancestors v))) →
+      InWhole (treeFrom v)
+  part-hangs v p h (fromRow1 e) f = subst InWhole (sym (first-whole v p h e)) whole
   part-hangs v p h (onLeft sister htu) f =
       let u = ancestor ancestors v in split u v sister htu (f (htu-second u v sister htu) (htu .last)) .leftPart
   part-hangs v p h (onRight sister htu) f =
       let u = ancestor ancestors v in split u sister v htu (f (htu-second u sister v htu) (htu .last)) .rightPart
 
   -- by the number of steps up to row 1
-  part-climbs : (k v : ℕ) → 2 ≤ v → v ≤ 2 * n - 2 → Climbs ancestors (suc k) v → InTree (treeFrom v)
-  part-climbs zero v p h c = subst InTree (sym (first-whole v p h c)) whole
+  part-climbs : (k v : ℕ) → 2 ≤ v → v ≤ 2 * n - 2 → Climbs ancestors (suc k) v → InWhole (treeFrom v)
+  part-climbs zero v p h c = subst InWhole (sym (first-whole v p h c)) whole
   part-climbs (suc k) v p h c = part-hangs v p h (hangs v p h) (λ q r. part-climbs k (ancestor ancestors v) q r c)
 
   -- for every node below row 1
-  part-of : (v : ℕ) → 2 ≤ v → v ≤ 2 * n - 2 → InTree (treeFrom v)
+  part-of : (v : ℕ) → 2 ≤ v → v ≤ 2 * n - 2 → InWhole (treeFrom v)
   part-of v p h = let c = steps-up n ancestors grown v p h in go (c .0) (c .2)
     where
-      go : (k : ℕ) → Climbs ancestors k v → InTree (treeFrom v)
+      go : (k : ℕ) → Climbs ancestors k v → InWhole (treeFrom v)
       go zero c = absurd (omega arith)
       go (suc k) c = part-climbs k v p h c
 
@@ -219,7 +221,7 @@ module _ (n : ℕ) (ancestors : List ℕ) (grown : Grown n n ancestors) where
   -- the tree of an HTU is the fork of its descendants' trees
   module _ (u a b : ℕ) (htu : Htu u a b) where
     -- it is a part of the whole
-    htu-part : InTree (treeFrom u)
+    htu-part : InWhole (treeFrom u)
     htu-part = part-of u (htu-second u a b htu) (htu .last)
 
     -- and the fork of its descendants' trees
@@ -228,22 +230,22 @@ module _ (n : ℕ) (ancestors : List ℕ) (grown : Grown n n ancestors) where
 
     -- its value in a table made from the top down
     value-part : {X A : Type 0} (own : X → Tree → Tree → A) (toLeft toRight : X → Tree → Tree → X) (x : X) (otherwise : A)
-        (p : InTree (treeFrom u)) →
+        (p : InWhole (treeFrom u)) →
         valueAt otherwise (downward own toLeft toRight x (treeOf .tree)) u ≡ own (handed toLeft toRight x p) (treeFrom a) (treeFrom b)
     value-part own toLeft toRight x otherwise =
         subst
-        (λ s. (p : InTree s) →
+        (λ s. (p : InWhole s) →
         valueAt otherwise (downward own toLeft toRight x (treeOf .tree)) u ≡ own (handed toLeft toRight x p) (treeFrom a) (treeFrom b))
         (sym treeFrom-htu)
         (λ p. downward-part own toLeft toRight x u (treeFrom a) (treeFrom b) (treeOf .tree) p (treeOf .isDistinct) otherwise)
 
     -- what it hands to its descendants
-    hands-left : {X : Type 0} (toLeft toRight : X → Tree → Tree → X) (x : X) (p : InTree (treeFrom u)) →
-        (q : InTree (treeFrom a)) × (handed toLeft toRight x q ≡ toLeft (handed toLeft toRight x p) (treeFrom a) (treeFrom b))
+    hands-left : {X : Type 0} (toLeft toRight : X → Tree → Tree → X) (x : X) (p : InWhole (treeFrom u)) →
+        (q : InWhole (treeFrom a)) × (handed toLeft toRight x q ≡ toLeft (handed toLeft toRight x p) (treeFrom a) (treeFrom b))
     hands-left toLeft toRight x =
         subst
-        (λ s. (p : InTree s) →
-        (q : InTree (treeFrom a)) × (handed toLeft toRight x q
+        (λ s. (p : InWhole s) →
+        (q : InWhole (treeFrom a)) × (handed toLeft toRight x q
         ≡ toLeft (handed toLeft toRight x p) (treeFrom a) (treeFrom b)))
         (sym treeFrom-htu)
         (λ p. (
@@ -252,12 +254,12 @@ module _ (n : ℕ) (ancestors : List ℕ) (grown : Grown n n ancestors) where
         ))
 
     -- and to the right one
-    hands-right : {X : Type 0} (toLeft toRight : X → Tree → Tree → X) (x : X) (p : InTree (treeFrom u)) →
-        (q : InTree (treeFrom b)) × (handed toLeft toRight x q ≡ toRight (handed toLeft toRight x p) (treeFrom a) (treeFrom b))
+    hands-right : {X : Type 0} (toLeft toRight : X → Tree → Tree → X) (x : X) (p : InWhole (treeFrom u)) →
+        (q : InWhole (treeFrom b)) × (handed toLeft toRight x q ≡ toRight (handed toLeft toRight x p) (treeFrom a) (treeFrom b))
     hands-right toLeft toRight x =
         subst
-        (λ s. (p : InTree s) →
-        (q : InTree (treeFrom b)) × (handed toLeft toRight x q
+        (λ s. (p : InWhole s) →
+        (q : InWhole (treeFrom b)) × (handed toLeft toRight x q
         ≡ toRight (handed toLeft toRight x p) (treeFrom a) (treeFrom b)))
         (sym treeFrom-htu)
         (λ p. (
@@ -267,9 +269,9 @@ module _ (n : ℕ) (ancestors : List ℕ) (grown : Grown n n ancestors) where
 
   -- to the node that hangs from row 1 is handed what the table begins with
   first-handed : {X : Type 0} (toLeft toRight : X → Tree → Tree → X) (x : X) (v : ℕ) → 2 ≤ v → v ≤ 2 * n - 2 → ancestor ancestors v ≡ 1 →
-      (q : InTree (treeFrom v)) × (handed toLeft toRight x q ≡ x)
+      (q : InWhole (treeFrom v)) × (handed toLeft toRight x q ≡ x)
   first-handed toLeft toRight x v p h e =
-      subst (λ s. (q : InTree s) × (handed toLeft toRight x q ≡ x)) (sym (first-whole v p h e)) (whole, unfold handed in refl)
+      subst (λ s. (q : InWhole s) × (handed toLeft toRight x q ≡ x)) (sym (first-whole v p h e)) (whole, unfold handed in refl)
 
   module _ (rows : List (List ℤ)) (j : ℕ) where
     -- the codes of character j
@@ -296,14 +298,14 @@ module _ (n : ℕ) (ancestors : List ℕ) (grown : Grown n n ancestors) where
     state-from u a b htu y = ap (nearest y) (sym (ap (up code) (treeFrom-htu u a b htu)))
 
     -- its state, from what is handed to it as a part of the tree
-    state-part : (u a b : ℕ) (htu : Htu u a b) (p : InTree (treeFrom u)) →
+    state-part : (u a b : ℕ) (htu : Htu u a b) (p : InWhole (treeFrom u)) →
         chosenState ancestors rows n u j ≡ stateFrom code (handed (stateFrom code) (stateFrom code) (code 1) p) (treeFrom a) (treeFrom b)
     state-part u a b htu p = chosenState-fit n ancestors rows treeOf u j
         ∙ fit-downward code (code 1) (treeOf .tree) u
         ∙ value-part u a b htu (stateFrom code) (stateFrom code) (stateFrom code) (code 1) (code u) p
 
     -- from a part to which the state of its ancestor is handed
-    state-handed : (v c d : ℕ) → Htu v c d → (y : ℤ) (q : InTree (treeFrom v)) →
+    state-handed : (v c d : ℕ) → Htu v c d → (y : ℤ) (q : InWhole (treeFrom v)) →
         handed (stateFrom code) (stateFrom code) (code 1) q ≡ y →
         chosenState ancestors rows n v j ≡ nearest y (setAt v)
     state-handed v c d htu y q e = state-part v c d htu q ∙ state-from v c d htu (handed (stateFrom code) (stateFrom code) (code 1) q)
@@ -338,11 +340,11 @@ module _ (n : ℕ) (ancestors : List ℕ) (grown : Grown n n ancestors) where
         (treeOf .tree)) v
 
     -- what is handed to a part of the tree as its outside
-    seen : (v : ℕ) → InTree (treeFrom v) → Span
+    seen : (v : ℕ) → InWhole (treeFrom v) → Span
     seen v p = handed (outsideLeft code) (outsideRight code) (only (code 1)) p
 
     -- the outside of an HTU is what is handed to it
-    outside-part : (u a b : ℕ) (htu : Htu u a b) (p : InTree (treeFrom u)) → outsideAt u ≡ seen u p
+    outside-part : (u a b : ℕ) (htu : Htu u a b) (p : InWhole (treeFrom u)) → outsideAt u ≡ seen u p
     unfolding outsideAt seen
     outside-part u a b htu p =
         value-part u a b htu (λ x a b. x) (outsideLeft code) (outsideRight code) (only (code 1)) (only (code 1)) p

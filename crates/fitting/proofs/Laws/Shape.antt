@@ -186,7 +186,9 @@ module _ (n : ℕ) (ancestors : List ℕ) (grown : Grown n n ancestors) where
 
   -- every HTU has two
   pub two-of : (u : ℕ) → n < u → u ≤ 2 * n - 2 → Two u
-  two-of u l h = let two = two-in (descendants ancestors (otherNodes n) u) (two-below n ancestors grown u l h) in two-given u (two .0) (two .1) (two .2)
+  two-of u l h =
+      let two = two-in (descendants ancestors (otherNodes n) u) (two-below n ancestors grown u l h) in
+      two-given u (two .0) (two .1) (two .2)
 
   -- the tree of a node to some depth
   abbrev pub treeTo : ℕ → ℕ → Tree

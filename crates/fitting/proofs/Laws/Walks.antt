@@ -58,7 +58,8 @@ module _ (n : ℕ) (ancestors : List ℕ) (grown : Grown n n ancestors) where
       (λ p. nothing (inl p))
     where
       nothing : (v < 2) ⊎ (2 * n - 2 < v) →
-          sumOver (λ a. pick (eqb a v) (pick (eqb (ancestor ancestors a) u) x)) (numbers 2 (2 * n - 3)) ≡ pick (eqb (ancestor ancestors v) u) x
+          sumOver (λ a. pick (eqb a v) (pick (eqb (ancestor ancestors a) u) x)) (numbers 2 (2 * n - 3))
+          ≡ pick (eqb (ancestor ancestors v) u) x
       nothing outside = sum-outside 2 (2 * n - 3) v (λ a. pick (eqb (ancestor ancestors a) u) x)
           (λ r s. ⊎-elim (λ l. omega arith) (λ l. omega (arith, grown .atLeastTwo)) outside)
           ∙ sym (ap (λ t. pick t x) (ne-eqb (ancestor ancestors v) u (λ e. omega (arith, no-ancestor n ancestors grown v outside))))
