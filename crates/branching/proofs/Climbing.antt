@@ -8,14 +8,14 @@ use native.Mathlib.Omega.{arith}
 use lib.Dec.{eqb}
 use lib.ListN.{length}
 use borrow.Author.Tests.{eqb-true, eq-eqb}
+use Rattle.matrix.proofs.Both.{eqb-iff, or-iff}
 use Rattle.branching.specs.Ancestors.{ancestor}
 use Rattle.branching.specs.Nodes.{keep}
 use Rattle.branching.specs.Growing.{climbs, ReachesRoot, root, up}
-use Rattle.branching.proofs.Tests.{eqb-iff, or-iff}
-use Rattle.branching.proofs.Numbers.{keep-grows, mem-keep, mem-length, length-keep-le}
+use Rattle.branching.proofs.Keep.{keep-grows, mem-keep, mem-length, length-keep-le}
 
 module _ (tree : List ℕ) where
-  -- one step more: node v is node 1, or its immediate ancestor climbs
+  -- the test with one step more, by cases of node v and its immediate ancestor
   climbs-suc : (steps v : ℕ) → climbs tree (suc steps) v ≡ (eqb v 1 || climbs tree steps (ancestor tree v))
   unfolding climbs
   climbs-suc steps v = go (eqb v 1) (climbs tree steps (ancestor tree v))
@@ -24,12 +24,11 @@ module _ (tree : List ℕ) where
       go true c = refl
       go false c = refl
 
+  -- with one step more, node v climbs exactly if it is node 1 or its immediate ancestor climbs
   pub climbs-iff : (steps v : ℕ) → (climbs tree (suc steps) v ≡ true) ↔ ((v ≡ 1) ⊎ (climbs tree steps (ancestor tree v) ≡ true))
   climbs-iff steps v = rw (climbs-suc steps v) (or-iff (eqb-iff v 1) Iff·rfl)
 
-  pub climbs-cases : (steps v : ℕ) → climbs tree (suc steps) v ≡ true → (v ≡ 1) ⊎ (climbs tree steps (ancestor tree v) ≡ true)
-  climbs-cases steps v = climbs-iff steps v .0
-
+  -- if the immediate ancestor climbs, so does the node with one step more
   climbs-up : (steps v : ℕ) → climbs tree steps (ancestor tree v) ≡ true → climbs tree (suc steps) v ≡ true
   climbs-up steps v c = climbs-iff steps v .1 (inr c)
 
@@ -47,32 +46,33 @@ module _ (tree : List ℕ) where
       ⊎-elim
       (λ e. climbs-root (suc (suc steps)) v e)
       (λ r. climbs-up (suc steps) v (climbs-more steps (ancestor tree v) r))
-      (climbs-cases steps v c)
+      (climbs-iff steps v .0 c)
 
   -- what climbs reaches node 1
   pub climbs-reaches : (steps v : ℕ) → climbs tree steps v ≡ true → ReachesRoot tree v
   unfolding climbs
   climbs-reaches zero v c = rw (eqb-true v 1 c) root
   climbs-reaches (suc steps) v c =
-      ⊎-elim (λ e. rw e root) (λ r. up v (climbs-reaches steps (ancestor tree v) r)) (climbs-cases steps v c)
+      ⊎-elim (λ e. rw e root) (λ r. up v (climbs-reaches steps (ancestor tree v) r)) (climbs-iff steps v .0 c)
 
   -- a number other than 1 without an ancestor never climbs, if 0 has none
   pub never-climbs : ancestor tree 0 ≡ 0 → (steps v : ℕ) → v ≢ 1 → ancestor tree v ≡ 0 → ¬ (climbs tree steps v ≡ true)
   unfolding climbs
   never-climbs ground zero v ne none c = ne (eqb-true v 1 c)
   never-climbs ground (suc steps) v ne none c =
-      ⊎-elim ne (λ r. never-climbs ground steps 0 (λ e. omega arith) ground (rw none at r)) (climbs-cases steps v c)
+      ⊎-elim ne (λ r. never-climbs ground steps 0 (λ e. omega arith) ground (rw none at r)) (climbs-iff steps v .0 c)
 
   -- after so many steps nothing more climbs
   abbrev Settled : ℕ → Type 0
   Settled steps = (v : ℕ) → climbs tree (suc steps) v ≡ true → climbs tree steps v ≡ true
 
+  -- nor after one more
   settled-suc : (steps : ℕ) → Settled steps → Settled (suc steps)
   settled-suc steps s v c =
       ⊎-elim
       (λ e. climbs-root (suc steps) v e)
       (λ r. climbs-up steps v (s (ancestor tree v) r))
-      (climbs-cases (suc steps) v c)
+      (climbs-iff (suc steps) v .0 c)
 
   -- then all that reaches node 1 climbs
   reaches-settled : (steps : ℕ) → Settled steps → {v : ℕ} → ReachesRoot tree v → climbs tree steps v ≡ true

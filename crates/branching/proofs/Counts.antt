@@ -1,21 +1,19 @@
--- How many taxa are placed, and how many descendants a node has and has to have.
-use mathlib.Core.Path.{_≡_, refl, ap, _∙_}
+-- How many taxa are placed, which are not, and which nodes a growing tree has.
+use mathlib.Core.Path.{_≡_, refl, ap}
 use mathlib.Core.Logic.{inl, inr, ⊎-elim, _≢_}
 use mathlib.Core.List.{List, List·Memᴰ}
-use mathlib.Core.Bool.{Bool, true, not}
-use Prim.Native.Nat.{ℕ, suc, _≤_, _<_}
+use mathlib.Core.Bool.{true, not}
+use Prim.Native.Nat.{ℕ, suc, _*_, _-_, _≤_, _<_}
 use native.Mathlib.Omega.{arith}
-use lib.Dec.{eqb}
-use lib.ListN.{length}
-use borrow.Author.Tests.{eqb-true, ne-eqb, le-leb, lt-leb}
 use Rattle.matrix.specs.Choice.{numbers}
+use Rattle.matrix.proofs.Choice.{length-numbers, numbers-within, numbers-among}
 use Rattle.branching.specs.Ancestors.{ancestor}
 use Rattle.branching.specs.Nodes.{inTree, keep, nodesIn, nodesOut, otherNodes, taxaPlaced}
-use Rattle.branching.specs.Growing.{descendantCount, descendantsWanted, InTree, Grown, Unplaced}
-use Rattle.branching.proofs.Numbers.{numbers-between, between-numbers, keep-mem, mem-keep, keep-none, keep-split, keep-grows, mark}
-use Rattle.branching.proofs.Numbers.{length-mem, length-keep, length-keep-le, length-numbers, sum-changed}
-use Rattle.branching.proofs.Nodes.{inTree-true, true-inTree, false-inTree, not-inTree, taxaPlaced-le, nodesIn-node}
-use Rattle.branching.proofs.Sums.{descendants-keep}
+use Rattle.branching.specs.Growing.{descendantsWanted, Grown, Unplaced}
+use Rattle.branching.proofs.Nodes.{false-inTree, not-inTree, taxaPlaced-le, nodesIn-node, inTree-iff}
+use Rattle.branching.proofs.Sums.{length-keep, sum-changed, counted}
+use Rattle.branching.proofs.Keep.{keep-mem, mem-keep, keep-split, keep-grows, length-mem, length-keep-le}
+use Rattle.branching.proofs.Descendants.{has-descendant}
 
 -- if all taxa are placed, each is in the tree
 pub all-placed : (n : ℕ) (tree : List ℕ) → taxaPlaced n tree ≡ n → (v : ℕ) → 2 ≤ v → v ≤ n → 1 ≤ ancestor tree v
@@ -23,8 +21,8 @@ unfolding taxaPlaced nodesIn
 all-placed n tree all v l h =
     ⊎-elim
     (λ back.
-    let m = between-numbers v 1 n (omega arith) (omega arith) in
-    ⊎-elim (λ e. absurd (omega arith)) (λ a. a) (inTree-true tree v (back v m refl)))
+    let m = numbers-among 1 n v (omega arith) (omega arith) in
+    ⊎-elim (λ e. absurd (omega arith)) (λ a. a) (inTree-iff tree v .0 (back v m refl)))
     (λ less. absurd (omega (arith, length-keep-le (λ v. true) (numbers 1 n), length-numbers 1 n)))
     (keep-grows (inTree tree) (λ v. true) (numbers 1 n) (λ v m t. refl))
 
@@ -42,46 +40,12 @@ unfolding taxaPlaced nodesIn
 taxaPlaced-more n old new b u comes same =
     let before = length-keep (inTree old) (numbers 1 n) in
     let after = length-keep (inTree new) (numbers 1 n) in
-    let b-in : mark (inTree new b) ≡ 1 = ap mark (true-inTree new b (inr comes)) in
-    let b-out : mark (inTree old b) ≡ 0 = ap mark (false-inTree old b (u .other) (u .free)) in
+    let b-in : counted (inTree new b) ≡ 1 = ap counted (inTree-iff new b .1 (inr comes)) in
+    let b-out : counted (inTree old b) ≡ 0 = ap counted (false-inTree old b (u .other) (u .free)) in
     let change =
-    sum-changed (λ v. mark (inTree new v)) (λ v. mark (inTree old v)) b 1 n (omega arith) (omega arith) λ v m ne.
-    ap mark (same v (omega (arith, numbers-between v 1 n m)) ne) in
+    sum-changed (λ v. counted (inTree new v)) (λ v. counted (inTree old v)) b 1 n (omega arith) (omega arith) λ v m ne.
+    ap counted (same v (omega (arith, numbers-within 1 n v m)) ne) in
     omega arith
-
--- a number that is the ancestor of no node has no descendant
-pub count-none : (n : ℕ) (tree : List ℕ) (w : ℕ) → ((u : ℕ) → ancestor tree u ≢ w) → descendantCount n tree w ≡ 0
-unfolding descendantCount
-count-none n tree w none =
-    ap length (descendants-keep tree (otherNodes n) w)
-    ∙ keep-none (λ u. eqb (ancestor tree u) w) (otherNodes n) (λ u m t. none u (eqb-true (ancestor tree u) w t))
-
--- so it is with a number that is not in the tree, if all ancestors are in the tree
-pub count-out : (n : ℕ) (tree : List ℕ) (w : ℕ) → ((v : ℕ) → 1 ≤ ancestor tree v → InTree tree (ancestor tree v)) → 2 ≤ w
-    → ancestor tree w ≡ 0 → descendantCount n tree w ≡ 0
-count-out n tree w all l out =
-    count-none n tree w λ u e. ⊎-elim (λ p. omega arith) (λ p. omega (arith, ap (ancestor tree) e)) (all u (omega arith))
-
--- a taxon other than row 1 has to have no descendant, an HTU two
-pub wanted-taxon : (n v : ℕ) → 2 ≤ v → v ≤ n → descendantsWanted n v ≡ 0
-unfolding descendantsWanted
-wanted-taxon n v l h = rw (ne-eqb v 1 (λ e. omega arith), le-leb v n h)
-
-pub wanted-htu : (n v : ℕ) → 2 ≤ v → n < v → descendantsWanted n v ≡ 2
-unfolding descendantsWanted
-wanted-htu n v l h = rw (ne-eqb v 1 (λ e. omega arith), lt-leb v n h)
-
--- a node with a descendant: one of nodes 2 to 2n-2 has it as ancestor
-pub has-descendant : (n : ℕ) (tree : List ℕ) (v : ℕ) → 1 ≤ descendantCount n tree v
-    → (u : ℕ) × List·Memᴰ u (otherNodes n) × (ancestor tree u ≡ v)
-unfolding descendantCount
-has-descendant n tree v h =
-    let some = length-mem (keep is-below (otherNodes n)) (rw (descendants-keep tree (otherNodes n) v) at h) in
-    let k = keep-mem is-below (otherNodes n) (some .0) (some .1) in
-    (some .0, k .0, eqb-true (ancestor tree (some .0)) v (k .1))
-  where
-    is-below : ℕ → Bool
-    is-below u = eqb (ancestor tree u) v
 
 -- if not all taxa are placed, one is not
 pub some-unplaced : (n : ℕ) (tree : List ℕ) → taxaPlaced n tree < n → (v : ℕ) × List·Memᴰ v (nodesOut tree (numbers 1 n))
@@ -96,7 +60,7 @@ pub unplaced-taxon : (n : ℕ) (tree : List ℕ) (v : ℕ) → List·Memᴰ v (n
 unfolding nodesOut
 unplaced-taxon n tree v m =
     let k = keep-mem (λ v. not (inTree tree v)) (numbers 1 n) v m in
-    let b = numbers-between v 1 n (k .0) in
+    let b = numbers-within 1 n v (k .0) in
     let out = not-inTree tree v (k .1) in
     record { other = omega arith; taxon = omega arith; free = out .1 }
 
@@ -105,12 +69,18 @@ pub grown-node : (n k : ℕ) (tree : List ℕ) → Grown n k tree → (u : ℕ) 
 unfolding descendantsWanted nodesIn
 grown-node n k tree g =
     let h = has-descendant n tree 1 (rw (g .descendantsRight 1 (inl refl)) (omega arith)) in
-    (h .0, mem-keep (inTree tree) (otherNodes n) (h .0) (h .1) (true-inTree tree (h .0) (inr (omega (arith, h .2)))))
+    (h .0, mem-keep (inTree tree) (otherNodes n) (h .0) (h .1) (inTree-iff tree (h .0) .1 (inr (omega (arith, h .2)))))
 
 -- every node of it with an ancestor is one of nodes 2 to 2n-2
+pub grown-within : (n k : ℕ) (tree : List ℕ) → Grown n k tree → (v : ℕ) → 1 ≤ ancestor tree v → (2 ≤ v) × (v ≤ 2 * n - 2)
+grown-within n k tree g v a =
+    let within = g .nodesOnly v a in
+    let taxa = g .placed in
+    let most = taxaPlaced-le tree n in
+    omega arith
+
+-- and stands in the list of those in the tree
 pub grown-nodes : (n k : ℕ) (tree : List ℕ) → Grown n k tree → (v : ℕ) → 1 ≤ ancestor tree v → List·Memᴰ v (nodesIn tree (otherNodes n))
 grown-nodes n k tree g v a =
-    let within = g .nodesOnly v a in
-    let l = taxaPlaced-le tree n in
-    let taxa = g .placed in
-    nodesIn-node tree n v (within .0) (omega arith) (inr a)
+    let within = grown-within n k tree g v a in
+    nodesIn-node tree n v (within .0) (within .1) (inr a)

@@ -5,9 +5,10 @@ use mathlib.Core.Bool.{Bool, true, false}
 use Prim.Native.Nat.{ℕ}
 use Rattle.matrix.specs.Choice.{numbers}
 use Rattle.matrix.specs.Shape.{lastNode}
+use Rattle.matrix.specs.Every.{every}
 use Rattle.branching.specs.Ancestors.{ancestor, descendants}
 use Rattle.branching.specs.Nodes.{hasAncestor, inTree, keep, nodesIn, otherNodes, taxaPlaced}
-use Rattle.branching.specs.Growing.{every, descendantCount, descendantsWanted, climbs, rowOneAlone, nodesOnly, htusIn, ancestorsIn}
+use Rattle.branching.specs.Growing.{descendantCount, descendantsWanted, climbs, rowOneAlone, nodesOnly, htusIn, ancestorsIn}
 use Rattle.branching.specs.Growing.{descendantsRight, allClimb, grown, growingTree, branching}
 use Rattle.branching.specs.Branches.{BranchRecord, branchesRead, ancestorsOf, sameNumbers, namedInOrder, lentBranching}
 
@@ -18,19 +19,22 @@ unfolding numbers lastNode ancestor descendants hasAncestor inTree keep nodesIn 
     branchesRead ancestorsOf sameNumbers namedInOrder lentBranching
 growing tree = growingTree 4 tree
 
--- row 1 alone; a link to row 1; three taxa with one HTU; all four with two HTUs
+-- row 1 alone
 row-one-alone : growing (0 ∷ 0 ∷ 0 ∷ 0 ∷ 0 ∷ 0 ∷ 0 ∷ 0 ∷ []) ≡ true
 unfolding growing
 row-one-alone = refl
 
+-- a link to row 1
 two-taxa : growing (0 ∷ 0 ∷ 0 ∷ 0 ∷ 1 ∷ 0 ∷ 0 ∷ 0 ∷ []) ≡ true
 unfolding growing
 two-taxa = refl
 
+-- three taxa with one HTU
 three-taxa : growing (0 ∷ 0 ∷ 5 ∷ 0 ∷ 5 ∷ 1 ∷ 0 ∷ 0 ∷ []) ≡ true
 unfolding growing
 three-taxa = refl
 
+-- all four with two HTUs
 four-taxa : growing (0 ∷ 0 ∷ 6 ∷ 6 ∷ 5 ∷ 1 ∷ 5 ∷ 0 ∷ []) ≡ true
 unfolding growing
 four-taxa = refl
@@ -55,11 +59,12 @@ ring : growing (0 ∷ 0 ∷ 1 ∷ 6 ∷ 5 ∷ 6 ∷ 5 ∷ 0 ∷ []) ≡ false
 unfolding growing
 ring = refl
 
--- wrong: node 1 has an ancestor; a number beyond the nodes has one
+-- wrong: node 1 has an ancestor
 root-below : growing (0 ∷ 2 ∷ 1 ∷ 0 ∷ 0 ∷ 0 ∷ 0 ∷ 0 ∷ []) ≡ false
 unfolding growing
 root-below = refl
 
+-- wrong: a number beyond the nodes has one
 beyond : growing (0 ∷ 0 ∷ 1 ∷ 0 ∷ 0 ∷ 0 ∷ 0 ∷ 1 ∷ []) ≡ false
 unfolding growing
 beyond = refl

@@ -12,32 +12,36 @@ use Rattle.branching.specs.Ancestors.{ancestor}
 use Rattle.branching.specs.Nodes.{inTree, taxaPlaced}
 use Rattle.branching.specs.Growing.{descendantCount, descendantsWanted, InTree, ReachesRoot, root, up, Grown, Unplaced}
 use Rattle.branching.specs.Hanging.{hung}
-use Rattle.branching.proofs.Numbers.{mark}
-use Rattle.branching.proofs.Nodes.{inTree-same, true-inTree}
-use Rattle.branching.proofs.Counts.{taxaPlaced-lt, taxaPlaced-more, count-out, wanted-taxon, wanted-htu}
-use Rattle.branching.proofs.Sums.{count-sum, Joint, hung-taxon, hung-lower, hung-htu, hung-other, sum-hung}
+use Rattle.branching.proofs.Nodes.{inTree-same, inTree-iff}
+use Rattle.branching.proofs.Counts.{taxaPlaced-lt, taxaPlaced-more}
+use Rattle.branching.proofs.Sums.{counted}
+use Rattle.branching.proofs.Descendants.{count-out, wanted-taxon, wanted-htu}
+use Rattle.branching.proofs.BranchSums.{count-sum, Joint, hung-taxon, hung-lower, hung-htu, hung-other, sum-hung}
 
--- with one taxon more the last HTU has the next number
+-- with one taxon more the last HTU has the next number: what was no later than the last still is
 last-later : (n k v : ℕ) → 2 ≤ k → v ≤ n + k - 2 → v ≤ n + suc k - 2
 last-later n k v two h = omega arith
 
+-- and what is no later than the new last, and not the new HTU, was
 last-before : (n k v : ℕ) → 2 ≤ k → v ≢ n + k - 1 → v ≤ n + suc k - 2 → v ≤ n + k - 2
 last-before n k v two ne h = omega arith
 
 -- a growing tree of k taxa with a place for every node, a taxon b that is not in it, and a node c of it other than row 1
 module _ (n k : ℕ) (tree : List ℕ) (g : Grown n k tree) (room : 2 * n - 2 < length tree) (b c : ℕ) (u : Unplaced n tree b)
     (inside : 1 ≤ ancestor tree c) where
-  -- the new HTU, and the tree with b hung through it
+  -- the new HTU
   abbrev y : ℕ
   y = n + k - 1
 
+  -- the tree with b hung through it
   abbrev new : List ℕ
   new = hung tree b c y
 
-  -- not all taxa are placed, and the new HTU is not in the tree
+  -- not all taxa are placed
   not-all : k < n
   not-all = omega (arith, taxaPlaced-lt n tree b u, g .placed)
 
+  -- the new HTU is not in the tree
   pub htu-out : ancestor tree y ≡ 0
   htu-out = by-cases (decLe 1 (ancestor tree y)) (λ a. absurd (omega (arith, g .nodesOnly y a, g .atLeastTwo))) (λ a. omega arith)
 
@@ -56,16 +60,19 @@ module _ (n k : ℕ) (tree : List ℕ) (g : Grown n k tree) (room : 2 * n - 2 < 
         lowerHtu = λ e. omega arith;
       }
 
-  -- the ancestors in the new tree
+  -- in the new tree b has y
   at-taxon : ancestor new b ≡ y
   at-taxon = hung-taxon n tree b c y hung-joint
 
+  -- so has c
   at-lower : ancestor new c ≡ y
   at-lower = hung-lower n tree b c y hung-joint
 
+  -- y has c's old ancestor
   at-htu : ancestor new y ≡ ancestor tree c
   at-htu = hung-htu n tree b c y hung-joint
 
+  -- no other ancestor changes
   at-other : (v : ℕ) → v ≢ b → v ≢ c → v ≢ y → ancestor new v ≡ ancestor tree v
   at-other = hung-other n tree b c y hung-joint
 
@@ -104,16 +111,17 @@ module _ (n k : ℕ) (tree : List ℕ) (g : Grown n k tree) (room : 2 * n - 2 < 
   only-taxon v nb ny =
       by-cases
       (ℕ-discrete v c)
-      (λ e. rw e (true-inTree new c (stays c (inr inside)) ∙ sym (true-inTree tree c (inr inside))))
+      (λ e. rw e (inTree-iff new c .1 (stays c (inr inside)) ∙ sym (inTree-iff tree c .1 (inr inside))))
       (λ nc. inTree-same tree new v (at-other v nb nc ny))
 
-  -- the parts of a growing tree with one taxon more, one by one
+  -- one taxon more is placed
   placed-more : taxaPlaced n new ≡ suc k
   placed-more =
       let two = g .atLeastTwo in
       let same : (v : ℕ) → v ≤ n → v ≢ b → inTree new v ≡ inTree tree v = λ v l nb. only-taxon v nb (λ e. omega arith) in
       taxaPlaced-more n tree new b u (omega (arith, at-taxon)) same ∙ ap suc (g .placed)
 
+  -- only nodes 2 to n+k-1 have an ancestor
   nodesOnly-more : (v : ℕ) → 1 ≤ ancestor new v → (2 ≤ v) × (v ≤ n + suc k - 2)
   nodesOnly-more =
       let two = g .atLeastTwo in
@@ -124,6 +132,7 @@ module _ (n k : ℕ) (tree : List ℕ) (g : Grown n k tree) (room : 2 * n - 2 < 
       (λ h. omega arith)
       (λ v nb nc ny h. let l = g .nodesOnly v (rw (at-other v nb nc ny) at h) in (l .0, last-later n k v two (l .1)))
 
+  -- HTUs n+1 to n+k-1 have one
   htusIn-more : (v : ℕ) → n < v → v ≤ n + suc k - 2 → 1 ≤ ancestor new v
   htusIn-more =
       let two = g .atLeastTwo in
@@ -134,6 +143,7 @@ module _ (n k : ℕ) (tree : List ℕ) (g : Grown n k tree) (room : 2 * n - 2 < 
       (λ l h. omega (arith, at-htu))
       (λ v nb nc ny l h. rw (at-other v nb nc ny) (g .htusIn v l (last-before n k v two ny h)))
 
+  -- each ancestor is in the tree
   ancestorsIn-more : (v : ℕ) → 1 ≤ ancestor new v → InTree new (ancestor new v)
   ancestorsIn-more =
       by-node
@@ -146,20 +156,22 @@ module _ (n k : ℕ) (tree : List ℕ) (g : Grown n k tree) (room : 2 * n - 2 < 
       htu-in : InTree new y
       htu-in = inr (omega (arith, at-htu))
 
-  -- the descendants of a node, before and after
-  count-change : (v : ℕ) → 1 ≤ v → descendantCount n new v ≡ descendantCount n tree v + (mark (eqb y v) + mark (eqb y v))
+  -- the descendants of node v after the hanging: two more if it is y
+  count-change : (v : ℕ) → 1 ≤ v → descendantCount n new v ≡ descendantCount n tree v + (counted (eqb y v) + counted (eqb y v))
   count-change v l =
-      let none : mark (eqb 0 v) ≡ 0 = ap mark (ne-eqb 0 v (λ e. omega arith)) in
-      let taxon : mark (eqb (ancestor tree b) v) ≡ 0 = ap (λ (a : ℕ). mark (eqb a v)) (u .free) ∙ none in
-      let htu : mark (eqb (ancestor tree y) v) ≡ 0 = ap (λ (a : ℕ). mark (eqb a v)) htu-out ∙ none in
+      let none : counted (eqb 0 v) ≡ 0 = ap counted (ne-eqb 0 v (λ e. omega arith)) in
+      let taxon : counted (eqb (ancestor tree b) v) ≡ 0 = ap (λ (a : ℕ). counted (eqb a v)) (u .free) ∙ none in
+      let htu : counted (eqb (ancestor tree y) v) ≡ 0 = ap (λ (a : ℕ). counted (eqb a v)) htu-out ∙ none in
       let before = count-sum n tree v in
       let after = count-sum n new v in
-      let change = sum-hung n tree b c y hung-joint (λ u a. mark (eqb a v)) in
+      let change = sum-hung n tree b c y hung-joint (λ u a. counted (eqb a v)) in
       omega arith
 
+  -- so any other node has as many as before
   count-same : (v : ℕ) → 1 ≤ v → v ≢ y → descendantCount n new v ≡ descendantCount n tree v
-  count-same v l ne = let other : mark (eqb y v) ≡ 0 = ap mark (ne-eqb y v (λ e. ne (sym e))) in omega (arith, count-change v l)
+  count-same v l ne = let other : counted (eqb y v) ≡ 0 = ap counted (ne-eqb y v (λ e. ne (sym e))) in omega (arith, count-change v l)
 
+  -- each node has as many as it has to have
   descendantsRight-more : (v : ℕ) → InTree new v → descendantCount n new v ≡ descendantsWanted n v
   descendantsRight-more =
       by-node
@@ -178,7 +190,7 @@ module _ (n k : ℕ) (tree : List ℕ) (g : Grown n k tree) (room : 2 * n - 2 < 
       htu-count : descendantCount n new y ≡ descendantsWanted n y
       htu-count =
           let two = g .atLeastTwo in
-          let itself : mark (eqb y y) ≡ 1 = ap mark (eq-eqb y y refl) in
+          let itself : counted (eqb y y) ≡ 1 = ap counted (eq-eqb y y refl) in
           let before = count-out n tree y (g .ancestorsIn) (omega arith) htu-out in
           let wanted = wanted-htu n y (omega arith) (omega arith) in
           omega (arith, count-change y (omega arith))
@@ -206,6 +218,7 @@ module _ (n k : ℕ) (tree : List ℕ) (g : Grown n k tree) (room : 2 * n - 2 < 
           (λ a r. absurd (omega (arith, htu-out)))
           (λ v nb nc ny a r. up v (rw (at-other v nb nc ny) r))
 
+  -- going up from any node reaches node 1
   rooted-more : (v : ℕ) → InTree new v → ReachesRoot new v
   rooted-more =
       by-node

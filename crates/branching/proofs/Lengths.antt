@@ -1,7 +1,7 @@
 -- The length of a tree, and what a taxon that is linked or hung adds to it.
 use mathlib.Core.Path.{_≡_, ap, _∙_}
 use mathlib.Core.List.{List}
-use mathlib.Core.Bool.{Bool, cond}
+use mathlib.Core.Bool.{Bool}
 use Prim.Native.Nat.{ℕ, _+_, _*_, _-_, _≤_, _<_}
 use native.Mathlib.Omega.{arith}
 use lib.Dec.{leb}
@@ -12,9 +12,9 @@ use Rattle.branching.specs.Nodes.{nodesIn, otherNodes}
 use Rattle.branching.specs.Growing.{Unplaced}
 use Rattle.branching.specs.Hanging.{linked, hung}
 use Rattle.branching.specs.Branches.{treeLength}
-use Rattle.branching.proofs.Numbers.{sum-same, sum-none}
 use Rattle.branching.proofs.Nodes.{node-nodesIn}
-use Rattle.branching.proofs.Sums.{sumOfBranches, sum-set, treeLength-sum, Joint, sum-hung}
+use Rattle.branching.proofs.Sums.{sum-same, sum-none, pick}
+use Rattle.branching.proofs.BranchSums.{sumOfBranches, sum-set, treeLength-sum, Joint, sum-hung}
 
 -- two differences that agree on the branches of a tree give it one length
 pub treeLength-same : (d e : ℕ → ℕ → ℕ) (n : ℕ) (tree : List ℕ)
@@ -29,16 +29,17 @@ treeLength-same d e n tree same =
 module _ (d : ℕ → ℕ → ℕ) where
   -- the length of the branch from node v up to a, and 0 if there is none
   span : ℕ → ℕ → ℕ
-  span v a = cond (leb 1 a) (d v a) 0
+  span v a = pick (leb 1 a) (d v a)
 
-  -- nothing where there is no branch, the difference where there is one
+  -- nothing where there is no branch
   span-none : (v a : ℕ) → a ≡ 0 → span v a ≡ 0
   unfolding span
   span-none v a e = rw e
 
+  -- the difference where there is one
   span-some : (v a : ℕ) → 1 ≤ a → span v a ≡ d v a
   unfolding span
-  span-some v a h = ap (λ (t : Bool). cond t (d v a) 0) (le-leb 1 a h)
+  span-some v a h = ap (λ (t : Bool). pick t (d v a)) (le-leb 1 a h)
 
   -- the length of a tree is the sum of them
   spans : (n : ℕ) (tree : List ℕ) → treeLength d n tree ≡ sumOfBranches span n tree
@@ -49,7 +50,7 @@ module _ (d : ℕ → ℕ → ℕ) where
   pub alone-length : (n : ℕ) (tree : List ℕ) → ((v : ℕ) → ancestor tree v ≡ 0) → treeLength d n tree ≡ 0
   unfolding sumOfBranches
   alone-length n tree none =
-      spans n tree ∙ sum-none (λ v. span v (ancestor tree v)) (otherNodes n) (λ v. span-none v (ancestor tree v) (none v))
+      spans n tree ∙ sum-none (λ v. span v (ancestor tree v)) (otherNodes n) (λ v m. span-none v (ancestor tree v) (none v))
 
   -- with the first taxon linked to it, it has the length of that branch
   pub linked-length : (n : ℕ) (tree : List ℕ) → ((v : ℕ) → ancestor tree v ≡ 0) → 2 * n - 2 < length tree → (b : ℕ) → Unplaced n tree b

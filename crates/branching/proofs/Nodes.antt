@@ -10,23 +10,26 @@ use lib.Dec.{leb, eqb}
 use lib.ListN.{length, getD, replicate, List·getD-eq-default}
 use borrow.Author.Tests.{ne-eqb, leb-false, lt-leb, not-true}
 use Rattle.matrix.specs.Choice.{numbers}
+use Rattle.matrix.proofs.Choice.{length-numbers, numbers-within, numbers-among}
+use Rattle.matrix.proofs.Both.{leb-iff, eqb-iff, or-iff}
 use Rattle.branching.specs.Ancestors.{ancestor}
 use Rattle.branching.specs.Nodes.{hasAncestor, inTree, nodesIn, otherNodes, taxaPlaced}
 use Rattle.branching.specs.Growing.{InTree}
 use Rattle.branching.specs.Hanging.{noBranches}
-use Rattle.branching.proofs.Numbers.{numbers-between, between-numbers, keep-mem, mem-keep, length-keep-le, length-numbers}
-use Rattle.branching.proofs.Tests.{leb-iff, eqb-iff, or-iff}
+use Rattle.branching.proofs.Keep.{keep-mem, mem-keep, length-keep-le}
 
--- row 1 alone, as a build starts: 127 places, no branches
+-- a list of one number throughout has it at every place, and beyond its end if it stands in there
 same-everywhere : (count v a : ℕ) → getD (replicate count a) v a ≡ a
 same-everywhere zero v a = refl
 same-everywhere (suc count) zero a = refl
 same-everywhere (suc count) (suc v) a = same-everywhere count v a
 
+-- in row 1 alone, as a build starts, no node has an ancestor
 pub noBranches-none : (v : ℕ) → ancestor noBranches v ≡ 0
 unfolding noBranches ancestor
 noBranches-none v = same-everywhere 127 v 0
 
+-- it has 127 places
 pub noBranches-places : length noBranches ≡ 127
 unfolding noBranches
 noBranches-places = refl
@@ -46,11 +49,12 @@ module _ (tree : List ℕ) where
   pub ancestor-place : (v : ℕ) → 1 ≤ ancestor tree v → v < length tree
   ancestor-place v h = by-cases (decLe (length tree) v) (λ b. absurd (omega (arith, ancestor-beyond v b))) (λ b. omega arith)
 
-  -- the tests for having an ancestor, for having none, and for being in the tree
+  -- the test for having an ancestor
   pub hasAncestor-iff : (v : ℕ) → (hasAncestor tree v ≡ true) ↔ (1 ≤ ancestor tree v)
   unfolding hasAncestor
   hasAncestor-iff v = leb-iff 1 (ancestor tree v)
 
+  -- the test for having none
   pub no-ancestor-iff : (v : ℕ) → (not (hasAncestor tree v) ≡ true) ↔ (ancestor tree v ≡ 0)
   unfolding hasAncestor
   no-ancestor-iff v = (
@@ -58,15 +62,10 @@ module _ (tree : List ℕ) where
     λ e. ap not (lt-leb 1 (ancestor tree v) (omega arith)),
   )
 
+  -- the test for being in the tree
   pub inTree-iff : (v : ℕ) → (inTree tree v ≡ true) ↔ InTree tree v
   unfolding inTree
   inTree-iff v = or-iff (eqb-iff v 1) (hasAncestor-iff v)
-
-  pub inTree-true : (v : ℕ) → inTree tree v ≡ true → InTree tree v
-  inTree-true v = inTree-iff v .0
-
-  pub true-inTree : (v : ℕ) → InTree tree v → inTree tree v ≡ true
-  true-inTree v = inTree-iff v .1
 
   -- a number other than 1 without an ancestor is not in the tree
   pub false-inTree : (v : ℕ) → 2 ≤ v → ancestor tree v ≡ 0 → inTree tree v ≡ false
@@ -76,7 +75,7 @@ module _ (tree : List ℕ) where
   -- what is not in the tree is not node 1 and has no ancestor
   pub not-inTree : (v : ℕ) → not (inTree tree v) ≡ true → (v ≢ 1) × (ancestor tree v ≡ 0)
   not-inTree v e =
-      let out : ¬ InTree tree v = λ i. false≢true (sym (not-true (inTree tree v) e) ∙ true-inTree v i) in
+      let out : ¬ InTree tree v = λ i. false≢true (sym (not-true (inTree tree v) e) ∙ inTree-iff v .1 i) in
       (λ p. out (inl p), by-cases (decLe 1 (ancestor tree v)) (λ a. absurd (out (inr a))) (λ a. omega arith))
 
   -- at most all taxa are placed
@@ -84,15 +83,16 @@ module _ (tree : List ℕ) where
   unfolding taxaPlaced nodesIn
   taxaPlaced-le n = omega (arith, length-keep-le (inTree tree) (numbers 1 n), length-numbers 1 n)
 
-  -- the nodes in the tree other than node 1
+  -- a node in the tree other than node 1 is one of nodes 2 to 2n-2 in the tree
   pub nodesIn-node : (n v : ℕ) → 2 ≤ v → v ≤ 2 * n - 2 → InTree tree v → List·Memᴰ v (nodesIn tree (otherNodes n))
   unfolding nodesIn otherNodes
   nodesIn-node n v l h i =
-      let m = between-numbers v 2 (2 * n - 3) l (omega arith) in mem-keep (inTree tree) (numbers 2 (2 * n - 3)) v m (true-inTree v i)
+      let m = numbers-among 2 (2 * n - 3) v l (omega arith) in mem-keep (inTree tree) (numbers 2 (2 * n - 3)) v m (inTree-iff v .1 i)
 
+  -- and each of these has an ancestor
   pub node-nodesIn : (n v : ℕ) → List·Memᴰ v (nodesIn tree (otherNodes n)) → (2 ≤ v) × (v ≤ 2 * n - 2) × (1 ≤ ancestor tree v)
   unfolding nodesIn otherNodes
   node-nodesIn n v m =
       let k = keep-mem (inTree tree) (numbers 2 (2 * n - 3)) v m in
-      let b = numbers-between v 2 (2 * n - 3) (k .0) in
-      ⊎-elim (λ e. absurd (omega arith)) (λ h. (omega arith, omega arith, h)) (inTree-true v (k .1))
+      let b = numbers-within 2 (2 * n - 3) v (k .0) in
+      ⊎-elim (λ e. absurd (omega arith)) (λ h. (omega arith, omega arith, h)) (inTree-iff v .0 (k .1))

@@ -9,13 +9,13 @@ use native.Mathlib.Omega.{arith}
 use native.Mathlib.Decide.{decLe}
 use lib.ListN.{length}
 use lib.Seq.{take-all}
+use Rattle.matrix.proofs.Both.{eqb-iff, and-iff}
+use Rattle.matrix.proofs.Choice.{length-map-numbers, map-numbers, map-beyond}
 use Rattle.branching.specs.Ancestors.{ancestor}
 use Rattle.branching.specs.Nodes.{otherNodes}
 use Rattle.branching.specs.Growing.{Branching}
 use Rattle.branching.specs.Branches.{BranchRecord, sumOver, treeLength, branchOf, branchRecords, branchesRead, ancestorsOf}
 use Rattle.branching.specs.Branches.{sameNumbers, namedInOrder, lentBranching}
-use Rattle.branching.proofs.Tests.{eqb-iff, and-iff}
-use Rattle.branching.proofs.Numbers.{length-map-numbers, map-numbers, map-beyond}
 use Rattle.branching.proofs.Test.{branching-iff}
 use Rattle.branching.proofs.Whole.{growing-outside, growing-same, branching-length}
 

@@ -1,126 +1,130 @@
--- What a sum over the branches of a tree becomes when ancestors change: counts of descendants, and the length of the tree.
+-- Sums over lists of numbers.
 use mathlib.Core.Path.{_≡_, refl, sym, ap, _∙_}
-use mathlib.Core.Logic.{_≢_}
-use mathlib.Core.List.{List, [], _∷_}
-use mathlib.Core.Bool.{Bool, cond, _||_}
-use Prim.Native.Nat.{ℕ, _+_, _*_, _-_, _≤_, _<_}
+use mathlib.Core.Logic.{_≢_, by-cases, ⊎-elim}
+use mathlib.Core.List.{List, [], _∷_, List·Memᴰ, List·Memᴰ·head, List·Memᴰ·tail, List·Memᴰ·not-nil, List·Memᴰ·cases-cons}
+use mathlib.Core.Bool.{Bool, true, false, cond}
+use Prim.Native.Nat.{ℕ, zero, suc, _+_, _≤_, _<_}
 use native.Mathlib.Omega.{arith}
-use lib.Dec.{leb, eqb}
-use lib.ListN.{length, set, length-set}
-use lib.Seq.{getD-set-same, getD-set-other}
-use borrow.Author.Tests.{ne-eqb}
-use Rattle.branching.specs.Ancestors.{ancestor, descendants}
-use Rattle.branching.specs.Nodes.{hasAncestor, inTree, keep, nodesIn, otherNodes}
-use Rattle.branching.specs.Growing.{descendantCount}
-use Rattle.branching.specs.Hanging.{hung}
-use Rattle.branching.specs.Branches.{sumOver, treeLength}
-use Rattle.branching.proofs.Numbers.{numbers-between, mark, length-keep, sum-keep, sum-same, sum-changed}
+use native.Mathlib.Decide.{ℕ-discrete}
+use lib.Dec.{eqb}
+use lib.ListN.{length}
+use borrow.Author.Tests.{eq-eqb, ne-eqb}
+use Rattle.matrix.specs.Choice.{numbers}
+use Rattle.matrix.proofs.Choice.{numbers-within}
+use Rattle.branching.specs.Nodes.{keep}
+use Rattle.branching.specs.Branches.{sumOver}
 
--- the ancestors after one of them is changed
-pub ancestor-set-same : (tree : List ℕ) (u a : ℕ) → u < length tree → ancestor (set tree u a) u ≡ a
-unfolding ancestor
-ancestor-set-same tree u a h = getD-set-same tree u a 0 h
+-- a number if a test holds, else 0
+abbrev pub pick : Bool → ℕ → ℕ
+pick test x = cond test x 0
 
-pub ancestor-set-other : (tree : List ℕ) (u a v : ℕ) → v ≢ u → ancestor (set tree u a) v ≡ ancestor tree v
-unfolding ancestor
-ancestor-set-other tree u a v ne = getD-set-other tree u v a 0 ne
+-- 1 if a test holds, else 0
+abbrev pub counted : Bool → ℕ
+counted test = pick test 1
 
--- a quantity of each node and its ancestor, summed over nodes 2 to 2n-2
-unfoldable pub sumOfBranches : (ℕ → ℕ → ℕ) → ℕ → List ℕ → ℕ
-sumOfBranches f n tree = sumOver (λ v. f v (ancestor tree v)) (otherNodes n)
+-- two quantities that agree on a list have one sum over it
+pub sum-same : (f g : ℕ → ℕ) (vs : List ℕ) → ((v : ℕ) → List·Memᴰ v vs → f v ≡ g v) → sumOver f vs ≡ sumOver g vs
+unfolding sumOver
+sum-same f g [] h = refl
+sum-same f g (u ∷ us) h =
+    let head : f u ≡ g u = h u (List·Memᴰ·head refl) in
+    let tail = sum-same f g us (λ v m. h v (List·Memᴰ·tail m)) in
+    omega arith
 
--- when node u gets another ancestor, the sum changes by what it changes at u
-pub sum-set : (f : ℕ → ℕ → ℕ) (n : ℕ) (tree : List ℕ) (u a : ℕ) → u < length tree → 2 ≤ u → u ≤ 2 * n - 2
-    → sumOfBranches f n (set tree u a) + f u (ancestor tree u) ≡ sumOfBranches f n tree + f u a
-unfolding sumOfBranches otherNodes
-sum-set f n tree u a place l h =
-    rw ancestor-set-same at
-    (sum-changed
-    (λ v. f v (ancestor (set tree u a) v))
-    (λ v. f v (ancestor tree v))
-    u
-    2
-    (2 * n - 3)
-    l
-    (omega arith)
-    (λ v m ne. ap (f v) (ancestor-set-other tree u a v ne)))
+-- a quantity that is 0 on a list has the sum 0 over it
+pub sum-none : (f : ℕ → ℕ) (vs : List ℕ) → ((v : ℕ) → List·Memᴰ v vs → f v ≡ 0) → sumOver f vs ≡ 0
+unfolding sumOver
+sum-none f [] h = refl
+sum-none f (u ∷ us) h = omega (arith, h u (List·Memᴰ·head refl), sum-none f us (λ v m. h v (List·Memᴰ·tail m)))
 
--- the descendants of node v are those kept by the test that their ancestor is v
-pub descendants-keep : (tree : List ℕ) (us : List ℕ) (v : ℕ) → descendants tree us v ≡ keep (λ u. eqb (ancestor tree u) v) us
-unfolding descendants keep
-descendants-keep tree [] v = refl
-descendants-keep tree (u ∷ us) v =
-    ap (λ (rest : List ℕ). cond (eqb (ancestor tree u) v) (u ∷ rest) rest) (descendants-keep tree us v)
+-- the sum of two quantities together
+pub sum-plus : (f g : ℕ → ℕ) (vs : List ℕ) → sumOver (λ v. f v + g v) vs ≡ sumOver f vs + sumOver g vs
+unfolding sumOver
+sum-plus f g [] = refl
+sum-plus f g (u ∷ us) = omega (arith, sum-plus f g us)
 
--- how many descendants node v has, as a sum over the branches
-pub count-sum : (n : ℕ) (tree : List ℕ) (v : ℕ) → descendantCount n tree v ≡ sumOfBranches (λ u a. mark (eqb a v)) n tree
-unfolding descendantCount sumOfBranches
-count-sum n tree v = ap length (descendants-keep tree (otherNodes n) v) ∙ length-keep (λ u. eqb (ancestor tree u) v) (otherNodes n)
+-- two sums may change places
+pub sum-swap : (f : ℕ → ℕ → ℕ) (us vs : List ℕ)
+    → sumOver (λ u. sumOver (λ v. f u v) vs) us ≡ sumOver (λ v. sumOver (λ u. f u v) us) vs
+unfolding sumOver
+sum-swap f [] vs = sym (sum-none (λ v. 0) vs (λ v m. refl))
+sum-swap f (u ∷ us) vs =
+    ap (λ (k : ℕ). sumOver (λ v. f u v) vs + k) (sum-swap f us vs)
+    ∙ sym (sum-plus (λ v. f u v) (λ v. sumOver (λ w. f w v) us) vs)
 
--- the length of a tree, as a sum over the branches
-pub treeLength-sum : (d : ℕ → ℕ → ℕ) (n : ℕ) (tree : List ℕ)
-    → treeLength d n tree ≡ sumOfBranches (λ v a. cond (leb 1 a) (d v a) 0) n tree
-unfolding treeLength sumOfBranches nodesIn otherNodes inTree hasAncestor
-treeLength-sum d n tree =
-    sum-keep (λ v. d v (ancestor tree v)) (inTree tree) (otherNodes n)
-    ∙ sum-same
-    (λ v. cond (inTree tree v) (d v (ancestor tree v)) 0)
-    (λ v. cond (leb 1 (ancestor tree v)) (d v (ancestor tree v)) 0)
-    (otherNodes n)
-    (λ v m.
-    ap
-    (λ (t : Bool). cond (t || leb 1 (ancestor tree v)) (d v (ancestor tree v)) 0)
-    (ne-eqb v 1 (λ e. omega (arith, numbers-between v 2 (2 * n - 3) m))))
+module _ (f g : ℕ → ℕ) where
+  -- a quantity that is nowhere higher on a list has no higher sum over it
+  pub sum-le : (vs : List ℕ) → ((v : ℕ) → List·Memᴰ v vs → f v ≤ g v) → sumOver f vs ≤ sumOver g vs
+  unfolding sumOver
+  sum-le [] h = omega arith
+  sum-le (u ∷ us) h = omega (arith, h u (List·Memᴰ·head refl), sum-le us (λ v m. h v (List·Memᴰ·tail m)))
 
--- taxon b, the lower end c and the new node y are three places of the tree, none of them node 1
-pub record Joint (n : ℕ) (tree : List ℕ) (b c y : ℕ) : Type 0 where
-  pub taxon : (b < length tree) × (2 ≤ b) × (b ≤ 2 * n - 2)
-  pub lower : (c < length tree) × (2 ≤ c) × (c ≤ 2 * n - 2)
-  pub htu : (y < length tree) × (2 ≤ y) × (y ≤ 2 * n - 2)
-  pub taxonLower : b ≢ c
-  pub taxonHtu : b ≢ y
-  pub lowerHtu : c ≢ y
+  -- and if its sum is as high, it is as high everywhere on the list
+  pub sum-tight : (vs : List ℕ) → ((v : ℕ) → List·Memᴰ v vs → f v ≤ g v) → sumOver g vs ≤ sumOver f vs
+      → (v : ℕ) → List·Memᴰ v vs → g v ≤ f v
+  unfolding sumOver
+  sum-tight [] h e v m = absurd (List·Memᴰ·not-nil m)
+  sum-tight (u ∷ us) h e v m =
+      let own = h u (List·Memᴰ·head refl) in
+      let rest = sum-le us (λ w n. h w (List·Memᴰ·tail n)) in
+      ⊎-elim
+      (λ p. rw p (omega arith))
+      (sum-tight us (λ w n. h w (List·Memᴰ·tail n)) (omega arith) v)
+      (List·Memᴰ·cases-cons m)
 
-module _ (n : ℕ) (tree : List ℕ) (b c y : ℕ) (j : Joint n tree b c y) where
-  -- taxon b and the lower end have y, y has the lower end's old ancestor, and no other ancestor changes
-  pub hung-taxon : ancestor (hung tree b c y) b ≡ y
-  unfolding hung
-  hung-taxon = ancestor-set-same (set (set tree y (ancestor tree c)) c y) b y (simp length-set (j .taxon .0))
+-- two quantities that agree on numbers in a row except at u: their sums differ as they do at u
+pub sum-changed : (f g : ℕ → ℕ) (u first count : ℕ) → first ≤ u → u < first + count
+    → ((v : ℕ) → List·Memᴰ v (numbers first count) → v ≢ u → f v ≡ g v)
+    → sumOver f (numbers first count) + g u ≡ sumOver g (numbers first count) + f u
+unfolding sumOver numbers
+sum-changed f g u first zero l h same = absurd (omega arith)
+sum-changed f g u first (suc count) l h same =
+    by-cases
+    (ℕ-discrete u first)
+    (λ e. rw e (let rest = sum-same f g (numbers (suc first) count) (later e) in omega arith))
+    (λ ne.
+    let head : f first ≡ g first = same first (List·Memᴰ·head refl) (λ p. ne (sym p)) in
+    let rest = sum-changed f g u (suc first) count (omega arith) (omega arith) (λ v m. same v (List·Memᴰ·tail m)) in
+    omega arith)
+  where
+    later : u ≡ first → (v : ℕ) → List·Memᴰ v (numbers (suc first) count) → f v ≡ g v
+    later e v m = same v (List·Memᴰ·tail m) (λ p. let b = numbers-within (suc first) count v m in omega arith)
 
-  pub hung-lower : ancestor (hung tree b c y) c ≡ y
-  unfolding hung
-  hung-lower =
-      ancestor-set-other (set (set tree y (ancestor tree c)) c y) b y c (λ e. j .taxonLower (sym e))
-      ∙ ancestor-set-same (set tree y (ancestor tree c)) c y (simp length-set (j .lower .0))
+-- of numbers in a row, those equal to one outside the row are none
+pub sum-outside : (first count v : ℕ) (f : ℕ → ℕ) → (first ≤ v → v < first + count → ⊥)
+    → sumOver (λ u. pick (eqb u v) (f u)) (numbers first count) ≡ 0
+sum-outside first count v f outside =
+    sum-none (λ u. pick (eqb u v) (f u)) (numbers first count) λ u m.
+    let w = numbers-within first count u m in
+    ap (λ (t : Bool). pick t (f u)) (ne-eqb u v (λ e. outside (omega arith) (omega arith)))
 
-  pub hung-htu : ancestor (hung tree b c y) y ≡ ancestor tree c
-  unfolding hung
-  hung-htu =
-      ancestor-set-other (set (set tree y (ancestor tree c)) c y) b y y (λ e. j .taxonHtu (sym e))
-      ∙ ancestor-set-other (set tree y (ancestor tree c)) c y y (λ e. j .lowerHtu (sym e))
-      ∙ ancestor-set-same tree y (ancestor tree c) (j .htu .0)
+-- and those equal to one in the row are that one
+pub sum-one : (first count v : ℕ) (f : ℕ → ℕ) → first ≤ v → v < first + count
+    → sumOver (λ u. pick (eqb u v) (f u)) (numbers first count) ≡ f v
+sum-one first count v f l h =
+    let same : (u : ℕ) → List·Memᴰ u (numbers first count) → u ≢ v → pick (eqb u v) (f u) ≡ 0 =
+    λ u m ne. ap (λ (t : Bool). pick t (f u)) (ne-eqb u v ne) in
+    let change = sum-changed (λ u. pick (eqb u v) (f u)) (λ u. 0) v first count l h same in
+    let own : pick (eqb v v) (f v) ≡ f v = ap (λ (t : Bool). pick t (f v)) (eq-eqb v v refl) in
+    let none = sum-none (λ u. 0) (numbers first count) (λ u m. refl) in
+    omega arith
 
-  pub hung-other : (v : ℕ) → v ≢ b → v ≢ c → v ≢ y → ancestor (hung tree b c y) v ≡ ancestor tree v
-  unfolding hung
-  hung-other v nb nc ny =
-      ancestor-set-other (set (set tree y (ancestor tree c)) c y) b y v nb
-      ∙ ancestor-set-other (set tree y (ancestor tree c)) c y v nc
-      ∙ ancestor-set-other tree y (ancestor tree c) v ny
+-- the sum over what is kept of a list is the sum over all of it, with 0 for what is not kept
+pub sum-keep : (f : ℕ → ℕ) (test : ℕ → Bool) (vs : List ℕ) → sumOver f (keep test vs) ≡ sumOver (λ v. pick (test v) (f v)) vs
+unfolding keep sumOver
+sum-keep f test [] = refl
+sum-keep f test (u ∷ us) = go (test u) (sum-keep f test us)
+  where
+    go : (t : Bool) {s : ℕ} → sumOver f (keep test us) ≡ s → sumOver f (cond t (u ∷ keep test us) (keep test us)) ≡ pick t (f u) + s
+    go true e = ap (λ (k : ℕ). f u + k) e
+    go false e = omega arith
 
-  -- what a sum over the branches becomes: the old branches of b, c and y go, their new ones come
-  pub sum-hung : (f : ℕ → ℕ → ℕ)
-      → sumOfBranches f n (hung tree b c y) + (f b (ancestor tree b) + f c (ancestor tree c) + f y (ancestor tree y))
-      ≡ sumOfBranches f n tree + (f b y + f c y + f y (ancestor tree c))
-  unfolding hung
-  sum-hung f =
-      let t₁ : List ℕ = set tree y (ancestor tree c) in
-      let t₂ : List ℕ = set t₁ c y in
-      let e₁ = sum-set f n tree y (ancestor tree c) (j .htu .0) (j .htu .1) (j .htu .2) in
-      let e₂ = sum-set f n t₁ c y (simp length-set (j .lower .0)) (j .lower .1) (j .lower .2) in
-      let e₃ = sum-set f n t₂ b y (simp length-set (j .taxon .0)) (j .taxon .1) (j .taxon .2) in
-      let c₁ : ancestor t₁ c ≡ ancestor tree c = ancestor-set-other tree y (ancestor tree c) c (j .lowerHtu) in
-      let b₂ : ancestor t₂ b ≡ ancestor tree b =
-      ancestor-set-other t₁ c y b (j .taxonLower) ∙ ancestor-set-other tree y (ancestor tree c) b (j .taxonHtu) in
-      let e₂' = rw c₁ at e₂ in
-      let e₃' = rw b₂ at e₃ in
-      omega arith
+-- a list has as many nodes as the sum of 1 over it
+pub length-sum : (vs : List ℕ) → length vs ≡ sumOver (λ v. 1) vs
+unfolding sumOver
+length-sum [] = refl
+length-sum (u ∷ us) = let h = length-sum us in omega arith
+
+-- how many are kept: the sum of 1 over those of which the test holds
+pub length-keep : (test : ℕ → Bool) (vs : List ℕ) → length (keep test vs) ≡ sumOver (λ v. counted (test v)) vs
+length-keep test vs = length-sum (keep test vs) ∙ sum-keep (λ v. 1) test vs

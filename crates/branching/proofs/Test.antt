@@ -11,16 +11,19 @@ use lib.ListN.{length}
 use borrow.Author.Tests.{eqb-true, eq-eqb}
 use Rattle.matrix.specs.Choice.{numbers}
 use Rattle.matrix.specs.Shape.{lastNode}
+use Rattle.matrix.specs.Every.{every}
+use Rattle.matrix.proofs.Both.{leb-iff, eqb-iff, and-iff, or-iff, implies-iff}
+use Rattle.matrix.proofs.Every.{every-iff}
+use Rattle.matrix.proofs.Choice.{length-numbers, numbers-within, numbers-among}
 use Rattle.branching.specs.Ancestors.{ancestor}
 use Rattle.branching.specs.Nodes.{hasAncestor, inTree, keep, nodesIn, otherNodes, taxaPlaced}
-use Rattle.branching.specs.Growing.{every, descendantCount, descendantsWanted, climbs, rowOneAlone, nodesOnly, htusIn, ancestorsIn}
+use Rattle.branching.specs.Growing.{descendantCount, descendantsWanted, climbs, rowOneAlone, nodesOnly, htusIn, ancestorsIn}
 use Rattle.branching.specs.Growing.{descendantsRight, allClimb, grown, growingTree, branching, InTree, ReachesRoot, root, Grown}
 use Rattle.branching.specs.Growing.{GrowingTree, alone, several, Branching}
-use Rattle.branching.proofs.Tests.{leb-iff, eqb-iff, and-iff, or-iff, implies-iff}
-use Rattle.branching.proofs.Numbers.{numbers-between, between-numbers, every-iff, keep-none, length-numbers}
 use Rattle.branching.proofs.Climbing.{climbs-reaches, reaches-climbs, never-climbs}
-use Rattle.branching.proofs.Nodes.{ancestor-place, hasAncestor-iff, no-ancestor-iff, inTree-iff, inTree-true}
-use Rattle.branching.proofs.Nodes.{taxaPlaced-le, nodesIn-node, node-nodesIn}
+use Rattle.branching.proofs.Nodes.{ancestor-place, hasAncestor-iff, no-ancestor-iff, inTree-iff, taxaPlaced-le, nodesIn-node}
+use Rattle.branching.proofs.Nodes.{node-nodesIn}
+use Rattle.branching.proofs.Keep.{keep-none}
 
 -- only nodes 2 to `last` have an ancestor
 abbrev pub NodesTo : List ℕ → ℕ → Type 0
@@ -31,8 +34,8 @@ module _ (tree : List ℕ) where
   places-iff : (test : ℕ → Bool) → (every test (numbers 0 (length tree)) ≡ true) ↔ ((v : ℕ) → v < length tree → test v ≡ true)
   places-iff test =
       let each = every-iff test (numbers 0 (length tree)) in (
-        λ e v h. each .0 e v (between-numbers v 0 (length tree) (omega arith) (omega arith)),
-        λ h. each .1 (λ v m. h v (omega (arith, numbers-between v 0 (length tree) m))),
+        λ e v h. each .0 e v (numbers-among 0 (length tree) v (omega arith) (omega arith)),
+        λ h. each .1 (λ v m. h v (omega (arith, numbers-within 0 (length tree) v m))),
       )
 
   -- row 1 alone: no number has an ancestor
@@ -55,7 +58,7 @@ module _ (tree : List ℕ) where
   alone-placed (suc m) l h = ap suc (keep-none (inTree tree) (numbers 2 m) none)
     where
       none : (v : ℕ) → List·Memᴰ v (numbers 2 m) → inTree tree v ≡ true → ⊥
-      none v i t = ⊎-elim (λ e. omega (arith, numbers-between v 2 m i)) (λ a. omega (arith, h v)) (inTree-true tree v t)
+      none v i t = ⊎-elim (λ e. omega (arith, numbers-within 2 m v i)) (λ a. omega (arith, h v)) (inTree-iff tree v .0 t)
 
   module _ (n k : ℕ) where
     -- only nodes 2 to n+k-2 have an ancestor
@@ -80,10 +83,10 @@ module _ (tree : List ℕ) where
     unfolding htusIn
     htusIn-iff =
         let each = every-iff (hasAncestor tree) (numbers (n + 1) (k - 2)) in (
-          λ e v l h. hasAncestor-iff tree v .0 (each .0 e v (between-numbers v (n + 1) (k - 2) (omega arith) (omega arith))),
+          λ e v l h. hasAncestor-iff tree v .0 (each .0 e v (numbers-among (n + 1) (k - 2) v (omega arith) (omega arith))),
           λ h.
               each .1 λ v m.
-              let b = numbers-between v (n + 1) (k - 2) m in
+              let b = numbers-within (n + 1) (k - 2) v m in
               hasAncestor-iff tree v .1 (h v (omega arith) (omega arith)),
         )
 
@@ -141,15 +144,15 @@ module _ (tree : List ℕ) where
         ground = by-cases (decLe 1 (ancestor tree 0)) (λ a. absurd (omega (arith, only 0 a))) (λ a. omega arith)
 
         go : Dec (1 ≤ ancestor tree v) → Dec (v ≡ 1) → List·Memᴰ v (numbers 1 (lastNode n)) ⊎ ((steps : ℕ) → ¬ (climbs tree steps v ≡ true))
-        go (yes a) i = let b = only v a in inl (between-numbers v 1 (lastNode n) (omega arith) (omega arith))
-        go (no a) (yes e) = inl (between-numbers v 1 (lastNode n) (omega arith) (omega arith))
+        go (yes a) i = let b = only v a in inl (numbers-among 1 (lastNode n) v (omega arith) (omega arith))
+        go (no a) (yes e) = inl (numbers-among 1 (lastNode n) v (omega arith) (omega arith))
         go (no a) (no ne) = inr (λ steps. never-climbs tree ground steps v ne (omega arith))
 
     -- what reaches node 1 climbs within 2n-2 steps
     pub reaches-within : {v : ℕ} → ReachesRoot tree v → climbs tree (lastNode n) v ≡ true
     unfolding lastNode
     reaches-within r =
-        let one = between-numbers 1 1 (lastNode n) (omega arith) (omega arith) in
+        let one = numbers-among 1 (lastNode n) 1 (omega arith) (omega arith) in
         rw length-numbers at (reaches-climbs tree (numbers 1 (lastNode n)) one climbers r)
 
     -- going up from any node in the tree reaches node 1
@@ -167,6 +170,7 @@ module _ (tree : List ℕ) where
     within : NodesTo tree (n + k - 2) → NodesTo tree (2 * n - 2)
     within only v a = let b = only v a in let l = taxaPlaced-le tree n in omega arith
 
+    -- what passes the test is a tree of k taxa
     pub grown-fact : grown n k tree ≡ true → Grown n k tree
     unfolding grown
     grown-fact e =
@@ -184,6 +188,7 @@ module _ (tree : List ℕ) where
           rooted = shape .1 .1;
         }
 
+    -- and a tree of k taxa passes it
     pub grown-test : Grown n k tree → grown n k tree ≡ true
     unfolding grown
     grown-test g =

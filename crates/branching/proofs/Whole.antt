@@ -10,16 +10,17 @@ use lib.Dec.{eqb}
 use lib.ListN.{length}
 use Rattle.matrix.specs.Choice.{numbers}
 use Rattle.matrix.specs.Shape.{lastNode}
+use Rattle.matrix.proofs.Choice.{numbers-within}
 use Rattle.branching.specs.Ancestors.{ancestor}
 use Rattle.branching.specs.Nodes.{inTree, keep, nodesIn, otherNodes, taxaPlaced}
 use Rattle.branching.specs.Growing.{descendantCount, descendantsWanted, climbs, InTree, ReachesRoot, root, up, Grown, GrowingTree}
 use Rattle.branching.specs.Growing.{alone, several, Branching}
 use Rattle.branching.specs.Branches.{sumOver, treeLength}
-use Rattle.branching.proofs.Numbers.{numbers-between, keep-all}
-use Rattle.branching.proofs.Nodes.{inTree-same, true-inTree, taxaPlaced-le}
-use Rattle.branching.proofs.Counts.{all-placed, wanted-taxon, wanted-htu}
+use Rattle.branching.proofs.Nodes.{inTree-same, taxaPlaced-le, inTree-iff}
+use Rattle.branching.proofs.Counts.{all-placed, grown-within}
 use Rattle.branching.proofs.Test.{reaches-within}
-use Rattle.branching.proofs.Sums.{descendants-keep}
+use Rattle.branching.proofs.Keep.{keep-all}
+use Rattle.branching.proofs.Descendants.{wanted-taxon, wanted-htu, descendants-keep}
 
 -- every node of a branching but node 1 has an immediate ancestor
 pub branching-nodes : (n : ℕ) (tree : List ℕ) → Branching n tree → (v : ℕ) → 2 ≤ v → v ≤ 2 * n - 2 → 1 ≤ ancestor tree v
@@ -36,12 +37,9 @@ branching-nodes n tree b v l h = go b refl
 -- only nodes 2 to 2n-2 of a growing tree have an ancestor
 pub growing-within : (n : ℕ) (tree : List ℕ) {k : ℕ} → GrowingTree n tree k → (v : ℕ) → 1 ≤ ancestor tree v → (2 ≤ v) × (v ≤ 2 * n - 2)
 growing-within n tree (alone none) v a = absurd (omega (arith, none v))
-growing-within n tree (several {k = k} g) v a =
-    let w = g .nodesOnly v a in
-    let taxa = g .placed in
-    let most = taxaPlaced-le tree n in
-    omega arith
+growing-within n tree (several {k = k} g) v a = grown-within n k tree g v a
 
+-- no other number has one
 pub growing-outside : (n : ℕ) (tree : List ℕ) {k : ℕ} → GrowingTree n tree k → (v : ℕ) → (v < 2) ⊎ (2 * n - 2 < v) → ancestor tree v ≡ 0
 growing-outside n tree g v out =
     by-cases
@@ -107,16 +105,17 @@ branching-length d n tree b =
   where
     all : (v : ℕ) → List·Memᴰ v (numbers 2 (2 * n - 3)) → inTree tree v ≡ true
     all v m =
-        let w = numbers-between v 2 (2 * n - 3) m in
-        true-inTree tree v (inr (branching-nodes n tree b v (w .0) (omega arith)))
+        let w = numbers-within 2 (2 * n - 3) v m in
+        inTree-iff tree v .1 (inr (branching-nodes n tree b v (w .0) (omega arith)))
 
 -- two lists that give every number one ancestor
 module _ (n : ℕ) (old new : List ℕ) (same : (v : ℕ) → ancestor old v ≡ ancestor new v) where
-  -- as many taxa are placed, each node has as many descendants, and going up reaches node 1 from the same nodes
+  -- as many taxa are placed
   taxaPlaced-same : taxaPlaced n old ≡ taxaPlaced n new
   unfolding taxaPlaced nodesIn
   taxaPlaced-same = ap (λ (test : ℕ → Bool). length (keep test (numbers 1 n))) (fun-ext (λ v. inTree-same new old v (same v)))
 
+  -- each node has as many descendants
   count-same : (v : ℕ) → descendantCount n old v ≡ descendantCount n new v
   unfolding descendantCount
   count-same v =
@@ -124,14 +123,17 @@ module _ (n : ℕ) (old new : List ℕ) (same : (v : ℕ) → ancestor old v ≡
       ∙ ap (λ (test : ℕ → Bool). length (keep test (otherNodes n))) (fun-ext (λ u. ap (λ (a : ℕ). eqb a v) (same u)))
       ∙ sym (ap length (descendants-keep new (otherNodes n) v))
 
+  -- going up reaches node 1 from the same nodes
   reaches-same : {v : ℕ} → ReachesRoot old v → ReachesRoot new v
   reaches-same root = root
   reaches-same (up v r) = up v (rw same at (reaches-same r))
 
+  -- what is in the second tree is in the first
   back : (v : ℕ) → InTree new v → InTree old v
   back v (inl e) = inl e
   back v (inr a) = inr (rw same a)
 
+  -- and the other way round
   forth : (v : ℕ) → InTree old v → InTree new v
   forth v (inl e) = inl e
   forth v (inr a) = inr (rw same at a)

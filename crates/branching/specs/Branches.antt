@@ -8,7 +8,7 @@ use Rattle.branching.specs.Ancestors.{ancestor}
 use Rattle.branching.specs.Nodes.{nodesIn, otherNodes}
 use Rattle.branching.specs.Growing.{branching}
 
--- the sum of a quantity over a list of nodes
+-- the sum of a quantity over a list of numbers: nodes, or characters
 unfoldable pub sumOver : (ℕ → ℕ) → List ℕ → ℕ
 sumOver f [] = 0
 sumOver f (v ∷ vs) = f v + sumOver f vs

@@ -3,20 +3,16 @@
 -- Each is said twice: as a test that computes, and as a proposition for proofs. The laws of this crate show that the two agree.
 use mathlib.Core.Path.{_≡_}
 use mathlib.Core.Logic.{_⊎_}
-use mathlib.Core.List.{List, [], _∷_}
+use mathlib.Core.List.{List, _∷_}
 use mathlib.Core.Bool.{Bool, true, false, cond, not, _&&_, _||_}
 use Prim.Native.Nat.{ℕ, zero, suc, _+_, _-_, _≤_, _<_}
 use lib.Dec.{leb, eqb}
 use lib.ListN.{length}
+use Rattle.matrix.specs.Every.{every}
 use Rattle.matrix.specs.Choice.{numbers}
 use Rattle.matrix.specs.Shape.{lastNode}
 use Rattle.branching.specs.Ancestors.{ancestor, descendants}
 use Rattle.branching.specs.Nodes.{hasAncestor, inTree, nodesIn, otherNodes, taxaPlaced}
-
--- a test holds of every number of a list
-unfoldable pub every : (ℕ → Bool) → List ℕ → Bool
-every test [] = true
-every test (v ∷ vs) = test v && every test vs
 
 -- of how many nodes node v is the immediate ancestor
 unfoldable pub descendantCount : ℕ → List ℕ → ℕ → ℕ

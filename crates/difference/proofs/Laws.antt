@@ -1,7 +1,7 @@
 -- The laws of the definitions in specs/Rows.
 -- Crates above use these laws and never the definitions' text.
 pub mod Order
-pub mod Shift
+pub mod Places
 pub mod Codes
 pub mod Rows
 pub mod Parts

@@ -4,17 +4,16 @@ use mathlib.Core.List.{List, [], _∷_, map, flatMap}
 use Prim.Native.Nat.{ℕ, suc, _-_}
 use lib.IntN.{ℤ, pos, negsuc}
 use Rattle.matrix.specs.Choice.{numbers}
-use Rattle.branching.specs.Ancestors.{ancestor, descendants}
 use Rattle.difference.specs.Rows.{apart, lower, higher}
-use Rattle.fitting.specs.Sets.{Span, only, join, nearest, insert, inOrder, middle}
-use Rattle.fitting.specs.Trees.{tip, fork, above, treeAt, lowerNodes, treesBelow}
+use Rattle.branching.specs.Ancestors.{ancestor, descendants}
+use Rattle.branching.specs.Nodes.{otherNodes}
+use Rattle.branching.specs.Branches.{sumOver}
+use Rattle.fitting.specs.Sets.{only, join, nearest, insert, inOrder, middle}
+use Rattle.fitting.specs.Trees.{tip, fork, above, treeAt, treesBelow}
 use Rattle.fitting.specs.Character.{valueAt, up, chosen, ranges}
-use Rattle.fitting.specs.Assignments.{sum, character, branchLength, total}
+use Rattle.fitting.specs.Assignments.{character, branchLength, total}
 use Rattle.fitting.specs.Fit.{chosenState, range, fittedLength, fittedTotal}
-
--- the set from one state to another
-abbrev pub span : ℤ → ℤ → Span
-span a b = record { low = a; high = b }
+use Rattle.fitting.proofs.Laws.Sets.{span}
 
 -- [0,1] with [2,2] gives [1,2]
 pub join-apart : join (span (pos 0) (pos 1)) (span (pos 2) (pos 2)) ≡ span (pos 1) (pos 2)
@@ -41,10 +40,10 @@ pub record Printed : Type 0 where
 
 -- the fit of a matrix as a listing shows it
 unfoldable pub printed : List ℕ → List (List ℤ) → ℕ → ℕ → Printed
-unfolding treesBelow treeAt above lowerNodes numbers descendants ancestor fittedTotal fittedLength total branchLength sum apart lower
+unfolding treesBelow treeAt above otherNodes numbers descendants ancestor fittedTotal fittedLength total branchLength sumOver apart lower
     higher chosenState range valueAt chosen ranges up join nearest middle inOrder insert only character flatMap
 printed ancestors rows n m = record {
-  lengths = map (λ v. fittedLength ancestors rows n m v) (lowerNodes n);
+  lengths = map (λ v. fittedLength ancestors rows n m v) (otherNodes n);
   sumOfLengths = fittedTotal ancestors rows n m;
   states =
       map
@@ -68,7 +67,7 @@ ancestorsABCD = 0 ∷ 0 ∷ 6 ∷ 6 ∷ 5 ∷ 1 ∷ 5 ∷ []
 
 -- below A stands #1, below #1 stand D and #2, below #2 stand B and C
 pub tree-ABCD : treesBelow ancestorsABCD 4 ≡ fork 5 (tip 4) (fork 6 (tip 2) (tip 3)) ∷ []
-unfolding treesBelow treeAt above lowerNodes numbers descendants ancestor
+unfolding treesBelow treeAt above otherNodes numbers descendants ancestor
 tree-ABCD = refl
 
 -- document 01's `T`, `t` and `H` lines

@@ -1,5 +1,4 @@
 -- The laws of fitting.
-pub mod Shift
 pub mod Ends
 pub mod Sets
 pub mod Basic
@@ -11,7 +10,7 @@ pub mod Chosen
 pub mod Order
 pub mod Three
 pub mod Range
-pub mod Sums
+pub mod Branching
 pub mod Walks
 pub mod Shape
 pub mod OneTree
@@ -19,4 +18,3 @@ pub mod Matrix
 pub mod ThirdRival
 pub mod ByNode
 pub mod Values
-pub mod Branching

@@ -1,19 +1,15 @@
 -- Assignments of states to the HTUs of a branching (document 01, "The three rivals"): what they are, their totals, and least length.
 -- `rows` holds the taxa's codes, row by row; `states v j` is the state of node v in character j.
 use mathlib.Core.Path.{_≡_}
-use mathlib.Core.List.{List, [], _∷_}
-use Prim.Native.Nat.{ℕ, _+_, _-_, _≤_}
+use mathlib.Core.List.{List, []}
+use Prim.Native.Nat.{ℕ, _-_, _≤_}
 use lib.IntN.{ℤ, pos}
 use lib.ListN.{getD}
 use Rattle.matrix.specs.Choice.{numbers}
 use Rattle.difference.specs.Rows.{apart}
 use Rattle.branching.specs.Ancestors.{ancestor}
-use Rattle.fitting.specs.Trees.{lowerNodes}
-
--- the sum of a quantity over a list of numbers
-unfoldable pub sum : (ℕ → ℕ) → List ℕ → ℕ
-sum quantity [] = 0
-sum quantity (x ∷ xs) = quantity x + sum quantity xs
+use Rattle.branching.specs.Nodes.{otherNodes}
+use Rattle.branching.specs.Branches.{sumOver}
 
 -- a character of the matrix: the code of taxon v in character j
 unfoldable pub character : List (List ℤ) → ℕ → ℕ → ℤ
@@ -21,11 +17,11 @@ character rows j v = getD (getD rows (v - 1) []) (j - 1) (pos 0)
 
 -- the length of the branch from node v to its immediate ancestor: the difference of their states over all m characters
 unfoldable pub branchLength : List ℕ → ℕ → (ℕ → ℕ → ℤ) → ℕ → ℕ
-branchLength ancestors m states v = sum (λ j. apart (states v j) (states (ancestor ancestors v) j)) (numbers 1 m)
+branchLength ancestors m states v = sumOver (λ j. apart (states v j) (states (ancestor ancestors v) j)) (numbers 1 m)
 
 -- the total of an assignment: the sum of its branches' lengths
 unfoldable pub total : List ℕ → ℕ → ℕ → (ℕ → ℕ → ℤ) → ℕ
-total ancestors n m states = sum (λ v. branchLength ancestors m states v) (lowerNodes n)
+total ancestors n m states = sumOver (λ v. branchLength ancestors m states v) (otherNodes n)
 
 -- an assignment gives each HTU any whole number for each character; taxa keep their codes
 pub record IsAssignment (rows : List (List ℤ)) (n m : ℕ) (states : ℕ → ℕ → ℤ) : Type 0 where

@@ -1,8 +1,8 @@
 -- A branching seen from row 1 down, as trees: a tip is a taxon, a fork is an HTU with its two descendants by rising node number.
 use mathlib.Core.List.{List, [], _∷_, map}
-use Prim.Native.Nat.{ℕ, zero, suc, _*_, _-_}
-use Rattle.matrix.specs.Choice.{numbers}
+use Prim.Native.Nat.{ℕ, zero, suc, _*_}
 use Rattle.branching.specs.Ancestors.{descendants}
+use Rattle.branching.specs.Nodes.{otherNodes}
 
 -- a tip is a taxon; a fork is an HTU with its two descendants' trees
 pub data Tree : Type 0 where
@@ -20,11 +20,7 @@ unfoldable pub treeAt : List ℕ → List ℕ → ℕ → ℕ → Tree
 treeAt ancestors nodes zero v = tip v
 treeAt ancestors nodes (suc depth) v = above v (map (λ u. treeAt ancestors nodes depth u) (descendants ancestors nodes v))
 
--- the nodes of a branching of n taxa other than node 1: 2 to 2n-2
-unfoldable pub lowerNodes : ℕ → List ℕ
-lowerNodes n = numbers 2 (2 * n - 3)
-
 -- the trees that hang from row 1: one, and none for n = 1
 unfoldable pub treesBelow : List ℕ → ℕ → List Tree
 treesBelow ancestors n =
-    map (λ v. treeAt ancestors (lowerNodes n) (2 * n) v) (descendants ancestors (lowerNodes n) 1)
+    map (λ v. treeAt ancestors (otherNodes n) (2 * n) v) (descendants ancestors (otherNodes n) 1)

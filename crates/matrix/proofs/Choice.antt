@@ -1,7 +1,7 @@
--- Laws of `firstLeast`, the first of a list with the least key, and of `numbers`, numbers in a row.
+-- Laws of `firstLeast`, the first of a list with the least key, and of `numbers`, numbers in a row, and lists made from them.
 use mathlib.Core.Path.{_≡_, refl, sym, ap, _∙_}
 use mathlib.Core.Bool.{Bool, true, false, cond}
-use mathlib.Core.List.{List, [], _∷_, _++_, List·Memᴰ, List·Memᴰ·head, List·Memᴰ·tail, List·Memᴰ·not-nil, List·Memᴰ·cases-cons}
+use mathlib.Core.List.{List, [], _∷_, _++_, map, List·Memᴰ, List·Memᴰ·head, List·Memᴰ·tail, List·Memᴰ·not-nil, List·Memᴰ·cases-cons}
 use mathlib.Core.Logic.{_⊎_, inl, inr, _↔_, _≢_}
 use Prim.Native.Nat.{ℕ, zero, suc, _+_, _≤_, _<_}
 use native.Mathlib.Nat.{add-zero, add-suc, suc-add, zero-add, le-refl, le-trans}
@@ -9,7 +9,7 @@ use native.Mathlib.Numerals.{add-one}
 use native.Mathlib.Omega.{arith}
 use borrow.Author.Tests.{eqb-true, eqb-false, leb-true, leb-false, le-leb, lt-leb, ltb-true, ltb-false}
 use lib.Dec.{leb, ltb, eqb}
-use lib.ListN.{length, getD, length-append}
+use lib.ListN.{length, getD, length-append, length-map, List·getD-eq-default}
 use Rattle.matrix.specs.Choice.{firstLeast, numbers}
 
 module _ {A : Type 0} where
@@ -194,7 +194,8 @@ getD-numbers a (suc k) (suc i) z h =
     let rest : getD (numbers (suc a) k) i z ≡ suc a + i = getD-numbers (suc a) k i z (omega arith) in
     omega arith
 
-numbers-within : (a k v : ℕ) → List·Memᴰ v (numbers a k) → (a ≤ v) × (v < a + k)
+-- what stands among the k numbers from a is from a to a + k - 1
+pub numbers-within : (a k v : ℕ) → List·Memᴰ v (numbers a k) → (a ≤ v) × (v < a + k)
 unfolding numbers
 numbers-within a zero v m = absurd (List·Memᴰ·not-nil m)
 numbers-within a (suc k) v m = at (λ m′. numbers-within (suc a) k v m′) (List·Memᴰ·cases-cons m)
@@ -204,7 +205,8 @@ numbers-within a (suc k) v m = at (λ m′. numbers-within (suc a) k v m′) (Li
     at later (inl e) = omega arith
     at later (inr m′) = let h : (suc a ≤ v) × (v < suc a + k) = later m′ in omega arith
 
-numbers-among : (a k v : ℕ) → a ≤ v → v < a + k → List·Memᴰ v (numbers a k)
+-- and all of these stand among them
+pub numbers-among : (a k v : ℕ) → a ≤ v → v < a + k → List·Memᴰ v (numbers a k)
 unfolding numbers
 numbers-among a zero v low high = absurd (omega arith)
 numbers-among a (suc k) v low high = at (λ h. numbers-among (suc a) k v h (omega arith)) (eqb v a) refl
@@ -227,3 +229,19 @@ numbers-append a (suc k) j = rw (suc-add k j, add-suc a k, numbers-append (suc a
 pub numbers-snoc : (a k : ℕ) → numbers a (suc k) ≡ numbers a k ++ ((a + k) ∷ [])
 unfolding numbers
 numbers-snoc a k = ap (numbers a) (sym (add-one k)) ∙ numbers-append a k 1
+
+module _ {A : Type 0} (f : ℕ → A) where
+  -- a list made from numbers in a row has one entry for each of them
+  pub length-map-numbers : (a k : ℕ) → length (map f (numbers a k)) ≡ k
+  length-map-numbers a k = length-map (numbers a k) f ∙ length-numbers a k
+
+  -- its entry at place i
+  pub map-numbers : (z : A) (a k i : ℕ) → i < k → getD (map f (numbers a k)) i z ≡ f (a + i)
+  unfolding numbers
+  map-numbers z a zero i h = absurd (omega arith)
+  map-numbers z a (suc k) zero h = ap f (sym (add-zero a))
+  map-numbers z a (suc k) (suc i) h = map-numbers z (suc a) k i (omega arith) ∙ ap f (omega arith)
+
+  -- and beyond its end
+  pub map-beyond : (z : A) (a k i : ℕ) → k ≤ i → getD (map f (numbers a k)) i z ≡ z
+  map-beyond z a k i h = List·getD-eq-default (map f (numbers a k)) z (omega (arith, length-map-numbers a k))

@@ -1,7 +1,8 @@
 -- Laws of `every`, and what a loop over a list knows at place j: the rest from j on decides.
 use mathlib.Core.Path.{_≡_, refl, sym, ap, _∙_}
 use mathlib.Core.Bool.{Bool, true, false, not, _&&_}
-use mathlib.Core.List.{List, [], _∷_, _++_}
+use mathlib.Core.Logic.{_↔_, ⊎-elim}
+use mathlib.Core.List.{List, [], _∷_, _++_, List·Memᴰ, List·Memᴰ·head, List·Memᴰ·tail, List·Memᴰ·not-nil, List·Memᴰ·cases-cons}
 use Prim.Native.Nat.{ℕ, zero, suc, _+_, _≤_, _<_}
 use native.Mathlib.Numerals.{add-one}
 use native.Mathlib.Omega.{arith}
@@ -12,15 +13,17 @@ use Rattle.matrix.specs.Every.{every}
 use Rattle.matrix.proofs.Both.{and-left, and-right, and-both}
 
 module _ {A : Type 0} (test : A → Bool) where
-  -- the first element passes, the others pass, and all together
+  -- of a list that passes, the first element passes
   pub every-head : (x : A) (xs : List A) → every test (x ∷ xs) ≡ true → test x ≡ true
   unfolding every
   every-head x xs e = and-left (test x) (every test xs) e
 
+  -- and the others pass
   pub every-tail : (x : A) (xs : List A) → every test (x ∷ xs) ≡ true → every test xs ≡ true
   unfolding every
   every-tail x xs e = and-right (test x) (every test xs) e
 
+  -- and all together pass if the first and the others do
   pub every-cons : (x : A) (xs : List A) → test x ≡ true → every test xs ≡ true → every test (x ∷ xs) ≡ true
   unfolding every
   every-cons x xs p q = and-both p q
@@ -36,6 +39,15 @@ module _ {A : Type 0} (test : A → Bool) where
   unfolding every
   every-from none [] h = refl
   every-from none (x ∷ xs) h = and-both (h zero (omega arith)) (every-from none xs (λ i below. h (suc i) (omega arith)))
+
+  -- a test holds of every element of a list exactly if it holds of each
+  pub every-iff : (xs : List A) → (every test xs ≡ true) ↔ ((x : A) → List·Memᴰ x xs → test x ≡ true)
+  unfolding every
+  every-iff [] = (λ e x m. absurd (List·Memᴰ·not-nil m), λ h. refl)
+  every-iff (y ∷ ys) = (
+    λ e x m. ⊎-elim (λ p. rw p (every-head y ys e)) (every-iff ys .0 (every-tail y ys e) x) (List·Memᴰ·cases-cons m),
+    λ h. and-both (h y (List·Memᴰ·head refl)) (every-iff ys .1 (λ x m. h x (List·Memᴰ·tail m))),
+  )
 
   -- every element of two lists one after the other
   pub every-append : (xs ys : List A) → every test xs ≡ true → every test ys ≡ true → every test (xs ++ ys) ≡ true

@@ -1,24 +1,42 @@
 -- Laws of the row of a node.
-use mathlib.Core.Path.{_≡_}
+use mathlib.Core.Path.{_≡_, sym, ap, _∙_}
 use mathlib.Core.List.{List}
-use Prim.Native.Nat.{ℕ, _≤_}
+use Prim.Native.Nat.{ℕ, _+_, _-_, _≤_, _<_, min}
 use native.Mathlib.Omega.{arith}
-use lib.IntN.{ℤ}
-use lib.ListN.{length, take, length-take, length-drop}
-use lib.Seq.{take-all}
-use Rattle.matrix.specs.Shape.{columns, matrixSize, row}
+use lib.IntN.{ℤ, pos}
+use lib.ListN.{length, getD, take, drop, length-take, length-drop}
+use lib.Seq.{take-all, getD-take, getD-drop, ext-getD}
+use Rattle.matrix.specs.Shape.{columns, matrixSize, rowStart, row}
 
--- a row has at most m codes
+-- a row has m codes, or as many as the matrix has from its start on
+pub length-row : (codes : List ℤ) (m v : ℕ) → length (row codes m v) ≡ min m (length codes - rowStart v)
+unfolding row
+length-row codes m v = simp (length-take, length-drop)
+
+-- so it has at most m
 pub row-most : (codes : List ℤ) (m v : ℕ) → length (row codes m v) ≤ m
-unfolding row
-row-most codes m v = simp length-take (omega arith)
+row-most codes m v = omega (arith, length-row codes m v)
 
--- in a matrix of full size a row has m codes
+-- and in a matrix of full size just m
 pub row-length : (codes : List ℤ) (m v : ℕ) → length codes ≡ matrixSize → m ≤ columns → 1 ≤ v → v ≤ 126 → length (row codes m v) ≡ m
-unfolding row
-row-length codes m v full narrow low high =
-    simp (length-take, length-drop) (omega arith)
+row-length codes m v full narrow low high = omega (arith, length-row codes m v)
 
 -- a row of at most 128 codes is the first 128 of itself
 pub row-128 : (codes : List ℤ) (m v : ℕ) → m ≤ columns → take 128 (row codes m v) ≡ row codes m v
 row-128 codes m v narrow = take-all 128 (row codes m v) (omega (arith, row-most codes m v))
+
+-- the code for a character, counted from 0
+pub row-code : (codes : List ℤ) (m v j : ℕ) → j < m → getD (row codes m v) j (pos 0) ≡ getD codes (rowStart v + j) (pos 0)
+unfolding row
+row-code codes m v j h = getD-take m (drop (rowStart v) codes) j (pos 0) h ∙ getD-drop (rowStart v) codes j (pos 0)
+
+-- two matrices of one size have one row of node v if its codes are the same
+pub row-same : (old new : List ℤ) (m v : ℕ) → length new ≡ length old
+    → ((j : ℕ) → j < m → getD new (rowStart v + j) (pos 0) ≡ getD old (rowStart v + j) (pos 0)) → row new m v ≡ row old m v
+row-same old new m v size same =
+    ext-getD
+    (pos 0)
+    (row new m v)
+    (row old m v)
+    (length-row new m v ∙ ap (λ (k : ℕ). min m (k - rowStart v)) size ∙ sym (length-row old m v))
+    (λ j h. let l : j < m = omega (arith, row-most new m v) in row-code new m v j l ∙ same j l ∙ sym (row-code old m v j l))

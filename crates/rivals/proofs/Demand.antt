@@ -3,9 +3,6 @@ use mathlib.Core.Path.{_≡_}
 use mathlib.Core.Bool.{true}
 use mathlib.Core.List.{List}
 use Prim.Native.Nat.{ℕ, _≤_}
-use native.Mathlib.Decide.{decLe}
-use native.Mathlib.Omega.{arith}
-use mathlib.Core.Logic.{by-cases}
 use lib.IntN.{ℤ}
 use Rattle.matrix.specs.Questions.{withinLimits, oneTo, askMatrix}
 use Rattle.matrix.specs.declared.refusal.Asked.the-variants.{Passed}
@@ -22,8 +19,7 @@ use Rattle.branching.proofs.Test.{branching-iff}
 use Rattle.wagner.specs.Nodes.{rowOf, nodeDifference}
 use Rattle.wagner.specs.Matrix.{rowsOf}
 use Rattle.fitting.specs.Rival.{FitIsLeast}
-use Rattle.fitting.proofs.Laws.Branching.{branching-branches}
-use Rattle.fitting.proofs.Laws.ThirdRival.{third-rival, third-rival-alone}
+use Rattle.fitting.proofs.Laws.ThirdRival.{third-rival}
 use Rattle.rivals.specs.Accepted.{Accepted}
 use Rattle.rivals.specs.Demand.{NoRivalDoesBetter}
 use Rattle.rivals.proofs.Rows.{accepted-read, accepted-lent}
@@ -39,12 +35,9 @@ network-shortest : (rows : List (List ℤ)) (n : ℕ) → Shortest (nodeDifferen
 unfolding nodeDifference
 network-shortest rows n = shortest (nodeDifference difference rows) (λ x y. difference-sym (rowOf rows x) (rowOf rows y)) n
 
--- the fit, for one taxon and for several
+-- the fit
 fit-least : (n m : ℕ) (tree : List ℕ) (rows : List (List ℤ)) → 1 ≤ n → branching n tree ≡ true → FitIsLeast tree rows n m
-fit-least n m tree rows taxa b =
-    by-cases (decLe 2 n)
-    (λ two. third-rival n m tree rows (branching-branches n tree two (branching-iff tree n taxa .0 b)))
-    (λ few. let one : 1 ≡ n = omega arith in rw (← one) (third-rival-alone m tree rows))
+fit-least n m tree rows taxa b = third-rival n m tree rows taxa (branching-iff tree n taxa .0 b)
 
 -- for accepted rows
 pub no-rival : (n m : ℕ) (rows : List (List ℤ)) → Accepted n m rows → NoRivalDoesBetter n m rows

@@ -33,6 +33,7 @@ rows-more m rows r each long v l h =
 -- the rows after a placement: those before, and behind them the HTU's
 module _ (d : List ℤ → List ℤ → ℕ) (n m k : ℕ) (tree : List ℕ) (rows : List (List ℤ)) (g : Growth n m k tree rows) (laws : MedianLaws d m)
     (b : ℕ) (u : Unplaced n tree b) where
+  -- what comes out of the placement
   abbrev placed : Placed
   placed = place d n tree rows b
 

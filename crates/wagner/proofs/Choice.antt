@@ -5,12 +5,13 @@ use Prim.Native.Nat.{ℕ, _≤_}
 use Rattle.matrix.proofs.Choice.{firstLeast-mem, firstLeast-least}
 use Rattle.wagner.specs.Nodes.{leastOf}
 
--- the choice from a list that is not empty is one of it, and none of it has a lesser key
+-- the choice from a list that is not empty is one of it
 pub leastOf-mem : (key : ℕ → ℕ) (vs : List ℕ) (u : ℕ) → List·Memᴰ u vs → List·Memᴰ (leastOf key vs) vs
 unfolding leastOf
 leastOf-mem key [] u m = absurd (List·Memᴰ·not-nil m)
 leastOf-mem key (v ∷ vs) u m = firstLeast-mem key v vs
 
+-- and none of the list has a lesser key
 pub leastOf-le : (key : ℕ → ℕ) (vs : List ℕ) (u : ℕ) → List·Memᴰ u vs → key (leastOf key vs) ≤ key u
 unfolding leastOf
 leastOf-le key [] u m = absurd (List·Memᴰ·not-nil m)

@@ -7,10 +7,11 @@ use lib.IntN.{ℤ, pos, negsuc}
 use lib.ListN.{take}
 use Rattle.matrix.specs.Choice.{numbers, firstLeast}
 use Rattle.matrix.specs.Shape.{lastNode}
+use Rattle.matrix.specs.Every.{every}
 use Rattle.difference.specs.Rows.{apart, lower, higher, median, medians, difference}
 use Rattle.branching.specs.Ancestors.{ancestor, descendants}
 use Rattle.branching.specs.Nodes.{hasAncestor, inTree, keep, nodesIn, nodesOut, otherNodes, taxaPlaced}
-use Rattle.branching.specs.Growing.{every, descendantCount, descendantsWanted, climbs, rowOneAlone, nodesOnly, htusIn, ancestorsIn}
+use Rattle.branching.specs.Growing.{descendantCount, descendantsWanted, climbs, rowOneAlone, nodesOnly, htusIn, ancestorsIn}
 use Rattle.branching.specs.Growing.{descendantsRight, allClimb, grown, growingTree, branching}
 use Rattle.branching.specs.Hanging.{noBranches, linked, hung, nextHtu}
 use Rattle.branching.specs.Branches.{BranchRecord, sumOver, treeLength, branchOf, branchRecords, branchesRead, ancestorsOf, sameNumbers}
@@ -30,6 +31,7 @@ record Shown : Type 0 where
   total : ℕ
   isBranching : Bool
 
+-- the Wagner tree of n rows as such a listing shows it
 shown : ℕ → List (List ℤ) → Shown
 unfolding apart lower higher median medians difference numbers firstLeast lastNode ancestor descendants hasAncestor inTree keep
     nodesIn nodesOut otherNodes taxaPlaced every descendantCount descendantsWanted climbs rowOneAlone nodesOnly htusIn ancestorsIn

@@ -54,10 +54,11 @@ pub record Growth (n m k : ℕ) (tree : List ℕ) (rows : List (List ℤ)) : Typ
 -- a growing tree of k taxa, its rows, a taxon b that is not in it and a node c of it other than row 1
 module _ (d : List ℤ → List ℤ → ℕ) (n k : ℕ) (tree : List ℕ) (rows : List (List ℤ)) (g : Grown n k tree) (room : 2 * n - 2 < length tree)
     (full : length rows ≡ n + k - 2) (b : ℕ) (u : Unplaced n tree b) where
-  -- a node of the tree, and its immediate ancestor, have rows
+  -- a node of the tree has a row
   node-row : (c : ℕ) → 1 ≤ ancestor tree c → (1 ≤ c) × (c ≤ length rows)
   node-row c inside = let w = g .nodesOnly c inside in omega arith
 
+  -- so has its immediate ancestor
   ancestor-row : (c : ℕ) → 1 ≤ ancestor tree c → (1 ≤ ancestor tree c) × (ancestor tree c ≤ length rows)
   ancestor-row c inside =
       ⊎-elim
@@ -98,12 +99,15 @@ module _ (d : List ℤ → List ℤ → ℕ) (n k : ℕ) (tree : List ℕ) (rows
 
   -- under the laws of the medians
   module _ (m : ℕ) (laws : MedianLaws d m) (each : OfLength m rows) where
+    -- the row of b has m codes
     long-taxon : length (rowOf rows b) ≡ m
     long-taxon = each b (omega arith) (omega (arith, g .atLeastTwo))
 
+    -- so has that of c
     long-lower : (c : ℕ) → 1 ≤ ancestor tree c → length (rowOf rows c) ≡ m
     long-lower c inside = let h = node-row c inside in each c (h .0) (h .1)
 
+    -- and that of c's immediate ancestor
     long-upper : (c : ℕ) → 1 ≤ ancestor tree c → length (rowOf rows (ancestor tree c)) ≡ m
     long-upper c inside = let h = ancestor-row c inside in each (ancestor tree c) (h .0) (h .1)
 

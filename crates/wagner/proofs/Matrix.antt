@@ -2,24 +2,26 @@
 use mathlib.Core.Path.{_≡_, refl, sym, ap, _∙_}
 use mathlib.Core.Logic.{_≢_, by-cases}
 use mathlib.Core.List.{List, [], _∷_, _++_, append-nil, append-assoc}
-use Prim.Native.Nat.{ℕ, suc, _+_, _-_, _≤_, _<_, min}
+use Prim.Native.Nat.{ℕ, suc, _+_, _-_, _≤_, _<_}
 use native.Mathlib.Nat.{add-zero}
 use native.Mathlib.Omega.{arith}
 use native.Mathlib.Decide.{decLe}
 use lib.IntN.{ℤ, pos}
-use lib.ListN.{take-append-drop, length, getD, take, drop, length-append, length-take, length-drop, List·getD-append}
+use lib.ListN.{take-append-drop, length, getD, take, drop, length-append, length-drop, List·getD-append}
 use lib.Seq.{take-at, drop-at, length-take-le, getD-take, getD-drop, getD-append-add, getD-at, ext-getD}
 use Rattle.matrix.specs.Shape.{rowStart, row, columns}
-use Rattle.branching.proofs.Numbers.{length-map-numbers, map-numbers}
+use Rattle.matrix.proofs.Choice.{length-map-numbers, map-numbers}
+use Rattle.matrix.proofs.Row.{length-row, row-same}
+use Rattle.branching.specs.Hanging.{noBranches}
 use Rattle.wagner.specs.Nodes.{rowOf}
 use Rattle.wagner.specs.Matrix.{rowsOf, withRow, withRows, matrixAfter}
 use Rattle.wagner.specs.Build.{Built}
 use Rattle.wagner.proofs.Lengths.{OfLength}
 use Rattle.wagner.proofs.BuildLength.{Sound}
-use Rattle.branching.specs.Hanging.{noBranches}
 
 -- a matrix, a node v and a row r that fits into its row
 module _ (codes : List ℤ) (v : ℕ) (r : List ℤ) (fits : rowStart v + length r ≤ length codes) where
+  -- before the row of node v stand as many codes as that row starts at
   front : length (take (rowStart v) codes) ≡ rowStart v
   front = length-take-le (rowStart v) codes (omega arith)
 
@@ -35,13 +37,14 @@ module _ (codes : List ℤ) (v : ℕ) (r : List ℤ) (fits : rowStart v + length
       ap (take (length r)) (drop-at (take (rowStart v) codes) (r ++ drop (rowStart v + length r) codes) (rowStart v) front)
       ∙ take-at r (drop (rowStart v + length r) codes) (length r) refl
 
-  -- no code before it or behind it changes
+  -- no code before it changes
   withRow-before : (j : ℕ) → j < rowStart v → getD (withRow codes v r) j (pos 0) ≡ getD codes j (pos 0)
   unfolding withRow
   withRow-before j h =
       List·getD-append (take (rowStart v) codes) (r ++ drop (rowStart v + length r) codes) (pos 0) j (omega (arith, front))
       ∙ getD-take (rowStart v) codes j (pos 0) h
 
+  -- nor one behind it
   withRow-behind : (j : ℕ) → rowStart v + length r ≤ j → getD (withRow codes v r) j (pos 0) ≡ getD codes j (pos 0)
   unfolding withRow
   withRow-behind j h =
@@ -55,26 +58,6 @@ module _ (codes : List ℤ) (v : ℕ) (r : List ℤ) (fits : rowStart v + length
       ∙ getD-append-add r last i (pos 0)
       ∙ getD-drop (rowStart v + length r) codes i (pos 0)
       ∙ ap (λ (k : ℕ). getD codes k (pos 0)) back
-
--- the row of node u: its length, and its codes
-pub length-row : (codes : List ℤ) (m u : ℕ) → length (row codes m u) ≡ min m (length codes - rowStart u)
-unfolding row
-length-row codes m u = simp (length-take, length-drop)
-
-pub row-code : (codes : List ℤ) (m u i : ℕ) → i < m → getD (row codes m u) i (pos 0) ≡ getD codes (rowStart u + i) (pos 0)
-unfolding row
-row-code codes m u i h = getD-take m (drop (rowStart u) codes) i (pos 0) h ∙ getD-drop (rowStart u) codes i (pos 0)
-
--- two matrices of one size have one row of node u if its codes are the same
-pub row-same : (old new : List ℤ) (m u : ℕ) → length new ≡ length old
-    → ((i : ℕ) → i < m → getD new (rowStart u + i) (pos 0) ≡ getD old (rowStart u + i) (pos 0)) → row new m u ≡ row old m u
-row-same old new m u size same =
-    ext-getD
-    (pos 0)
-    (row new m u)
-    (row old m u)
-    (length-row new m u ∙ ap (λ (k : ℕ). min m (k - rowStart u)) size ∙ sym (length-row old m u))
-    (λ i h. let l : i < m = omega (arith, length-row new m u) in row-code new m u i l ∙ same i l ∙ sym (row-code old m u i l))
 
 -- the row of another node stays
 pub withRow-other : (codes : List ℤ) (v : ℕ) (r : List ℤ) → rowStart v + length r ≤ length codes → length r ≤ columns
@@ -93,10 +76,12 @@ rowOf-next rows i = ap (λ (k : ℕ). getD rows k []) (omega arith)
 
 -- the rows of nodes 1 to count
 module _ (codes : List ℤ) (m count : ℕ) where
+  -- there are as many as nodes
   pub length-rowsOf : length (rowsOf codes m count) ≡ count
   unfolding rowsOf
   length-rowsOf = length-map-numbers (row codes m) 1 count
 
+  -- that of node v is its row in the matrix
   pub rowOf-rowsOf : (v : ℕ) → 1 ≤ v → v ≤ count → rowOf (rowsOf codes m count) v ≡ row codes m v
   unfolding rowOf rowsOf
   rowOf-rowsOf v l h = map-numbers (row codes m) [] 1 count (v - 1) (omega arith) ∙ ap (row codes m) (omega arith)
@@ -166,9 +151,11 @@ rowsOf-all codes m count (r ∷ rs) each wide room =
 -- a build of n taxa from the rows of a lent matrix
 module _ (d : List ℤ → List ℤ → ℕ) (codes : List ℤ) (n m : ℕ) (wide : m ≤ columns) (room : rowStart (suc (n + (n - 2))) ≤ length codes)
     (built : Built) (s : Sound d n m n noBranches (rowsOf codes m n) built) where
+  -- there is a row for each of the n taxa and n-2 HTUs
   long : length (built .rows) ≡ n + (n - 2)
   long = s .growth .full
 
+  -- behind the taxa stand those of the n-2 HTUs
   later : length (drop n (built .rows)) ≡ n - 2
   later = omega (arith, length-drop n (built .rows), long)
 
@@ -195,6 +182,7 @@ module _ (d : List ℤ → List ℤ → ℕ) (codes : List ℤ) (n m : ℕ) (wid
       ap length (getD-drop n (built .rows) i [] ∙ sym (rowOf-next (built .rows) (n + i)))
       ∙ s .growth .each (suc (n + i)) (omega arith) (omega (arith, long, later))
 
+  -- with those of the HTUs written behind them the matrix holds the rows of the taxa and these, and keeps its size
   written : (rowsOf (matrixAfter codes n built) m (n + length (drop n (built .rows))) ≡ rowsOf codes m n ++ drop n (built .rows))
       × (length (matrixAfter codes n built) ≡ length codes)
   unfolding matrixAfter

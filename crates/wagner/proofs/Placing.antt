@@ -19,12 +19,13 @@ use Rattle.wagner.specs.Placing.{fromInterval, nearestInterval, link, ha
 use Rattle.wagner.proofs.Choice.{leastOf-mem, leastOf-le, leastOf-none}
 
 module _ (d : List ℤ → List ℤ → ℕ) (n : ℕ) (tree : List ℕ) (rows : List (List ℤ)) (b : ℕ) where
-  -- on row 1 alone there is no interval, and the taxon is linked to row 1
+  -- on row 1 alone there is no interval
   pub nearest-none : ((v : ℕ) → ancestor tree v ≡ 0) → nearestInterval d n tree rows b ≡ 0
   unfolding nearestInterval
   nearest-none none =
       leastOf-none (fromInterval d tree rows b) (nodesIn tree (otherNodes n)) (λ u m. omega (arith, node-nodesIn tree n u m, none u))
 
+  -- and the taxon is linked to row 1
   pub place-first : ((v : ℕ) → ancestor tree v ≡ 0) → place d n tree rows b ≡ link d tree rows b
   unfolding place placeOn
   place-first none = ap (placeOn d n tree rows b) (nearest-none none)

@@ -2,29 +2,35 @@
 use mathlib.Core.Path.{_≡_, refl, sym, ap, ap₂, subst, _∙_}
 use mathlib.Core.Bool.{true}
 use mathlib.Core.Logic.{_⊎_, inl, inr}
-use Prim.Native.Nat.{ℕ, zero, suc, _+_, _*_, _-_, _≤_, min, max}
+use mathlib.Core.List.{[], _∷_}
+use Prim.Native.Nat.{ℕ, zero, suc, _+_, _*_, _≤_, min, max}
 use native.Mathlib.Nat.{min-comm, max-comm, le-trans}
 use native.Mathlib.Omega.{arith}
-use borrow.Author.Tests.{leb-true, ltb-true}
-use lib.Dec.{T, ltb, leb→le}
+use borrow.Author.Tests.{leb-true}
+use lib.Dec.{T, leb→le}
 use lib.IntN.{ℤ, pos, negsuc, natAbs, subℕ, _-ℤ_, +ℤ-idr}
 use lib.Signed.{_≤ℤ_, leZ, nonNeg, pos-natAbs}
 use Rattle.matrix.specs.Shape.{inRange}
 use Rattle.difference.specs.Rows.{apart, lower, higher, median}
-use Rattle.difference.proofs.Laws.Order.{leZ-true, leZ-false, ≤ℤ-total, cond-keeps, lower-keeps, higher-keeps, median-keeps}
-use Rattle.difference.proofs.Laws.Shift.{shift, within, shift-apart, shift-add-apart, shift-le, le-of-shift, shift-inj, shift-lower, shift-higher, shift-median}
+use Rattle.difference.proofs.Laws.Order.{leZ-true, leZ-false, ≤ℤ-total, cond-keeps, median-keeps}
+use Rattle.difference.proofs.Laws.Places.{place, sub-cases, everywhere, place-le, le-place, apart-place, lower-place, higher-place}
+use Rattle.difference.proofs.Laws.Places.{median-place}
 
 -- ---- the order of codes, and the lower and the higher of two
 
 -- a code at most one that is at most a third is at most the third
 pub ≤ℤ-trans : {a b c : ℤ} → a ≤ℤ b → b ≤ℤ c → a ≤ℤ c
-≤ℤ-trans {a} {b} {c} h k =
-    within a b c (λ K ha hb hc. le-of-shift K a c ha hc (le-trans (shift-le K a b h) (shift-le K b c k)))
+≤ℤ-trans {a} {b} {c} =
+    everywhere (λ z. z 0 ≤ℤ z 1 → z 1 ≤ℤ z 2 → z 0 ≤ℤ z 2)
+    (λ K n h k. le-place K (n 0) (n 2) (le-trans (place-le K (n 0) (n 1) h) (place-le K (n 1) (n 2) k)))
+    (a ∷ b ∷ c ∷ [])
 
 -- codes that are at most each other are equal
 pub ≤ℤ-antisym : {a b : ℤ} → a ≤ℤ b → b ≤ℤ a → a ≡ b
-≤ℤ-antisym {a} {b} h k =
-    within a b b (λ K ha hb hc. shift-inj K a b ha hb (omega (arith, shift-le K a b h, shift-le K b a k)))
+≤ℤ-antisym {a} {b} =
+    everywhere (λ z. z 0 ≤ℤ z 1 → z 1 ≤ℤ z 0 → z 0 ≡ z 1)
+    (λ K n h k. ap (place K) (omega (arith, place-le K (n 0) (n 1) h, place-le K (n 1) (n 0) k)))
+    (a ∷ b ∷ [])
 
 -- the lower of two codes in order is the first
 pub lower-first : (a b : ℤ) → a ≤ℤ b → lower a b ≡ a
@@ -50,33 +56,53 @@ higher-second a b h = cond-keeps (λ z. z ≡ b) (leZ a b) b a (λ e. refl) (λ 
 
 -- the difference of two codes is the same either way round
 pub apart-sym : (a b : ℤ) → apart a b ≡ apart b a
-apart-sym a b = within a b b (λ K ha hb hc. omega (arith, shift-apart K a b ha hb, shift-apart K b a hb ha))
+apart-sym a b = everywhere (λ z. apart (z 0) (z 1) ≡ apart (z 1) (z 0)) (λ K n. simp apart-place (omega arith)) (a ∷ b ∷ [])
 
 -- a code is at difference 0 from itself
 pub apart-self : (a : ℤ) → apart a a ≡ 0
-apart-self a = within a a a (λ K ha hb hc. omega (arith, shift-apart K a a ha ha))
+apart-self a = everywhere (λ z. apart (z 0) (z 0) ≡ 0) (λ K n. simp apart-place (omega arith)) (a ∷ [])
 
 -- codes at difference 0 are equal
 pub apart-zero : (a b : ℤ) → apart a b ≡ 0 → a ≡ b
-apart-zero a b e = within a b b (λ K ha hb hc. shift-inj K a b ha hb (omega (arith, shift-apart K a b ha hb)))
+apart-zero a b =
+    everywhere (λ z. apart (z 0) (z 1) ≡ 0 → z 0 ≡ z 1) (λ K n e. ap (place K) (omega (arith, apart-place K (n 0) (n 1)))) (a ∷ b ∷ [])
 
 -- the difference of a and c is at most those of a and b and of b and c together
 pub apart-triangle : (a b c : ℤ) → apart a c ≤ apart a b + apart b c
 apart-triangle a b c =
-    within a b c (λ K ha hb hc. omega (arith, shift-apart K a c ha hc, shift-apart K a b ha hb, shift-apart K b c hb hc))
+    everywhere (λ z. apart (z 0) (z 2) ≤ apart (z 0) (z 1) + apart (z 1) (z 2)) (λ K n. simp apart-place (omega arith)) (a ∷ b ∷ c ∷ [])
 
 -- for codes in order, the differences of a and b and of b and c make that of a and c
 pub apart-add : {a b c : ℤ} → a ≤ℤ b → b ≤ℤ c → apart a b + apart b c ≡ apart a c
-apart-add {a} {b} {c} h k =
-    within a b c (λ K ha hb hc.
-    let s : shift K a ≤ shift K b = shift-le K a b h in
-    let t : shift K b ≤ shift K c = shift-le K b c k in
-    omega (arith, shift-add-apart K a b ha hb s, shift-add-apart K b c hb hc t, shift-add-apart K a c ha hc (le-trans s t)))
+apart-add {a} {b} {c} =
+    everywhere (λ z. z 0 ≤ℤ z 1 → z 1 ≤ℤ z 2 → apart (z 0) (z 1) + apart (z 1) (z 2) ≡ apart (z 0) (z 2))
+    (λ K n h k.
+    let s = place-le K (n 0) (n 1) h in
+    let t = place-le K (n 1) (n 2) k in
+    simp apart-place (omega arith))
+    (a ∷ b ∷ c ∷ [])
+
+-- the differences of a third code from two make at least that of the two
+pub apart-from : (s a b : ℤ) → apart a b ≤ apart s a + apart s b
+apart-from s a b = omega (arith, apart-triangle a s b, apart-sym a s)
+
+-- from between the two they make just as much
+pub apart-between : (s a b : ℤ) → a ≤ℤ s → s ≤ℤ b → apart s a + apart s b ≡ apart a b
+apart-between s a b h k = omega (arith, apart-add h k, apart-sym a s)
+
+-- and only from between the two
+pub between-apart : (s a b : ℤ) → a ≤ℤ b → apart s a + apart s b ≤ apart a b → (a ≤ℤ s) × (s ≤ℤ b)
+between-apart s a b =
+    everywhere (λ z. z 1 ≤ℤ z 2 → apart (z 0) (z 1) + apart (z 0) (z 2) ≤ apart (z 1) (z 2) → (z 1 ≤ℤ z 0) × (z 0 ≤ℤ z 2))
+    (λ K n h k.
+    let s = place-le K (n 1) (n 2) h in
+    let t = simp apart-place at k in
+    (le-place K (n 1) (n 0) (omega arith), le-place K (n 0) (n 2) (omega arith)))
+    (s ∷ a ∷ b ∷ [])
 
 -- a natural number less one that is at most it is not negative
 subℕ-nonNeg : (x y : ℕ) → y ≤ x → T (nonNeg (subℕ x y))
-subℕ-nonNeg x y h =
-    cond-keeps (λ z. T (nonNeg z)) (ltb x y) (negsuc (y - suc x)) (pos (x - y)) (λ e. absurd (omega (arith, ltb-true x y e))) (λ e. tt)
+subℕ-nonNeg x y h = sub-cases (λ z. T (nonNeg z)) x y (λ k. absurd (omega arith)) (λ k. tt)
 
 -- a code less one that is at most it is not negative
 sub-nonNeg : (a b : ℤ) → b ≤ℤ a → T (nonNeg (a -ℤ b))
@@ -115,16 +141,12 @@ apart-inRange a b h k = apart-most 999 a b (leb-true (natAbs a) 999 h) (leb-true
 pub median-inRange : (a b c : ℤ) → inRange a ≡ true → inRange b ≡ true → inRange c ≡ true → inRange (median a b c) ≡ true
 median-inRange = median-keeps (λ z. inRange z ≡ true)
 
--- the median's size is not above an amount that no code's size is above
-median-size : (K : ℕ) (a b c : ℤ) → natAbs a ≤ K → natAbs b ≤ K → natAbs c ≤ K → natAbs (median a b c) ≤ K
-median-size K = median-keeps (λ z. natAbs z ≤ K)
-
 -- the median is the same with its first two codes swapped
 pub median-swap : (a b c : ℤ) → median a b c ≡ median b a c
 median-swap a b c =
-    within a b c (λ K ha hb hc.
-    shift-inj K (median a b c) (median b a c) (median-size K a b c ha hb hc) (median-size K b a c hb ha hc)
-    (shift-median K a b c ∙ swap (shift K a) (shift K b) (shift K c) ∙ sym (shift-median K b a c)))
+    everywhere (λ z. median (z 0) (z 1) (z 2) ≡ median (z 1) (z 0) (z 2))
+    (λ K n. simp median-place (ap (place K) (swap (n 0) (n 1) (n 2))))
+    (a ∷ b ∷ c ∷ [])
   where
     swap : (x y z : ℕ) → max (min x y) (max (min y z) (min z x)) ≡ max (min y x) (max (min x z) (min z y))
     swap x y z = ap₂ max (min-comm x y) (max-comm (min y z) (min z x) ∙ ap₂ max (min-comm z x) (min-comm y z))
@@ -132,35 +154,34 @@ median-swap a b c =
 -- the median is the same with its first code put last
 pub median-rotate : (a b c : ℤ) → median a b c ≡ median b c a
 median-rotate a b c =
-    within a b c (λ K ha hb hc.
-    shift-inj K (median a b c) (median b c a) (median-size K a b c ha hb hc) (median-size K b c a hb hc ha)
-    (shift-median K a b c
-    ∙ turn (min (shift K a) (shift K b)) (min (shift K b) (shift K c)) (min (shift K c) (shift K a))
-    ∙ sym (shift-median K b c a)))
+    everywhere (λ z. median (z 0) (z 1) (z 2) ≡ median (z 1) (z 2) (z 0))
+    (λ K n. simp median-place (ap (place K) (turn (min (n 0) (n 1)) (min (n 1) (n 2)) (min (n 2) (n 0)))))
+    (a ∷ b ∷ c ∷ [])
   where
     turn : (x y z : ℕ) → max x (max y z) ≡ max y (max z x)
     turn x y z = omega arith
 
 -- the median of codes in order is the second
 pub median-in-order : (a b c : ℤ) → a ≤ℤ b → b ≤ℤ c → median a b c ≡ b
-median-in-order a b c h k =
-    within a b c (λ K ha hb hc.
-    shift-inj K (median a b c) b (median-size K a b c ha hb hc) hb
-    (omega (arith, shift-median K a b c, shift-le K a b h, shift-le K b c k)))
+median-in-order a b c =
+    everywhere (λ z. z 0 ≤ℤ z 1 → z 1 ≤ℤ z 2 → median (z 0) (z 1) (z 2) ≡ z 1)
+    (λ K n h k.
+    median-place K (n 0) (n 1) (n 2) ∙ ap (place K) (omega (arith, place-le K (n 0) (n 1) h, place-le K (n 1) (n 2) k)))
+    (a ∷ b ∷ c ∷ [])
 
 -- the median is no lower than the lower of the first two codes
 pub lower-median : (a b c : ℤ) → lower a b ≤ℤ median a b c
 lower-median a b c =
-    within a b c (λ K ha hb hc.
-    le-of-shift K (lower a b) (median a b c) (lower-keeps (λ z. natAbs z ≤ K) a b ha hb) (median-size K a b c ha hb hc)
-    (omega (arith, shift-lower K a b, shift-median K a b c)))
+    everywhere (λ z. lower (z 0) (z 1) ≤ℤ median (z 0) (z 1) (z 2))
+    (λ K n. simp (lower-place, median-place) (le-place K _ _ (omega arith)))
+    (a ∷ b ∷ c ∷ [])
 
 -- the median is no higher than the higher of the first two codes
 pub median-higher : (a b c : ℤ) → median a b c ≤ℤ higher a b
 median-higher a b c =
-    within a b c (λ K ha hb hc.
-    le-of-shift K (median a b c) (higher a b) (median-size K a b c ha hb hc) (higher-keeps (λ z. natAbs z ≤ K) a b ha hb)
-    (omega (arith, shift-higher K a b, shift-median K a b c)))
+    everywhere (λ z. median (z 0) (z 1) (z 2) ≤ℤ higher (z 0) (z 1))
+    (λ K n. simp (higher-place, median-place) (le-place K _ _ (omega arith)))
+    (a ∷ b ∷ c ∷ [])
 
 -- the median lies between the first two codes: their differences from it make their difference
 pub median-between : (a b c : ℤ) → apart a (median a b c) + apart (median a b c) b ≡ apart a b

@@ -9,8 +9,7 @@ use Rattle.fitting.specs.Sets.{join, nearest}
 use Rattle.fitting.specs.Trees.{Tree, tip, fork}
 use Rattle.fitting.specs.Character.{up}
 use Rattle.fitting.proofs.Laws.Sets.{Nonempty, In, offset, gap, join-nonempty, only-nonempty, nearest-in, offset-triangle}
-use Rattle.fitting.proofs.Laws.Sets.{offset-only}
-use Rattle.fitting.proofs.Laws.Sets.{offset-join, offset-in-join}
+use Rattle.fitting.proofs.Laws.Sets.{offset-only, offset-join, offset-in-join}
 
 -- the cost of a tree under an assignment f, with the branch to a node of state y above it
 unfoldable pub cost : (ℕ → ℤ) → ℤ → Tree → ℕ

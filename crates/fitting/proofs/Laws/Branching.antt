@@ -1,27 +1,63 @@
--- A branching in the sense of question 14 is what the fitting asks for.
-use mathlib.Core.Path.{refl}
+-- What fitting uses of a branching of two taxa or more, which is a tree of all its n taxa: the lists of descendants, and the steps from a
+-- node up to row 1.
+use mathlib.Core.Path.{_≡_}
+use mathlib.Core.Logic.{_⊎_, ⊎-elim}
 use mathlib.Core.List.{List}
-use Prim.Native.Nat.{ℕ, zero, suc, _≤_}
+use mathlib.Core.Bool.{true}
+use Prim.Native.Nat.{ℕ, zero, suc, _*_, _-_, _≤_, _<_}
+use native.Mathlib.Omega.{arith}
+use lib.ListN.{length}
+use borrow.Author.Tests.{eqb-true}
+use Rattle.branching.specs.Ancestors.{ancestor, descendants}
 use Rattle.branching.specs.Nodes.{otherNodes}
-use Rattle.branching.specs.Growing.{descendantCount, ReachesRoot, root, up, Branching}
-use Rattle.branching.proofs.Whole.{growing-within, branching-root, branching-taxon, branching-htu, branching-reaches}
-use Rattle.fitting.specs.Trees.{lowerNodes}
-use Rattle.fitting.proofs.Laws.Walks.{Climbs, Branches}
+use Rattle.branching.specs.Growing.{descendantCount, climbs, Grown, several}
+use Rattle.branching.proofs.Climbing.{climbs-iff}
+use Rattle.branching.proofs.Whole.{growing-within, growing-outside, branching-nodes, branching-root, branching-taxon, branching-htu}
+use Rattle.branching.proofs.Whole.{branching-climbs}
 
--- what reaches node 1 does so in some number of steps
-reaches-steps : {tree : List ℕ} {v : ℕ} → ReachesRoot tree v → (k : ℕ) × Climbs tree k v
-reaches-steps root = (zero, refl)
-reaches-steps (up v r) = let h = reaches-steps r in (suc (h .0), h .1)
+-- going up exactly k steps from node v reaches node 1
+abbrev pub Climbs : List ℕ → ℕ → ℕ → Type 0
+Climbs ancestors zero v = v ≡ 1
+Climbs ancestors (suc k) v = Climbs ancestors k (ancestor ancestors v)
 
--- a branching of two taxa or more is one for the fitting
-pub branching-branches : (n : ℕ) (tree : List ℕ) → 2 ≤ n → Branching n tree → Branches n tree
-unfolding lowerNodes otherNodes descendantCount
-branching-branches n tree two b =
-    record {
-      several = two;
-      onlyNodes = growing-within n tree b;
-      ofRow1 = branching-root n tree two b;
-      ofTaxon = branching-taxon n tree two b;
-      ofHtu = branching-htu n tree two b;
-      climbs = λ v l h. reaches-steps (branching-reaches n tree two b v l h);
-    }
+-- what climbs within some steps does so in one number of them
+climbs-steps : (ancestors : List ℕ) (steps v : ℕ) → climbs ancestors steps v ≡ true → (k : ℕ) × (k ≤ steps) × Climbs ancestors k v
+unfolding climbs
+climbs-steps ancestors zero v c = (0, omega arith, eqb-true v 1 c)
+climbs-steps ancestors (suc steps) v c =
+    ⊎-elim
+    (λ e. (0, omega arith, e))
+    (λ r. let h = climbs-steps ancestors steps (ancestor ancestors v) r in (suc (h .0), omega (arith, h .1), h .2))
+    (climbs-iff ancestors steps v .0 c)
+
+module _ (n : ℕ) (ancestors : List ℕ) (grown : Grown n n ancestors) where
+  -- only nodes 2 to 2n-2 have an immediate ancestor
+  pub only-nodes : (v : ℕ) → 1 ≤ ancestor ancestors v → (2 ≤ v) × (v ≤ 2 * n - 2)
+  only-nodes = growing-within n ancestors (several grown)
+
+  -- any other number has none
+  pub no-ancestor : (v : ℕ) → (v < 2) ⊎ (2 * n - 2 < v) → ancestor ancestors v ≡ 0
+  no-ancestor = growing-outside n ancestors (several grown)
+
+  -- each of these nodes hangs from row 1, or from a node that has an immediate ancestor itself
+  pub row1-or-node : (v : ℕ) → 2 ≤ v → v ≤ 2 * n - 2 → (ancestor ancestors v ≡ 1) ⊎ (1 ≤ ancestor ancestors (ancestor ancestors v))
+  row1-or-node v p h = grown .ancestorsIn v (branching-nodes n ancestors (several grown) v p h)
+
+  -- row 1 has one descendant
+  pub one-below : length (descendants ancestors (otherNodes n) 1) ≡ 1
+  unfolding descendantCount
+  one-below = branching-root n ancestors (grown .atLeastTwo) (several grown)
+
+  -- each other taxon none
+  pub none-below : (v : ℕ) → 2 ≤ v → v ≤ n → length (descendants ancestors (otherNodes n) v) ≡ 0
+  unfolding descendantCount
+  none-below = branching-taxon n ancestors (grown .atLeastTwo) (several grown)
+
+  -- each HTU two
+  pub two-below : (v : ℕ) → n < v → v ≤ 2 * n - 2 → length (descendants ancestors (otherNodes n) v) ≡ 2
+  unfolding descendantCount
+  two-below = branching-htu n ancestors (grown .atLeastTwo) (several grown)
+
+  -- from every node below row 1, at most 2n-2 steps up reach it
+  pub steps-up : (v : ℕ) → 2 ≤ v → v ≤ 2 * n - 2 → (k : ℕ) × (k ≤ 2 * n - 2) × Climbs ancestors k v
+  steps-up v p h = climbs-steps ancestors (2 * n - 2) v (branching-climbs n ancestors (grown .atLeastTwo) (several grown) v p h)

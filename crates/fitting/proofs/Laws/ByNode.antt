@@ -7,9 +7,14 @@ use Prim.Native.Nat.{ℕ, zero, suc, _*_, _-_, _≤_, _<_}
 use native.Mathlib.Omega.{arith}
 use lib.IntN.{ℤ}
 use Rattle.matrix.specs.Choice.{numbers}
+use Rattle.matrix.proofs.Choice.{numbers-among, length-numbers}
 use Rattle.branching.specs.Ancestors.{ancestor, descendants}
+use Rattle.branching.specs.Nodes.{otherNodes}
+use Rattle.branching.specs.Growing.{Grown}
+use Rattle.branching.proofs.Descendants.{mem-descendants}
+use Rattle.branching.proofs.Sums.{length-sum}
 use Rattle.fitting.specs.Sets.{Span, only, join, nearest, middle}
-use Rattle.fitting.specs.Trees.{Tree, tip, fork, treeAt, lowerNodes}
+use Rattle.fitting.specs.Trees.{Tree, tip, fork, treeAt}
 use Rattle.fitting.specs.Character.{valueAt, up}
 use Rattle.fitting.specs.Assignments.{character}
 use Rattle.fitting.specs.Fit.{chosenState, range}
@@ -17,12 +22,11 @@ use Rattle.fitting.proofs.Laws.Ends.{either}
 use Rattle.fitting.proofs.Laws.Nodes.{Part, whole, left, right}
 use Rattle.fitting.proofs.Laws.Downward.{downward, handed, downward-part, stateFrom, rangeFrom, outsideLeft, outsideRight}
 use Rattle.fitting.proofs.Laws.Downward.{ranges-downward}
-use Rattle.fitting.proofs.Laws.Sums.{sum-count}
-use Rattle.fitting.proofs.Laws.Walks.{Climbs, Branches, never-climbs}
 use Rattle.fitting.proofs.Laws.Chosen.{fit-downward}
 use Rattle.fitting.proofs.Laws.OneTree.{chosenState-fit, chosenState-taxon, range-tree}
 use Rattle.fitting.proofs.Laws.Shape.{Made, TreeOf, tree-of, size, size-fork, Two, two-of, two-given, none-in, treeTo-taxon}
-use Rattle.fitting.proofs.Laws.Shape.{treeTo-htu, treeTo-whole, descendants-has, numbers-has}
+use Rattle.fitting.proofs.Laws.Shape.{treeTo-htu, treeTo-whole}
+use Rattle.fitting.proofs.Laws.Branching.{Climbs, only-nodes, row1-or-node, none-below, steps-up}
 
 -- the parts of a part, and of a fork
 part-left : (v : ℕ) (a b t : Tree) → Part (fork v a b) t → Part a t
@@ -65,50 +69,53 @@ part-made n ancestors s t whole m = m
 part-made n ancestors s t (left v a b p) m = part-made n ancestors s a p (m .4)
 part-made n ancestors s t (right v a b p) m = part-made n ancestors s b p (m .5)
 
-module _ (n : ℕ) (ancestors : List ℕ) (branches : Branches n ancestors) where
+module _ (n : ℕ) (ancestors : List ℕ) (grown : Grown n n ancestors) where
   -- the tree of the branching
   abbrev treeOf : TreeOf n ancestors
-  treeOf = tree-of n ancestors branches
+  treeOf = tree-of n ancestors grown
 
   -- a part of the branching's tree
-  abbrev InTree : Tree → Type 0
-  InTree s = Part s (treeOf .tree)
+  abbrev InWhole : Tree → Type 0
+  InWhole s = Part s (treeOf .tree)
 
   -- the tree of a node
   abbrev pub treeFrom : ℕ → Tree
-  treeFrom v = treeAt ancestors (lowerNodes n) (2 * n) v
+  treeFrom v = treeAt ancestors (otherNodes n) (2 * n) v
 
   -- a node stands among the descendants of its ancestor
-  among : (v : ℕ) → 2 ≤ v → v ≤ 2 * n - 2 → List·Memᴰ v (descendants ancestors (lowerNodes n) (ancestor ancestors v))
-  unfolding lowerNodes
-  among v p h = descendants-has ancestors (numbers 2 (2 * n - 3)) v (numbers-has 2 (2 * n - 3) v p (omega (arith, branches .several)))
+  among : (v : ℕ) → 2 ≤ v → v ≤ 2 * n - 2 → List·Memᴰ v (descendants ancestors (otherNodes n) (ancestor ancestors v))
+  unfolding otherNodes
+  among v p h =
+      mem-descendants ancestors (numbers 2 (2 * n - 3)) (ancestor ancestors v) v .1
+      (numbers-among 2 (2 * n - 3) v p (omega (arith, grown .atLeastTwo)), refl)
 
   -- the node that hangs from row 1 has the whole tree
   first-whole : (v : ℕ) → 2 ≤ v → v ≤ 2 * n - 2 → ancestor ancestors v ≡ 1 → treeFrom v ≡ treeOf .tree
   first-whole v p h e = ap treeFrom (List·Memᴰ·eq-of-singleton m) ∙ treeOf .fromRoot
     where
       m : List·Memᴰ v (treeOf .root ∷ [])
-      m = subst (λ us. List·Memᴰ v us) (treeOf .ofRow1) (subst (λ u. List·Memᴰ v (descendants ancestors (lowerNodes n) u)) e (among v p h))
+      m = subst (λ us. List·Memᴰ v us) (treeOf .ofRow1) (subst (λ u. List·Memᴰ v (descendants ancestors (otherNodes n) u)) e (among v p h))
 
   -- a part of the tree that is a node's tree as far as it goes is the node's tree
-  part-whole : (depth v : ℕ) → 2 ≤ v → v ≤ 2 * n - 2 → InTree (treeAt ancestors (lowerNodes n) depth v) →
-      treeFrom v ≡ treeAt ancestors (lowerNodes n) depth v
-  part-whole depth v p h part = treeTo-whole n ancestors branches depth (2 * n) v p h
-      (part-made n ancestors (treeAt ancestors (lowerNodes n) depth v) (treeOf .tree) part (treeOf .isMade))
-      (omega (arith, part-size (treeAt ancestors (lowerNodes n) depth v) (treeOf .tree) part, tree-size))
+  part-whole : (depth v : ℕ) → 2 ≤ v → v ≤ 2 * n - 2 → InWhole (treeAt ancestors (otherNodes n) depth v) →
+      treeFrom v ≡ treeAt ancestors (otherNodes n) depth v
+  part-whole depth v p h part = treeTo-whole n ancestors grown depth (2 * n) v p h
+      (part-made n ancestors (treeAt ancestors (otherNodes n) depth v) (treeOf .tree) part (treeOf .isMade))
+      (omega (arith, part-size (treeAt ancestors (otherNodes n) depth v) (treeOf .tree) part, tree-size))
     where
       tree-size : size (treeOf .tree) ≤ 2 * n
-      tree-size = unfold size lowerNodes in omega (arith, treeOf .sums (λ v. 1), sum-count 2 (2 * n - 3))
+      tree-size = unfold size otherNodes in
+          omega (arith, treeOf .sums (λ v. 1), length-sum (numbers 2 (2 * n - 3)), length-numbers 2 (2 * n - 3))
 
   -- a and b are the two descendants of HTU u
   pub record Htu (u a b : ℕ) : Type 0 where
     pub above : n < u
     pub last : u ≤ 2 * n - 2
-    pub are : descendants ancestors (lowerNodes n) u ≡ a ∷ b ∷ []
+    pub are : descendants ancestors (otherNodes n) u ≡ a ∷ b ∷ []
 
   -- an HTU is no taxon
   htu-second : (u a b : ℕ) → Htu u a b → 2 ≤ u
-  htu-second u a b htu = omega (arith, htu .above, branches .several)
+  htu-second u a b htu = omega (arith, htu .above, grown .atLeastTwo)
 
   -- a node hangs from row 1, or from an HTU beside a sister
   pub data Hangs (v : ℕ) : Type 0 where
@@ -116,75 +123,66 @@ module _ (n : ℕ) (ancestors : List ℕ) (branches : Branches n ancestors) wher
     onLeft : (sister : ℕ) → Htu (ancestor ancestors v) v sister → Hangs v
     onRight : (sister : ℕ) → Htu (ancestor ancestors v) sister v → Hangs v
 
-  -- a node from which going up reaches row 1 hangs so
-  hangs-climbs : (k v : ℕ) → 2 ≤ v → v ≤ 2 * n - 2 → Climbs ancestors (suc k) v → Hangs v
-  hangs-climbs zero v p h c = fromRow1 c
-  hangs-climbs (suc k) v p h c = either u n (λ l. absurd (taxon l)) htu
+  -- every node below row 1 hangs so
+  pub hangs : (v : ℕ) → 2 ≤ v → v ≤ 2 * n - 2 → Hangs v
+  hangs v p h = ⊎-elim fromRow1 (λ a. below (only-nodes n ancestors grown u a)) (row1-or-node n ancestors grown v p h)
     where
       u : ℕ
       u = ancestor ancestors v
 
-      node : (2 ≤ u) × (u ≤ 2 * n - 2)
-      node = branches .onlyNodes u (either 1 (ancestor ancestors u) (λ l. l)
-          (λ l. absurd (never-climbs n ancestors branches k (subst (λ w. Climbs ancestors k w) (omega arith) c))))
+      taxon : 2 ≤ u → u ≤ n → ⊥
+      taxon q l =
+          let none = none-in (descendants ancestors (otherNodes n) u) (none-below n ancestors grown u q l) in
+          List·Memᴰ·not-nil (subst (λ us. List·Memᴰ v us) none (among v p h))
 
-      taxon : u ≤ n → ⊥
-      taxon l = List·Memᴰ·not-nil
-          (subst (λ us. List·Memᴰ v us) (none-in (descendants ancestors (lowerNodes n) u) (branches .ofTaxon u (node .0) l)) (among v p h))
-
-      htu : n < u → Hangs v
-      htu l =
-          let two = two-of n ancestors branches u l (node .1) in
+      htu : n < u → u ≤ 2 * n - 2 → Hangs v
+      htu l q =
+          let two = two-of n ancestors grown u l q in
           ⊎-elim
-          (λ e. onLeft (two .right) (record { above = l; last = node .1; are = two .are ∙ ap (λ w. w ∷ two .right ∷ []) (sym e) }))
+          (λ e. onLeft (two .right) (record { above = l; last = q; are = two .are ∙ ap (λ w. w ∷ two .right ∷ []) (sym e) }))
           (λ m. onRight (two .left)
-          (record { above = l; last = node .1; are = two .are ∙ ap (λ w. two .left ∷ w ∷ []) (sym (List·Memᴰ·eq-of-singleton m)) }))
+          (record { above = l; last = q; are = two .are ∙ ap (λ w. two .left ∷ w ∷ []) (sym (List·Memᴰ·eq-of-singleton m)) }))
           (List·Memᴰ·cases-cons (subst (λ us. List·Memᴰ v us) (two .are) (among v p h)))
 
-  -- every node below row 1 hangs so
-  pub hangs : (v : ℕ) → 2 ≤ v → v ≤ 2 * n - 2 → Hangs v
-  hangs v p h = let c = branches .climbs v p h in go (c .0) (c .1)
-    where
-      go : (k : ℕ) → Climbs ancestors k v → Hangs v
-      go zero c = absurd (omega arith)
-      go (suc k) c = hangs-climbs k v p h c
+      below : (2 ≤ u) × (u ≤ 2 * n - 2) → Hangs v
+      below node = either u n (λ l. absurd (taxon (node .0) l)) (λ l. htu l (node .1))
 
   -- if an HTU's tree is a part of the whole, so are those of its descendants, and it is their fork
   record Split (u a b : ℕ) : Type 0 where
     isFork : treeFrom u ≡ fork u (treeFrom a) (treeFrom b)
-    leftPart : InTree (treeFrom a)
-    rightPart : InTree (treeFrom b)
+    leftPart : InWhole (treeFrom a)
+    rightPart : InWhole (treeFrom b)
 
   -- its tree goes down far enough, because the whole has at most 2n nodes
-  split : (u a b : ℕ) → Htu u a b → InTree (treeFrom u) → Split u a b
+  split : (u a b : ℕ) → Htu u a b → InWhole (treeFrom u) → Split u a b
   unfolding two-given
   split u a b htu part = record {
     isFork = step ∙ ap₂ (fork u) (sym wholeLeft) (sym wholeRight);
-    leftPart = subst InTree (sym wholeLeft) l;
-    rightPart = subst InTree (sym wholeRight) r;
+    leftPart = subst InWhole (sym wholeLeft) l;
+    rightPart = subst InWhole (sym wholeRight) r;
   }
     where
       less : ℕ
       less = 2 * n - 1
 
-      two : Two n ancestors branches u
-      two = two-given n ancestors branches u a b (htu .are)
+      two : Two n ancestors grown u
+      two = two-given n ancestors grown u a b (htu .are)
 
       A : Tree
-      A = treeAt ancestors (lowerNodes n) less a
+      A = treeAt ancestors (otherNodes n) less a
 
       B : Tree
-      B = treeAt ancestors (lowerNodes n) less b
+      B = treeAt ancestors (otherNodes n) less b
 
       step : treeFrom u ≡ fork u A B
-      step = ap (λ d. treeAt ancestors (lowerNodes n) d u) (omega (arith, branches .several))
-          ∙ treeTo-htu n ancestors branches less u two
+      step = ap (λ d. treeAt ancestors (otherNodes n) d u) (omega (arith, grown .atLeastTwo))
+          ∙ treeTo-htu n ancestors grown less u two
 
-      l : InTree A
-      l = part-left u A B (treeOf .tree) (subst InTree step part)
+      l : InWhole A
+      l = part-left u A B (treeOf .tree) (subst InWhole step part)
 
-      r : InTree B
-      r = part-right u A B (treeOf .tree) (subst InTree step part)
+      r : InWhole B
+      r = part-right u A B (treeOf .tree) (subst InWhole step part)
 
       wholeLeft : treeFrom a ≡ A
       wholeLeft = part-whole less a (two .leftDescends .second) (two .leftDescends .last) l
@@ -194,36 +192,36 @@ module _ (n : ℕ) (ancestors : List ℕ) (branches : Branches n ancestors) wher
 
   -- the tree of every node is a part of the whole
   part-hangs : (v : ℕ) → 2 ≤ v → v ≤ 2 * n - 2 → Hangs v →
-      (2 ≤ ancestor ancestors v → ancestor ancestors v ≤ 2 * n - 2 → InTree (treeFrom (ancestor ancestors v))) →
-      InTree (treeFrom v)
-  part-hangs v p h (fromRow1 e) f = subst InTree (sym (first-whole v p h e)) whole
+      (2 ≤ ancestor ancestors v → ancestor ancestors v ≤ 2 * n - 2 → InWhole (treeFrom (ancestor ancestors v))) →
+      InWhole (treeFrom v)
+  part-hangs v p h (fromRow1 e) f = subst InWhole (sym (first-whole v p h e)) whole
   part-hangs v p h (onLeft sister htu) f =
       let u = ancestor ancestors v in split u v sister htu (f (htu-second u v sister htu) (htu .last)) .leftPart
   part-hangs v p h (onRight sister htu) f =
       let u = ancestor ancestors v in split u sister v htu (f (htu-second u sister v htu) (htu .last)) .rightPart
 
   -- by the number of steps up to row 1
-  part-climbs : (k v : ℕ) → 2 ≤ v → v ≤ 2 * n - 2 → Climbs ancestors (suc k) v → InTree (treeFrom v)
-  part-climbs zero v p h c = subst InTree (sym (first-whole v p h c)) whole
-  part-climbs (suc k) v p h c = part-hangs v p h (hangs-climbs (suc k) v p h c) (λ q r. part-climbs k (ancestor ancestors v) q r c)
+  part-climbs : (k v : ℕ) → 2 ≤ v → v ≤ 2 * n - 2 → Climbs ancestors (suc k) v → InWhole (treeFrom v)
+  part-climbs zero v p h c = subst InWhole (sym (first-whole v p h c)) whole
+  part-climbs (suc k) v p h c = part-hangs v p h (hangs v p h) (λ q r. part-climbs k (ancestor ancestors v) q r c)
 
   -- for every node below row 1
-  part-of : (v : ℕ) → 2 ≤ v → v ≤ 2 * n - 2 → InTree (treeFrom v)
-  part-of v p h = let c = branches .climbs v p h in go (c .0) (c .1)
+  part-of : (v : ℕ) → 2 ≤ v → v ≤ 2 * n - 2 → InWhole (treeFrom v)
+  part-of v p h = let c = steps-up n ancestors grown v p h in go (c .0) (c .2)
     where
-      go : (k : ℕ) → Climbs ancestors k v → InTree (treeFrom v)
+      go : (k : ℕ) → Climbs ancestors k v → InWhole (treeFrom v)
       go zero c = absurd (omega arith)
       go (suc k) c = part-climbs k v p h c
 
   -- the tree of a taxon is a tip
   pub treeFrom-taxon : (v : ℕ) → 2 ≤ v → v ≤ n → treeFrom v ≡ tip v
-  treeFrom-taxon v p l = ap (λ d. treeAt ancestors (lowerNodes n) d v) (omega (arith, branches .several))
-      ∙ treeTo-taxon n ancestors branches (2 * n - 1) v p l
+  treeFrom-taxon v p l = ap (λ d. treeAt ancestors (otherNodes n) d v) (omega (arith, grown .atLeastTwo))
+      ∙ treeTo-taxon n ancestors grown (2 * n - 1) v p l
 
   -- the tree of an HTU is the fork of its descendants' trees
   module _ (u a b : ℕ) (htu : Htu u a b) where
     -- it is a part of the whole
-    htu-part : InTree (treeFrom u)
+    htu-part : InWhole (treeFrom u)
     htu-part = part-of u (htu-second u a b htu) (htu .last)
 
     -- and the fork of its descendants' trees
@@ -232,22 +230,22 @@ module _ (n : ℕ) (ancestors : List ℕ) (branches : Branches n ancestors) wher
 
     -- its value in a table made from the top down
     value-part : {X A : Type 0} (own : X → Tree → Tree → A) (toLeft toRight : X → Tree → Tree → X) (x : X) (otherwise : A)
-        (p : InTree (treeFrom u)) →
+        (p : InWhole (treeFrom u)) →
         valueAt otherwise (downward own toLeft toRight x (treeOf .tree)) u ≡ own (handed toLeft toRight x p) (treeFrom a) (treeFrom b)
     value-part own toLeft toRight x otherwise =
         subst
-        (λ s. (p : InTree s) →
+        (λ s. (p : InWhole s) →
         valueAt otherwise (downward own toLeft toRight x (treeOf .tree)) u ≡ own (handed toLeft toRight x p) (treeFrom a) (treeFrom b))
         (sym treeFrom-htu)
         (λ p. downward-part own toLeft toRight x u (treeFrom a) (treeFrom b) (treeOf .tree) p (treeOf .isDistinct) otherwise)
 
     -- what it hands to its descendants
-    hands-left : {X : Type 0} (toLeft toRight : X → Tree → Tree → X) (x : X) (p : InTree (treeFrom u)) →
-        (q : InTree (treeFrom a)) × (handed toLeft toRight x q ≡ toLeft (handed toLeft toRight x p) (treeFrom a) (treeFrom b))
+    hands-left : {X : Type 0} (toLeft toRight : X → Tree → Tree → X) (x : X) (p : InWhole (treeFrom u)) →
+        (q : InWhole (treeFrom a)) × (handed toLeft toRight x q ≡ toLeft (handed toLeft toRight x p) (treeFrom a) (treeFrom b))
     hands-left toLeft toRight x =
         subst
-        (λ s. (p : InTree s) →
-        (q : InTree (treeFrom a)) × (handed toLeft toRight x q
+        (λ s. (p : InWhole s) →
+        (q : InWhole (treeFrom a)) × (handed toLeft toRight x q
         ≡ toLeft (handed toLeft toRight x p) (treeFrom a) (treeFrom b)))
         (sym treeFrom-htu)
         (λ p. (
@@ -256,12 +254,12 @@ module _ (n : ℕ) (ancestors : List ℕ) (branches : Branches n ancestors) wher
         ))
 
     -- and to the right one
-    hands-right : {X : Type 0} (toLeft toRight : X → Tree → Tree → X) (x : X) (p : InTree (treeFrom u)) →
-        (q : InTree (treeFrom b)) × (handed toLeft toRight x q ≡ toRight (handed toLeft toRight x p) (treeFrom a) (treeFrom b))
+    hands-right : {X : Type 0} (toLeft toRight : X → Tree → Tree → X) (x : X) (p : InWhole (treeFrom u)) →
+        (q : InWhole (treeFrom b)) × (handed toLeft toRight x q ≡ toRight (handed toLeft toRight x p) (treeFrom a) (treeFrom b))
     hands-right toLeft toRight x =
         subst
-        (λ s. (p : InTree s) →
-        (q : InTree (treeFrom b)) × (handed toLeft toRight x q
+        (λ s. (p : InWhole s) →
+        (q : InWhole (treeFrom b)) × (handed toLeft toRight x q
         ≡ toRight (handed toLeft toRight x p) (treeFrom a) (treeFrom b)))
         (sym treeFrom-htu)
         (λ p. (
@@ -271,9 +269,9 @@ module _ (n : ℕ) (ancestors : List ℕ) (branches : Branches n ancestors) wher
 
   -- to the node that hangs from row 1 is handed what the table begins with
   first-handed : {X : Type 0} (toLeft toRight : X → Tree → Tree → X) (x : X) (v : ℕ) → 2 ≤ v → v ≤ 2 * n - 2 → ancestor ancestors v ≡ 1 →
-      (q : InTree (treeFrom v)) × (handed toLeft toRight x q ≡ x)
+      (q : InWhole (treeFrom v)) × (handed toLeft toRight x q ≡ x)
   first-handed toLeft toRight x v p h e =
-      subst (λ s. (q : InTree s) × (handed toLeft toRight x q ≡ x)) (sym (first-whole v p h e)) (whole, unfold handed in refl)
+      subst (λ s. (q : InWhole s) × (handed toLeft toRight x q ≡ x)) (sym (first-whole v p h e)) (whole, unfold handed in refl)
 
   module _ (rows : List (List ℤ)) (j : ℕ) where
     -- the codes of character j
@@ -300,14 +298,14 @@ module _ (n : ℕ) (ancestors : List ℕ) (branches : Branches n ancestors) wher
     state-from u a b htu y = ap (nearest y) (sym (ap (up code) (treeFrom-htu u a b htu)))
 
     -- its state, from what is handed to it as a part of the tree
-    state-part : (u a b : ℕ) (htu : Htu u a b) (p : InTree (treeFrom u)) →
+    state-part : (u a b : ℕ) (htu : Htu u a b) (p : InWhole (treeFrom u)) →
         chosenState ancestors rows n u j ≡ stateFrom code (handed (stateFrom code) (stateFrom code) (code 1) p) (treeFrom a) (treeFrom b)
     state-part u a b htu p = chosenState-fit n ancestors rows treeOf u j
         ∙ fit-downward code (code 1) (treeOf .tree) u
         ∙ value-part u a b htu (stateFrom code) (stateFrom code) (stateFrom code) (code 1) (code u) p
 
     -- from a part to which the state of its ancestor is handed
-    state-handed : (v c d : ℕ) → Htu v c d → (y : ℤ) (q : InTree (treeFrom v)) →
+    state-handed : (v c d : ℕ) → Htu v c d → (y : ℤ) (q : InWhole (treeFrom v)) →
         handed (stateFrom code) (stateFrom code) (code 1) q ≡ y →
         chosenState ancestors rows n v j ≡ nearest y (setAt v)
     state-handed v c d htu y q e = state-part v c d htu q ∙ state-from v c d htu (handed (stateFrom code) (stateFrom code) (code 1) q)
@@ -326,7 +324,7 @@ module _ (n : ℕ) (ancestors : List ℕ) (branches : Branches n ancestors) wher
             let q = first-handed (stateFrom code) (stateFrom code) (code 1) v (htu-second v c d htu) (htu .last) e in
             state-handed v c d htu (chosenState ancestors rows n u j) (q .0)
             (q .1 ∙ sym (ap (λ w. chosenState ancestors rows n w j) e
-            ∙ chosenState-taxon n ancestors rows treeOf 1 j (omega (arith, branches .several))))
+            ∙ chosenState-taxon n ancestors rows treeOf 1 j (omega (arith, grown .atLeastTwo))))
         go (onLeft sister up) =
             let q = hands-left u v sister up (stateFrom code) (stateFrom code) (code 1) (htu-part u v sister up) in
             state-handed v c d htu (chosenState ancestors rows n u j) (q .0)
@@ -342,11 +340,11 @@ module _ (n : ℕ) (ancestors : List ℕ) (branches : Branches n ancestors) wher
         (treeOf .tree)) v
 
     -- what is handed to a part of the tree as its outside
-    seen : (v : ℕ) → InTree (treeFrom v) → Span
+    seen : (v : ℕ) → InWhole (treeFrom v) → Span
     seen v p = handed (outsideLeft code) (outsideRight code) (only (code 1)) p
 
     -- the outside of an HTU is what is handed to it
-    outside-part : (u a b : ℕ) (htu : Htu u a b) (p : InTree (treeFrom u)) → outsideAt u ≡ seen u p
+    outside-part : (u a b : ℕ) (htu : Htu u a b) (p : InWhole (treeFrom u)) → outsideAt u ≡ seen u p
     unfolding outsideAt seen
     outside-part u a b htu p =
         value-part u a b htu (λ x a b. x) (outsideLeft code) (outsideRight code) (only (code 1)) (only (code 1)) p

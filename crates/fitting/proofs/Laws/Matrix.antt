@@ -1,7 +1,7 @@
 -- The third rival, for a whole matrix and a branching of two taxa or more: the chosen states have least length, and the ranges are those of
 -- all assignments of least length.
 use mathlib.Core.Path.{_≡_, refl, sym, _∙_, ap, ap₂, subst, fun-ext}
-use mathlib.Core.List.{List}
+use mathlib.Core.List.{List, List·Memᴰ}
 use mathlib.Core.Bool.{Bool, true, false, cond}
 use Prim.Native.Nat.{ℕ, _+_, _*_, _-_, _≤_, _<_}
 use native.Mathlib.Nat.{le-antisymm}
@@ -10,12 +10,16 @@ use lib.Dec.{eqb, leb}
 use lib.IntN.{ℤ}
 use borrow.Author.Tests.{eqb-true, eq-eqb, leb-true, le-leb}
 use Rattle.matrix.specs.Choice.{numbers}
+use Rattle.matrix.proofs.Choice.{numbers-within, numbers-among}
 use Rattle.difference.specs.Rows.{apart}
 use Rattle.branching.specs.Ancestors.{ancestor}
+use Rattle.branching.specs.Nodes.{otherNodes}
+use Rattle.branching.specs.Branches.{sumOver}
+use Rattle.branching.proofs.Sums.{sum-same, sum-swap, sum-le, sum-tight}
 use Rattle.fitting.specs.Sets.{only}
-use Rattle.fitting.specs.Trees.{Tree, lowerNodes}
+use Rattle.fitting.specs.Trees.{Tree}
 use Rattle.fitting.specs.Character.{up, ranges}
-use Rattle.fitting.specs.Assignments.{sum, character, branchLength, total, IsAssignment, IsLeast, Occurs}
+use Rattle.fitting.specs.Assignments.{character, branchLength, total, IsAssignment, IsLeast, Occurs}
 use Rattle.fitting.specs.Fit.{chosenState, range, fittedTotal}
 use Rattle.fitting.specs.Rival.{FitIsLeast}
 use Rattle.fitting.proofs.Laws.Sets.{In, offset, only-nonempty}
@@ -23,7 +27,6 @@ use Rattle.fitting.proofs.Laws.Basic.{cost, Keeps, leastCost, basic-lem
 use Rattle.fitting.proofs.Laws.Agree.{Agree, cost-agree}
 use Rattle.fitting.proofs.Laws.Chosen.{fit-cost}
 use Rattle.fitting.proofs.Laws.Range.{leastWith, costWith, cost-row1, least-row1, range-holds, Attains, range-attained}
-use Rattle.fitting.proofs.Laws.Sums.{sum-same, sum-swap, sum-le, sum-tight}
 use Rattle.fitting.proofs.Laws.Shape.{TreeOf, cost-sumTree}
 use Rattle.fitting.proofs.Laws.OneTree.{keeps-taxon, keeps-of, chosenState-fit, chosenState-taxon, range-entry}
 
@@ -33,12 +36,12 @@ module _ (n m : ℕ) (ancestors : List ℕ) (rows : List (List ℤ)) (several : 
   tree = treeOf .tree
 
   -- the total of an assignment is the sum of its characters' costs
-  total-cost : (states : ℕ → ℕ → ℤ) → total ancestors n m states ≡ sum (λ j. cost (λ v. states v j) (states 1 j) tree) (numbers 1 m)
+  total-cost : (states : ℕ → ℕ → ℤ) → total ancestors n m states ≡ sumOver (λ j. cost (λ v. states v j) (states 1 j) tree) (numbers 1 m)
   unfolding total branchLength
-  total-cost states = sum-swap (λ v j. apart (states v j) (states (ancestor ancestors v) j)) (lowerNodes n) (numbers 1 m)
-      ∙ sum-same (λ j. sum (λ v. apart (states v j) (states (ancestor ancestors v) j)) (lowerNodes n))
+  total-cost states = sum-swap (λ v j. apart (states v j) (states (ancestor ancestors v) j)) (otherNodes n) (numbers 1 m)
+      ∙ sum-same (λ j. sumOver (λ v. apart (states v j) (states (ancestor ancestors v) j)) (otherNodes n))
       (λ j. cost (λ v. states v j) (states 1 j) tree) (numbers 1 m)
-      (λ j. sym
+      (λ j m. sym
       (cost-sumTree n ancestors (λ v. states v j) (states 1 j) tree (treeOf .isMade) (ap (λ v. states v j) (treeOf .fromRow1))
       ∙ treeOf .sums (λ v. apart (states v j) (states (ancestor ancestors v) j))))
 
@@ -53,12 +56,14 @@ module _ (n m : ℕ) (ancestors : List ℕ) (rows : List (List ℤ)) (several : 
       keeps-of n ancestors (character rows j) (λ v. states v j) tree (treeOf .isMade) (λ v r s. assignment .keeps v j (omega arith) s p q)
 
   -- in every assignment a character costs at least that
-  cost-least : (states : ℕ → ℕ → ℤ) → IsAssignment rows n m states → (j : ℕ) → 1 ≤ j → j < 1 + m →
+  cost-least : (states : ℕ → ℕ → ℤ) → IsAssignment rows n m states → (j : ℕ) → List·Memᴰ j (numbers 1 m) →
       leastFor j ≤ cost (λ v. states v j) (states 1 j) tree
   unfolding leastFor
-  cost-least states assignment j p q =
-      rw (assignment .keeps 1 j (omega arith) (omega arith) p (omega arith))
-      (basic-lemma (character rows j) (λ v. states v j) (character rows j 1) tree (keeps-character states assignment j p (omega arith)))
+  cost-least states assignment j i =
+      let w = numbers-within 1 m j i in
+      rw (assignment .keeps 1 j (omega arith) (omega arith) (w .0) (omega arith))
+      (basic-lemma (character rows j) (λ v. states v j) (character rows j 1) tree
+      (keeps-character states assignment j (w .0) (omega arith)))
 
   -- and a character costs no more than the least
   chosen-cost : (j : ℕ) → cost (λ v. chosenState ancestors rows n v j) (chosenState ancestors rows n 1 j) tree ≡ leastFor j
@@ -69,11 +74,11 @@ module _ (n m : ℕ) (ancestors : List ℕ) (rows : List (List ℤ)) (several : 
       ∙ fit-cost (character rows j) (character rows j 1) tree (treeOf .isDistinct)
 
   -- the fitted total is the sum of the characters' least costs
-  fittedTotal-least : fittedTotal ancestors rows n m ≡ sum leastFor (numbers 1 m)
+  fittedTotal-least : fittedTotal ancestors rows n m ≡ sumOver leastFor (numbers 1 m)
   unfolding fittedTotal
   fittedTotal-least = total-cost (chosenState ancestors rows n)
       ∙ sum-same (λ j. cost (λ v. chosenState ancestors rows n v j) (chosenState ancestors rows n 1 j) tree) leastFor
-      (numbers 1 m) chosen-cost
+      (numbers 1 m) (λ j m. chosen-cost j)
 
   -- the chosen states are an assignment
   fit-assigns : IsAssignment rows n m (chosenState ancestors rows n)
@@ -86,21 +91,23 @@ module _ (n m : ℕ) (ancestors : List ℕ) (rows : List (List ℤ)) (several : 
         arith,
         fittedTotal-least,
         total-cost states,
-        sum-le leastFor (λ j. cost (λ v. states v j) (states 1 j) tree) 1 m (λ j p q. cost-least states assignment j p q),
+        sum-le leastFor (λ j. cost (λ v. states v j) (states 1 j) tree) (numbers 1 m) (cost-least states assignment),
       )
 
   -- in an assignment of least length every character has its least cost
   least-each : (states : ℕ → ℕ → ℤ) → IsLeast ancestors rows n m states → (j : ℕ) → 1 ≤ j → j ≤ m →
       cost (λ v. states v j) (states 1 j) tree ≡ leastFor j
-  least-each states isLeast j p q = le-antisymm
-      (sum-tight leastFor (λ i. cost (λ v. states v i) (states 1 i) tree) 1 m (cost-least states (isLeast .assigns))
+  least-each states isLeast j p q =
+      let i = numbers-among 1 m j p (omega arith) in
+      le-antisymm
+      (sum-tight leastFor (λ i. cost (λ v. states v i) (states 1 i) tree) (numbers 1 m) (cost-least states (isLeast .assigns))
       (unfold fittedTotal in omega (
         arith,
         fittedTotal-least,
         total-cost states,
         isLeast .least (chosenState ancestors rows n) fit-assigns,
-      )) j p (omega arith))
-      (cost-least states (isLeast .assigns) j p (omega arith))
+      )) j i)
+      (cost-least states (isLeast .assigns) j i)
 
   -- so an HTU has in it a state of its range
   occurs-in : (v j : ℕ) (s : ℤ) → n < v → v ≤ 2 * n - 2 → 1 ≤ j → j ≤ m → Occurs ancestors rows n m v j s →
@@ -181,7 +188,7 @@ module _ (n m : ℕ) (ancestors : List ℕ) (rows : List (List ℤ)) (several : 
     -- so their total is the fitted total
     together-total : total ancestors n m together ≡ fittedTotal ancestors rows n m
     together-total = total-cost together
-        ∙ sum-same (λ i. cost (λ w. together w i) (together 1 i) tree) leastFor (numbers 1 m) together-cost
+        ∙ sum-same (λ i. cost (λ w. together w i) (together 1 i) tree) leastFor (numbers 1 m) (λ i m. together-cost i)
         ∙ sym fittedTotal-least
 
     -- together they are an assignment of least length

@@ -6,6 +6,7 @@ use mathlib.Core.Bool.{Bool, true, false, _||_, true≢false}
 use Prim.Native.Nat.{ℕ}
 use lib.Dec.{eqb}
 use borrow.Author.Tests.{eqb-true, eq-eqb}
+use Rattle.matrix.proofs.Both.{or-left, or-right}
 use Rattle.fitting.specs.Trees.{Tree, tip, fork}
 
 -- a test that is both true and false
@@ -39,16 +40,6 @@ parts-swap v a b p = record { leftWithout = p .rightWithout; rightWithout = p .l
 abbrev pub Distinct : Tree → Type 0
 Distinct (tip v) = Unit {0}
 Distinct (fork v a b) = Parts v a b × Distinct a × Distinct b
-
--- one of two tests is enough
-or-left : (x y : Bool) → x ≡ true → (x || y) ≡ true
-or-left true y p = refl
-or-left false y p = clash p refl
-
--- and so is the other
-or-right : (x y : Bool) → y ≡ true → (x || y) ≡ true
-or-right true y p = refl
-or-right false y p = p
 
 -- the nodes of a fork: its HTU, those on the left, those on the right
 pub has-top : (v : ℕ) (a b : Tree) → has (fork v a b) v ≡ true

@@ -9,48 +9,9 @@ use lib.IntN.{ℤ, pos}
 use lib.ListN.{length, getD}
 use lib.Signed.{leZ, _≤ℤ_, ≤ℤ-refl}
 use Rattle.difference.specs.Rows.{apart}
+use Rattle.difference.proofs.Laws.Order.{leZ-true, leZ-false}
+use Rattle.difference.proofs.Laws.Codes.{apart-from, apart-between, between-apart, ≤ℤ-trans}
 use Rattle.fitting.specs.Sets.{insert, inOrder}
-use Rattle.fitting.proofs.Laws.Shift.{apart-place, le-place, place-le, everywhere, leZ-true, leZ-false}
-
--- the order of whole numbers is transitive, and total
-pub ≤-trans : (a b c : ℤ) → a ≤ℤ b → b ≤ℤ c → a ≤ℤ c
-≤-trans a b c = everywhere (λ z. z 0 ≤ℤ z 1 → z 1 ≤ℤ z 2 → z 0 ≤ℤ z 2)
-    (λ K n p q.
-    let p′ = place-le K (n 0) (n 1) p in
-    let q′ = place-le K (n 1) (n 2) q in
-    le-place K (n 0) (n 2) (omega arith))
-    (a ∷ b ∷ c ∷ [])
-
--- two states are as far apart seen from either
-pub apart-comm : (a b : ℤ) → apart a b ≡ apart b a
-apart-comm a b = everywhere (λ z. apart (z 0) (z 1) ≡ apart (z 1) (z 0)) (λ K n. simp apart-place (omega arith)) (a ∷ b ∷ [])
-
--- a state is not apart from itself
-pub apart-self : (a : ℤ) → apart a a ≡ 0
-apart-self a = everywhere (λ z. apart (z 0) (z 0) ≡ 0) (λ K n. simp apart-place (omega arith)) (a ∷ [])
-
--- from two states together it is at least as far as from one to the other
-pub apart-least : (s a b : ℤ) → apart a b ≤ apart s a + apart s b
-apart-least s a b = everywhere (λ z. apart (z 1) (z 2) ≤ apart (z 0) (z 1) + apart (z 0) (z 2))
-    (λ K n. simp apart-place (omega arith)) (s ∷ a ∷ b ∷ [])
-
--- from between the two states it is just as far
-pub apart-between : (s a b : ℤ) → a ≤ℤ s → s ≤ℤ b → apart s a + apart s b ≡ apart a b
-apart-between s a b = everywhere (λ z. z 1 ≤ℤ z 0 → z 0 ≤ℤ z 2 → apart (z 0) (z 1) + apart (z 0) (z 2) ≡ apart (z 1) (z 2))
-    (λ K n p q.
-    let p′ = place-le K (n 1) (n 0) p in
-    let q′ = place-le K (n 0) (n 2) q in
-    simp apart-place (omega arith))
-    (s ∷ a ∷ b ∷ [])
-
--- and from nowhere else
-pub between-of : (s a b : ℤ) → a ≤ℤ b → apart s a + apart s b ≤ apart a b → (a ≤ℤ s) × (s ≤ℤ b)
-between-of s a b = everywhere (λ z. z 1 ≤ℤ z 2 → apart (z 0) (z 1) + apart (z 0) (z 2) ≤ apart (z 1) (z 2) → (z 1 ≤ℤ z 0) × (z 0 ≤ℤ z 2))
-    (λ K n p q.
-    let p′ = place-le K (n 1) (n 2) p in
-    let q′ = simp apart-place at q in
-    (le-place K (n 1) (n 0) (omega arith), le-place K (n 0) (n 2) (omega arith)))
-    (s ∷ a ∷ b ∷ [])
 
 -- x is at most the first of a list
 abbrev From : ℤ → List ℤ → Type 0
@@ -150,18 +111,18 @@ pub third-to-fourth : (xs : List ℤ) → length xs ≡ 6 → Rising xs → (s o
     third xs ≤ℤ s → s ≤ℤ fourth xs → spread s xs ≤ spread other xs
 third-to-fourth = six (λ xs. Rising xs → (s other : ℤ) → third xs ≤ℤ s → s ≤ℤ fourth xs → spread s xs ≤ spread other xs)
     (λ a b c d e f r s other p q. unfold spread in
-    let b≤s = ≤-trans b c s (r .1 .0) p in
-    let a≤s = ≤-trans a b s (r .0) b≤s in
-    let s≤e = ≤-trans s d e q (r .1 .1 .1 .0) in
-    let s≤f = ≤-trans s e f s≤e (r .1 .1 .1 .1 .0) in
+    let b≤s = ≤ℤ-trans (r .1 .0) p in
+    let a≤s = ≤ℤ-trans (r .0) b≤s in
+    let s≤e = ≤ℤ-trans q (r .1 .1 .1 .0) in
+    let s≤f = ≤ℤ-trans s≤e (r .1 .1 .1 .1 .0) in
     omega (
       arith,
       apart-between s a f a≤s s≤f,
       apart-between s b e b≤s s≤e,
       apart-between s c d p q,
-      apart-least other a f,
-      apart-least other b e,
-      apart-least other c d,
+      apart-from other a f,
+      apart-from other b e,
+      apart-from other c d,
     ))
 
 -- and only from there
@@ -169,15 +130,15 @@ pub third-to-fourth-of : (xs : List ℤ) → length xs ≡ 6 → Rising xs → (
     spread s xs ≤ spread (third xs) xs → (third xs ≤ℤ s) × (s ≤ℤ fourth xs)
 third-to-fourth-of = six (λ xs. Rising xs → (s : ℤ) → spread s xs ≤ spread (third xs) xs → (third xs ≤ℤ s) × (s ≤ℤ fourth xs))
     (λ a b c d e f r s h. unfold spread in
-    let c≤e = ≤-trans c d e (r .1 .1 .0) (r .1 .1 .1 .0) in
-    let c≤f = ≤-trans c e f c≤e (r .1 .1 .1 .1 .0) in
-    between-of s c d (r .1 .1 .0)
+    let c≤e = ≤ℤ-trans (r .1 .1 .0) (r .1 .1 .1 .0) in
+    let c≤f = ≤ℤ-trans c≤e (r .1 .1 .1 .1 .0) in
+    between-apart s c d (r .1 .1 .0)
     (omega (
       arith,
       h,
-      apart-between c a f (≤-trans a b c (r .0) (r .1 .0)) c≤f,
+      apart-between c a f (≤ℤ-trans (r .0) (r .1 .0)) c≤f,
       apart-between c b e (r .1 .0) c≤e,
       apart-between c c d (≤ℤ-refl c) (r .1 .1 .0),
-      apart-least s a f,
-      apart-least s b e,
+      apart-from s a f,
+      apart-from s b e,
     )))

@@ -8,12 +8,12 @@ use native.Mathlib.Nat.{le-antisymm}
 use native.Mathlib.Omega.{arith}
 use lib.IntN.{ℤ}
 use Rattle.difference.specs.Rows.{apart}
+use Rattle.difference.proofs.Laws.Codes.{apart-sym, apart-self}
 use Rattle.fitting.specs.Sets.{Span, only, join, nearest, middle}
 use Rattle.fitting.specs.Trees.{Tree, tip, fork}
 use Rattle.fitting.specs.Character.{up, ranges}
 use Rattle.fitting.proofs.Laws.Sets.{Nonempty, In, offset, gap, gap-comm, gap-only, only-nonempty, join-nonempty, nearest-in}
 use Rattle.fitting.proofs.Laws.Sets.{offset-triangle, offset-only, offset-join, offset-in-join}
-use Rattle.fitting.proofs.Laws.Order.{apart-comm, apart-self}
 use Rattle.fitting.proofs.Laws.Three.{leastSum, leastSum-least, leastSum-turn, leastSum-swap, middle-least, least-middle}
 use Rattle.fitting.proofs.Laws.Basic.{cost, Keeps, leastCost, up-nonempty, basic-lemma}
 use Rattle.fitting.proofs.Laws.Nodes.{has, Parts, Distinct, parts-swap, htus-has, top}
@@ -50,7 +50,7 @@ module _ (code : ℕ → ℤ) where
   -- below row 1 of state y they are the cost and the least cost with the branch to row 1
   pub cost-row1 : (f : ℕ → ℤ) (y : ℤ) (t : Tree) → cost f y t ≡ costWith (only y) f t
   unfolding costWith
-  cost-row1 f y t = omega (arith, cost-top f y t, offset-only (f (top t)) y, apart-comm y (f (top t)))
+  cost-row1 f y t = omega (arith, cost-top f y t, offset-only (f (top t)) y, apart-sym y (f (top t)))
 
   -- and the least cost
   pub least-row1 : (y : ℤ) (t : Tree) → leastCost code t + offset y (up code t) ≡ leastWith (only y) t
@@ -119,7 +119,7 @@ module _ (code : ℕ → ℤ) where
           basic-lemma code f (f v) b (k .1),
           offset-join (f v) (up code b) outside (up-nonempty code b) nonempty,
           offset-triangle (f (top a)) (f v) j js,
-          apart-comm (f (top a)) (f v),
+          apart-sym (f (top a)) (f v),
         ))
         (costWith-least j js f a (k .0))
 
@@ -229,7 +229,7 @@ module _ (code : ℕ → ℤ) where
         member = nearest-in (g (top a)) (join (up code b) outside) (join-nonempty (up code b) outside)
 
         distance : apart u (g (top a)) ≡ offset (g (top a)) (join (up code b) outside)
-        distance = unfold offset in apart-comm u (g (top a))
+        distance = unfold offset in apart-sym u (g (top a))
 
         f : ℕ → ℤ
         f = combined v u a g (fit code u b)

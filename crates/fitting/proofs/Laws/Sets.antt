@@ -7,10 +7,10 @@ use native.Mathlib.Omega.{arith}
 use lib.IntN.{ℤ}
 use lib.Signed.{_≤ℤ_, ≤ℤ-refl}
 use Rattle.difference.specs.Rows.{apart, lower, higher}
+use Rattle.difference.proofs.Laws.Codes.{apart-sym}
+use Rattle.difference.proofs.Laws.Places.{place, apart-place, lower-place, higher-place, le-place, place-le, everywhere}
 use Rattle.fitting.specs.Sets.{Span, only, join, nearest}
 use Rattle.fitting.proofs.Laws.Ends.{either-side, join-apart, in-join, nearest-apart}
-use Rattle.fitting.proofs.Laws.Order.{apart-comm}
-use Rattle.fitting.proofs.Laws.Shift.{place, apart-place, lower-place, higher-place, le-place, place-le, everywhere}
 
 -- a set has at least one member
 pub record Nonempty (a : Span) : Type 0 where
@@ -93,15 +93,6 @@ offset-triangle y s a = everywhere
     simp (apart-place, offset-places K (n 0) (n 2) (n 3) q, offset-places K (n 1) (n 2) (n 3) q) (omega arith))
     (y ∷ s ∷ a .low ∷ a .high ∷ [])
 
--- a member of a set is at no distance from it
-pub offset-member : (s : ℤ) (a : Span) → In s a → offset s a ≡ 0
-offset-member s a = everywhere (λ z. In (z 0) (span (z 1) (z 2)) → offset (z 0) (span (z 1) (z 2)) ≡ 0)
-    (λ K n p.
-    let q = place-le K (n 1) (n 0) (p .fromLow) in
-    let r = place-le K (n 0) (n 2) (p .toHigh) in
-    rw (offset-places K (n 0) (n 1) (n 2) (omega arith)) (omega arith))
-    (s ∷ a .low ∷ a .high ∷ [])
-
 -- from a taxon's set a state is as far as from its code
 pub offset-only : (y s : ℤ) → offset y (only s) ≡ apart y s
 unfolding only
@@ -181,4 +172,4 @@ offset-nearest a b = everywhere
 pub gap-only : (s : ℤ) (a : Span) → Nonempty a → gap a (only s) ≡ offset s a
 unfolding only
 gap-only s a p = sym (offset-nearest a (only s) p (only-nonempty s)) ∙ offset-only (nearest s a) s
-    ∙ unfold offset in apart-comm (nearest s a) s
+    ∙ unfold offset in apart-sym (nearest s a) s

@@ -1,80 +1,30 @@
 -- The tree built from a branching: its tips are taxa and its forks HTUs, its links are those of the list of ancestors, its nodes are
 -- distinct, and all nodes below row 1 are in it.
 use mathlib.Core.Path.{_≡_, refl, sym, _∙_, ap, ap₂, subst}
-use mathlib.Core.Logic.{_⊎_, inl, inr, ⊎-elim}
-use mathlib.Core.List.{List, [], _∷_, map, List·Memᴰ, List·Memᴰ·head, List·Memᴰ·tail, List·Memᴰ·not-nil, List·Memᴰ·cases-cons}
-use mathlib.Core.Bool.{Bool, true, false, cond, _||_, true≢false}
+use mathlib.Core.List.{List, [], _∷_, map, List·Memᴰ, List·Memᴰ·head, List·Memᴰ·tail}
+use mathlib.Core.Bool.{Bool, true, false, _||_, true≢false}
 use Prim.Native.Nat.{ℕ, zero, suc, _+_, _*_, _-_, _≤_, _<_}
 use native.Mathlib.Omega.{arith}
 use lib.Dec.{eqb}
 use lib.IntN.{ℤ}
 use lib.ListN.{length}
-use borrow.Author.Tests.{eqb-true, eqb-false, eq-eqb}
+use borrow.Author.Tests.{eq-eqb}
 use Rattle.matrix.specs.Choice.{numbers}
+use Rattle.matrix.proofs.Choice.{numbers-within}
 use Rattle.difference.specs.Rows.{apart}
+use Rattle.difference.proofs.Laws.Codes.{apart-sym}
 use Rattle.branching.specs.Ancestors.{ancestor, descendants}
-use Rattle.fitting.specs.Trees.{Tree, tip, fork, above, treeAt, lowerNodes, treesBelow}
-use Rattle.fitting.specs.Assignments.{sum}
+use Rattle.branching.specs.Nodes.{otherNodes}
+use Rattle.branching.specs.Branches.{sumOver}
+use Rattle.branching.specs.Growing.{Grown}
+use Rattle.branching.proofs.Sums.{pick, sum-outside, sum-one}
+use Rattle.branching.proofs.Descendants.{mem-descendants}
+use Rattle.fitting.specs.Trees.{Tree, tip, fork, above, treeAt, treesBelow}
 use Rattle.fitting.proofs.Laws.Ends.{either}
-use Rattle.fitting.proofs.Laws.Order.{apart-comm}
 use Rattle.fitting.proofs.Laws.Basic.{cost}
 use Rattle.fitting.proofs.Laws.Nodes.{has, Distinct, top}
-use Rattle.fitting.proofs.Laws.Sums.{pick, sum-none, sum-one, sum-count}
-use Rattle.fitting.proofs.Laws.Walks.{Climbs, Branches, Within, some-depth, sumTree, sumTree-all, climbs-unique}
-
--- a descendant of v among some nodes is one of them, and v is its ancestor
-descendants-are : (ancestors nodes : List ℕ) (v u : ℕ) → List·Memᴰ u (descendants ancestors nodes v) →
-    (ancestor ancestors u ≡ v) × List·Memᴰ u nodes
-unfolding descendants
-descendants-are ancestors [] v u m = absurd (List·Memᴰ·not-nil m)
-descendants-are ancestors (w ∷ ws) v u m = go (eqb (ancestor ancestors w) v) refl (λ m′. descendants-are ancestors ws v u m′) m
-  where
-    Is : Type 0
-    Is = (ancestor ancestors u ≡ v) × List·Memᴰ u (w ∷ ws)
-
-    later : (ancestor ancestors u ≡ v) × List·Memᴰ u ws → Is
-    later r = (r .0, List·Memᴰ·tail (r .1))
-
-    go : (t : Bool) → eqb (ancestor ancestors w) v ≡ t →
-        (List·Memᴰ u (descendants ancestors ws v) → (ancestor ancestors u ≡ v) × List·Memᴰ u ws) →
-        List·Memᴰ u (cond t (w ∷ descendants ancestors ws v) (descendants ancestors ws v)) → Is
-    go true e rest m′ =
-        ⊎-elim {C = Is} (λ p. (ap (ancestor ancestors) p ∙ eqb-true (ancestor ancestors w) v e, List·Memᴰ·head p)) (λ l. later (rest l))
-        (List·Memᴰ·cases-cons m′)
-    go false e rest m′ = later (rest m′)
-
--- and one of them is a descendant of its ancestor
-pub descendants-has : (ancestors nodes : List ℕ) (u : ℕ) → List·Memᴰ u nodes →
-    List·Memᴰ u (descendants ancestors nodes (ancestor ancestors u))
-unfolding descendants
-descendants-has ancestors [] u m = absurd (List·Memᴰ·not-nil m)
-descendants-has ancestors (w ∷ ws) u m =
-    go (eqb (ancestor ancestors w) (ancestor ancestors u)) refl (List·Memᴰ·cases-cons m) (descendants-has ancestors ws u)
-  where
-    go : (t : Bool) → eqb (ancestor ancestors w) (ancestor ancestors u) ≡ t → (u ≡ w) ⊎ List·Memᴰ u ws →
-        (List·Memᴰ u ws → List·Memᴰ u (descendants ancestors ws (ancestor ancestors u))) →
-        List·Memᴰ u (cond t (w ∷ descendants ancestors ws (ancestor ancestors u)) (descendants ancestors ws (ancestor ancestors u)))
-    go true e (inl p) later = List·Memᴰ·head p
-    go true e (inr m′) later = List·Memᴰ·tail (later m′)
-    go false e (inl p) later = absurd (eqb-false (ancestor ancestors w) (ancestor ancestors u) e (ap (ancestor ancestors) (sym p)))
-    go false e (inr m′) later = later m′
-
--- numbers in a row
-pub numbers-has : (first count v : ℕ) → first ≤ v → v < first + count → List·Memᴰ v (numbers first count)
-unfolding numbers
-numbers-has first zero v p q = absurd (omega arith)
-numbers-has first (suc count) v p q = either v first
-    (λ l. List·Memᴰ·head (omega arith))
-    (λ l. List·Memᴰ·tail (numbers-has (suc first) count v (omega arith) (omega arith)))
-
--- and no others
-numbers-are : (first count v : ℕ) → List·Memᴰ v (numbers first count) → (first ≤ v) × (v < first + count)
-unfolding numbers
-numbers-are first zero v m = absurd (List·Memᴰ·not-nil m)
-numbers-are first (suc count) v m = ⊎-elim
-    (λ p. (omega arith, omega arith))
-    (λ m′. let r = numbers-are (suc first) count v m′ in (omega arith, omega arith))
-    (List·Memᴰ·cases-cons m)
+use Rattle.fitting.proofs.Laws.Walks.{sumTree, sumTree-all, climbs-unique}
+use Rattle.fitting.proofs.Laws.Branching.{Climbs, one-below, none-below, two-below, steps-up}
 
 -- how often node w stands in a tree
 unfoldable pub count : ℕ → Tree → ℕ
@@ -161,11 +111,11 @@ Made n ancestors (fork v a b) =
 pub cost-sumTree : (n : ℕ) (ancestors : List ℕ) (f : ℕ → ℤ) (y : ℤ) (t : Tree) → Made n ancestors t → f (ancestor ancestors (top t)) ≡ y →
     cost f y t ≡ sumTree (λ v. apart (f v) (f (ancestor ancestors v))) t
 unfolding cost sumTree top
-cost-sumTree n ancestors f y (tip v) m e = rw (e, apart-comm y (f v))
+cost-sumTree n ancestors f y (tip v) m e = rw (e, apart-sym y (f v))
 cost-sumTree n ancestors f y (fork v a b) m e =
     rw (
       e,
-      apart-comm y (f v),
+      apart-sym y (f v),
       cost-sumTree n ancestors f (f v) a (m .4) (ap f (m .2)),
       cost-sumTree n ancestors f (f v) b (m .5) (ap f (m .3)),
     )
@@ -201,7 +151,7 @@ two-in (a ∷ []) e = absurd (omega arith)
 two-in (a ∷ b ∷ []) e = (a, b, refl)
 two-in (a ∷ b ∷ c ∷ us) e = absurd (omega arith)
 
-module _ (n : ℕ) (ancestors : List ℕ) (branches : Branches n ancestors) where
+module _ (n : ℕ) (ancestors : List ℕ) (grown : Grown n n ancestors) where
   -- a descendant of u is a node below row 1 with ancestor u
   pub record Descends (u a : ℕ) : Type 0 where
     pub from : ancestor ancestors a ≡ u
@@ -209,23 +159,23 @@ module _ (n : ℕ) (ancestors : List ℕ) (branches : Branches n ancestors) wher
     pub last : a ≤ 2 * n - 2
 
   -- a member of its list of descendants is such a node
-  pub descends-of : (u a : ℕ) → List·Memᴰ a (descendants ancestors (lowerNodes n) u) → Descends u a
-  unfolding lowerNodes
+  pub descends-of : (u a : ℕ) → List·Memᴰ a (descendants ancestors (otherNodes n) u) → Descends u a
+  unfolding otherNodes
   descends-of u a m =
-      let r = descendants-are ancestors (numbers 2 (2 * n - 3)) u a m in
-      let s = numbers-are 2 (2 * n - 3) a (r .1) in
-      record { from = r .0; second = s .0; last = omega (arith, s .1, branches .several) }
+      let r = mem-descendants ancestors (numbers 2 (2 * n - 3)) u a .0 m in
+      let s = numbers-within 2 (2 * n - 3) a (r .0) in
+      record { from = r .1; second = s .0; last = omega (arith, s .1, grown .atLeastTwo) }
 
   -- the two descendants of an HTU
   pub record Two (u : ℕ) : Type 0 where
     pub left : ℕ
     pub right : ℕ
-    pub are : descendants ancestors (lowerNodes n) u ≡ left ∷ right ∷ []
+    pub are : descendants ancestors (otherNodes n) u ≡ left ∷ right ∷ []
     pub leftDescends : Descends u left
     pub rightDescends : Descends u right
 
   -- from the list of descendants
-  unfoldable pub two-given : (u a b : ℕ) → descendants ancestors (lowerNodes n) u ≡ a ∷ b ∷ [] → Two u
+  unfoldable pub two-given : (u a b : ℕ) → descendants ancestors (otherNodes n) u ≡ a ∷ b ∷ [] → Two u
   two-given u a b e = record {
     left = a;
     right = b;
@@ -236,17 +186,19 @@ module _ (n : ℕ) (ancestors : List ℕ) (branches : Branches n ancestors) wher
 
   -- every HTU has two
   pub two-of : (u : ℕ) → n < u → u ≤ 2 * n - 2 → Two u
-  two-of u l h = let two = two-in (descendants ancestors (lowerNodes n) u) (branches .ofHtu u l h) in two-given u (two .0) (two .1) (two .2)
+  two-of u l h =
+      let two = two-in (descendants ancestors (otherNodes n) u) (two-below n ancestors grown u l h) in
+      two-given u (two .0) (two .1) (two .2)
 
   -- the tree of a node to some depth
   abbrev pub treeTo : ℕ → ℕ → Tree
-  treeTo depth u = treeAt ancestors (lowerNodes n) depth u
+  treeTo depth u = treeAt ancestors (otherNodes n) depth u
 
   -- a taxon's tree is a tip, an HTU's the fork of its descendants' trees
   pub treeTo-taxon : (depth u : ℕ) → 2 ≤ u → u ≤ n → treeTo (suc depth) u ≡ tip u
   unfolding treeAt above
   treeTo-taxon depth u p l = ap (λ us. above u (map (treeTo depth) us))
-      (none-in (descendants ancestors (lowerNodes n) u) (branches .ofTaxon u p l))
+      (none-in (descendants ancestors (otherNodes n) u) (none-below n ancestors grown u p l))
 
   -- an HTU's
   pub treeTo-htu : (depth u : ℕ) (two : Two u) → treeTo (suc depth) u ≡ fork u (treeTo depth (two .left)) (treeTo depth (two .right))
@@ -255,16 +207,15 @@ module _ (n : ℕ) (ancestors : List ℕ) (branches : Branches n ancestors) wher
 
   -- the first node of a descendant's tree has the HTU as its ancestor
   top-descends : (depth u a : ℕ) → Descends u a → ancestor ancestors (top (treeTo depth a)) ≡ u
-  top-descends depth u a d = ap (ancestor ancestors) (top-treeAt ancestors (lowerNodes n) depth a) ∙ d .from
+  top-descends depth u a d = ap (ancestor ancestors) (top-treeAt ancestors (otherNodes n) depth a) ∙ d .from
 
   -- the tree of a node, if it goes as far down as there are nodes
-  made : (all : ℕ) → Within n ancestors branches all → (depth u steps : ℕ) → 2 ≤ u → u ≤ 2 * n - 2 → Climbs ancestors steps u →
-      all < steps + depth →
+  made : (depth u steps : ℕ) → 2 ≤ u → u ≤ 2 * n - 2 → Climbs ancestors steps u → 2 * n - 2 < steps + depth →
       Made n ancestors (treeTo depth u)
-  made all within zero u steps p h c e =
-      let k = within u p h in
-      absurd (omega (arith, climbs-unique n ancestors branches steps (k .0) u c (k .2), k .1))
-  made all within (suc depth) u steps p h c e = either u n
+  made zero u steps p h c e =
+      let k = steps-up n ancestors grown u p h in
+      absurd (omega (arith, climbs-unique n ancestors grown steps (k .0) u c (k .2), k .1))
+  made (suc depth) u steps p h c e = either u n
       (λ l. rw (treeTo-taxon depth u p l) (p, l))
       (λ l.
       let two = two-of u l h in
@@ -275,8 +226,8 @@ module _ (n : ℕ) (ancestors : List ℕ) (branches : Branches n ancestors) wher
         h,
         top-descends depth u (two .left) da,
         top-descends depth u (two .right) db,
-        made all within depth (two .left) (suc steps) (da .second) (da .last) (rw (da .from) c) (omega arith),
-        made all within depth (two .right) (suc steps) (db .second) (db .last) (rw (db .from) c) (omega arith),
+        made depth (two .left) (suc steps) (da .second) (da .last) (rw (da .from) c) (omega arith),
+        made depth (two .right) (suc steps) (db .second) (db .last) (rw (db .from) c) (omega arith),
       ))
 
   -- it is the whole tree of the node already if it goes down as many steps as the tree has nodes
@@ -305,8 +256,8 @@ pub record TreeOf (n : ℕ) (ancestors : List ℕ) : Type 0 where
   pub tree : Tree
   pub root : ℕ
   -- it is the tree of the one descendant of row 1, and alone hangs from row 1
-  pub ofRow1 : descendants ancestors (lowerNodes n) 1 ≡ root ∷ []
-  pub fromRoot : treeAt ancestors (lowerNodes n) (2 * n) root ≡ tree
+  pub ofRow1 : descendants ancestors (otherNodes n) 1 ≡ root ∷ []
+  pub fromRoot : treeAt ancestors (otherNodes n) (2 * n) root ≡ tree
   pub below : treesBelow ancestors n ≡ tree ∷ []
   pub fromRow1 : ancestor ancestors (top tree) ≡ 1
   pub isMade : Made n ancestors tree
@@ -314,59 +265,47 @@ pub record TreeOf (n : ℕ) (ancestors : List ℕ) : Type 0 where
   -- all nodes below row 1 are in it
   pub hasAll : (v : ℕ) → 2 ≤ v → v ≤ 2 * n - 2 → has tree v ≡ true
   -- a sum over its nodes is the sum over the nodes below row 1
-  pub sums : (q : ℕ → ℕ) → sumTree q tree ≡ sum q (lowerNodes n)
+  pub sums : (q : ℕ → ℕ) → sumTree q tree ≡ sumOver q (otherNodes n)
 
 -- over the nodes below row 1, no node is counted twice
-count-numbers : (first number w : ℕ) → sum (λ v. pick (eqb v w) 1) (numbers first number) ≤ 1
+count-numbers : (first number w : ℕ) → sumOver (λ v. pick (eqb v w) 1) (numbers first number) ≤ 1
 count-numbers first number w = either first w
     (λ p. either (first + number) w
-    (λ q. omega (arith, sum-none first number w (λ v. 1) (λ r s. omega arith)))
+    (λ q. omega (arith, sum-outside first number w (λ v. 1) (λ r s. omega arith)))
     (λ q. omega (arith, sum-one first number w (λ v. 1) p q)))
-    (λ p. omega (arith, sum-none first number w (λ v. 1) (λ r s. omega arith)))
+    (λ p. omega (arith, sum-outside first number w (λ v. 1) (λ r s. omega arith)))
 
 -- every branching of two taxa or more has such a tree
-pub tree-of : (n : ℕ) (ancestors : List ℕ) → Branches n ancestors → TreeOf n ancestors
-tree-of n ancestors branches = record {
+pub tree-of : (n : ℕ) (ancestors : List ℕ) → Grown n n ancestors → TreeOf n ancestors
+tree-of n ancestors grown = record {
   tree = t;
   root = one .0;
   ofRow1 = one .1;
-  fromRoot = whole;
-  below = unfold treesBelow in ap (map (treeTo n ancestors branches (2 * n))) (one .1) ∙ ap (λ x. x ∷ []) whole;
-  fromRow1 = top-descends n ancestors branches deep 1 (one .0) first;
-  isMade = isMade′;
-  isDistinct = distinct-of t (λ w. unfold count lowerNodes in omega
+  fromRoot = refl;
+  below = unfold treesBelow in ap (map (treeTo n ancestors grown (2 * n))) (one .1);
+  fromRow1 = top-descends n ancestors grown (2 * n) 1 (one .0) first;
+  isMade = made n ancestors grown (2 * n) (one .0) 1 (first .second) (first .last) (first .from) (omega arith);
+  isDistinct = distinct-of t (λ w. unfold count otherNodes in omega
       (arith, sums′ (λ v. pick (eqb v w) 1), count-numbers 2 (2 * n - 3) w));
   hasAll = λ v p h. count-has t v
-      (unfold count lowerNodes in
-      omega (arith, sums′ (λ u. pick (eqb u v) 1), sum-one 2 (2 * n - 3) v (λ u. 1) p (omega (arith, branches .several))));
+      (unfold count otherNodes in
+      omega (arith, sums′ (λ u. pick (eqb u v) 1), sum-one 2 (2 * n - 3) v (λ u. 1) p (omega (arith, grown .atLeastTwo))));
   sums = sums′;
 }
   where
-    one : (a : ℕ) × (descendants ancestors (lowerNodes n) 1 ≡ a ∷ [])
-    one = one-in (descendants ancestors (lowerNodes n) 1) (branches .ofRow1)
-
-    deep : ℕ
-    deep = some-depth n ancestors branches .0
+    one : (a : ℕ) × (descendants ancestors (otherNodes n) 1 ≡ a ∷ [])
+    one = one-in (descendants ancestors (otherNodes n) 1) (one-below n ancestors grown)
 
     t : Tree
-    t = treeTo n ancestors branches deep (one .0)
+    t = treeTo n ancestors grown (2 * n) (one .0)
 
-    first : Descends n ancestors branches 1 (one .0)
-    first = descends-of n ancestors branches 1 (one .0) (subst (λ us. List·Memᴰ (one .0) us) (sym (one .1)) (List·Memᴰ·head refl))
+    first : Descends n ancestors grown 1 (one .0)
+    first = descends-of n ancestors grown 1 (one .0) (subst (λ us. List·Memᴰ (one .0) us) (sym (one .1)) (List·Memᴰ·head refl))
 
-    isMade′ : Made n ancestors t
-    isMade′ = made n ancestors branches deep (some-depth n ancestors branches .1) deep (one .0) 1 (first .second) (first .last)
-        (first .from) (omega arith)
-
-    sums′ : (q : ℕ → ℕ) → sumTree q t ≡ sum q (lowerNodes n)
+    sums′ : (q : ℕ → ℕ) → sumTree q t ≡ sumOver q (otherNodes n)
     sums′ q = alone
-        ∙ ap (λ us. sum (λ a. sumTree q (treeTo n ancestors branches deep a)) us) (sym (one .1))
-        ∙ sumTree-all n ancestors branches deep (some-depth n ancestors branches .1) q
+        ∙ ap (λ us. sumOver (λ a. sumTree q (treeTo n ancestors grown (2 * n) a)) us) (sym (one .1))
+        ∙ sumTree-all n ancestors grown (2 * n) (omega arith) q
       where
-        alone : sumTree q t ≡ sum (λ a. sumTree q (treeTo n ancestors branches deep a)) (one .0 ∷ [])
-        alone = unfold sum in omega arith
-
-    -- 2n steps down are enough, because the tree has 2n-3 nodes
-    whole : treeTo n ancestors branches (2 * n) (one .0) ≡ t
-    whole = treeTo-whole n ancestors branches deep (2 * n) (one .0) (first .second) (first .last) isMade′
-        (unfold size lowerNodes in omega (arith, sums′ (λ v. 1), sum-count 2 (2 * n - 3)))
+        alone : sumTree q t ≡ sumOver (λ a. sumTree q (treeTo n ancestors grown (2 * n) a)) (one .0 ∷ [])
+        alone = unfold sumOver in omega arith

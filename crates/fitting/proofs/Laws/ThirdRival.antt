@@ -1,29 +1,38 @@
 -- Demand 3 about the third rival, for every matrix and every branching of its taxa.
-use mathlib.Core.Path.{refl}
+use mathlib.Core.Path.{refl, subst}
+use mathlib.Core.Logic.{by-cases}
 use mathlib.Core.List.{List, flatMap}
-use Prim.Native.Nat.{ℕ}
+use Prim.Native.Nat.{ℕ, _≤_}
 use native.Mathlib.Omega.{arith}
+use native.Mathlib.Decide.{decLe}
 use lib.IntN.{ℤ}
 use Rattle.matrix.specs.Choice.{numbers}
 use Rattle.branching.specs.Ancestors.{descendants}
-use Rattle.fitting.specs.Trees.{lowerNodes, treesBelow}
+use Rattle.branching.specs.Nodes.{otherNodes}
+use Rattle.branching.specs.Growing.{Branching}
+use Rattle.branching.specs.Branches.{sumOver}
+use Rattle.branching.proofs.Whole.{branching-grown}
+use Rattle.fitting.specs.Trees.{treesBelow}
 use Rattle.fitting.specs.Character.{valueAt}
-use Rattle.fitting.specs.Assignments.{sum, total}
+use Rattle.fitting.specs.Assignments.{total}
 use Rattle.fitting.specs.Fit.{chosenState, fittedTotal}
 use Rattle.fitting.specs.Rival.{FitIsLeast}
-use Rattle.fitting.proofs.Laws.Walks.{Branches}
 use Rattle.fitting.proofs.Laws.Shape.{tree-of}
 use Rattle.fitting.proofs.Laws.Matrix.{fit-is-least}
 
--- two taxa or more
-pub third-rival : (n m : ℕ) (ancestors : List ℕ) (rows : List (List ℤ)) → Branches n ancestors → FitIsLeast ancestors rows n m
-third-rival n m ancestors rows branches = fit-is-least n m ancestors rows (branches .several) (tree-of n ancestors branches)
-
 -- row 1 alone: no branch, no HTU, and a total of 0
-pub third-rival-alone : (m : ℕ) (ancestors : List ℕ) (rows : List (List ℤ)) → FitIsLeast ancestors rows 1 m
-third-rival-alone m ancestors rows = record {
-  assigns = record { keeps = λ v j p q r s. unfold chosenState treesBelow lowerNodes numbers descendants flatMap valueAt in refl };
+alone : (m : ℕ) (ancestors : List ℕ) (rows : List (List ℤ)) → FitIsLeast ancestors rows 1 m
+alone m ancestors rows = record {
+  assigns = record { keeps = λ v j p q r s. unfold chosenState treesBelow otherNodes numbers descendants flatMap valueAt in refl };
   totals = unfold fittedTotal in refl;
-  least = λ states h. unfold fittedTotal total lowerNodes numbers sum in omega arith;
+  least = λ states h. unfold fittedTotal total otherNodes numbers sumOver in omega arith;
   ranges = λ v j s p q r l. absurd (omega arith);
 }
+
+-- the chosen states have least length and the ranges are those of all assignments of least length, for every branching of n taxa
+pub third-rival : (n m : ℕ) (ancestors : List ℕ) (rows : List (List ℤ)) → 1 ≤ n → Branching n ancestors → FitIsLeast ancestors rows n m
+third-rival n m ancestors rows taxa branching =
+    by-cases
+    (decLe 2 n)
+    (λ two. fit-is-least n m ancestors rows two (tree-of n ancestors (branching-grown n ancestors two branching)))
+    (λ one. subst (λ k. FitIsLeast ancestors rows k m) (omega arith) (alone m ancestors rows))

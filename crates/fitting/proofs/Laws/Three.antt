@@ -9,8 +9,7 @@ use Rattle.difference.specs.Rows.{apart}
 use Rattle.fitting.specs.Sets.{Span, join, nearest, inOrder, ends, middle}
 use Rattle.fitting.proofs.Laws.Order.{spread, rising-inOrder, spread-inOrder, length-inOrder, third-to-fourth, third-to-fourth-of}
 use Rattle.fitting.proofs.Laws.Sets.{Nonempty, In, offset, gap, join-nonempty, nearest-in, offset-join, offset-in-join}
-use Rattle.fitting.proofs.Laws.Sets.{offset-nearest}
-use Rattle.fitting.proofs.Laws.Sets.{offset-ends}
+use Rattle.fitting.proofs.Laws.Sets.{offset-nearest, offset-ends}
 
 -- the least sum of a state's distances from three sets
 unfoldable pub leastSum : Span → Span → Span → ℕ

@@ -10,7 +10,8 @@ use lib.Dec.{eqb}
 use lib.IntN.{ℤ, pos}
 use lib.ListN.{length, getD}
 use lib.Signed.{leZ}
-use Rattle.difference.specs.Rows.{lower, higher}
+use Rattle.difference.specs.Rows.{lower}
+use Rattle.difference.proofs.Laws.Order.{lower-keeps, higher-keeps}
 use Rattle.fitting.specs.Sets.{Span, only, join, nearest, insert, inOrder, ends, middle}
 use Rattle.fitting.specs.Trees.{Tree, tip, fork, treesBelow}
 use Rattle.fitting.specs.Character.{Table, valueAt, up, chosen, ranges}
@@ -40,21 +41,6 @@ flatMap-each Q table (t ∷ ts) h entry m =
     ⊎-elim (h t entry) (flatMap-each Q table ts h entry) (List·Memᴰ·append-cases (table t) m)
 
 module _ (P : ℤ → Type 0) where
-  -- of two codes, the lower and the higher
-  cond-each : (t : Bool) (a b : ℤ) → P a → P b → P (cond t a b)
-  cond-each true a b p q = p
-  cond-each false a b p q = q
-
-  -- the lower
-  lower-each : (a b : ℤ) → P a → P b → P (lower a b)
-  unfolding lower
-  lower-each a b p q = cond-each (leZ a b) a b p q
-
-  -- the higher
-  higher-each : (a b : ℤ) → P a → P b → P (higher a b)
-  unfolding higher
-  higher-each a b p q = cond-each (leZ a b) b a q p
-
   -- of both ends of a set
   pub record Each (a : Span) : Type 0 where
     pub atLow : P (a .low)
@@ -64,14 +50,14 @@ module _ (P : ℤ → Type 0) where
   pub join-each : (a b : Span) → Each a → Each b → Each (join a b)
   unfolding join
   join-each a b p q =
-      let start = higher-each (a .low) (b .low) (p .atLow) (q .atLow) in
-      let end = lower-each (a .high) (b .high) (p .atHigh) (q .atHigh) in
-      record { atLow = lower-each _ _ start end; atHigh = higher-each _ _ start end }
+      let start = higher-keeps P (a .low) (b .low) (p .atLow) (q .atLow) in
+      let end = lower-keeps P (a .high) (b .high) (p .atHigh) (q .atHigh) in
+      record { atLow = lower-keeps P _ _ start end; atHigh = higher-keeps P _ _ start end }
 
   -- of the nearest member
   pub nearest-each : (s : ℤ) (a : Span) → P s → Each a → P (nearest s a)
   unfolding nearest
-  nearest-each s a p q = higher-each (a .low) (lower s (a .high)) (q .atLow) (lower-each s (a .high) p (q .atHigh))
+  nearest-each s a p q = higher-keeps P (a .low) (lower s (a .high)) (q .atLow) (lower-keeps P s (a .high) p (q .atHigh))
 
   -- of every state of a list
   abbrev All : List ℤ → Type 0

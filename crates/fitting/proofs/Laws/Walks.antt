@@ -1,33 +1,25 @@
 -- A branching of two taxa or more and the tree built from it: every node below row 1 stands in the tree exactly once.
 use mathlib.Core.Path.{_≡_, refl, sym, _∙_, ap, subst}
+use mathlib.Core.Logic.{_⊎_, inl, inr, ⊎-elim}
 use mathlib.Core.List.{List, [], _∷_, map}
 use mathlib.Core.Bool.{Bool, true, false}
 use Prim.Native.Nat.{ℕ, zero, suc, _+_, _*_, _-_, _≤_, _<_}
 use native.Mathlib.Omega.{arith}
 use lib.Dec.{eqb}
 use lib.ListN.{length}
-use borrow.Author.Tests.{eqb-true, eqb-false, eq-eqb, ne-eqb}
+use borrow.Author.Tests.{eq-eqb, ne-eqb}
 use Rattle.matrix.specs.Choice.{numbers}
+use Rattle.matrix.proofs.Choice.{numbers-within}
+use Rattle.matrix.proofs.Both.{eqb-sym}
 use Rattle.branching.specs.Ancestors.{ancestor, descendants}
-use Rattle.fitting.specs.Trees.{Tree, tip, fork, above, treeAt, lowerNodes}
-use Rattle.fitting.specs.Assignments.{sum}
+use Rattle.branching.specs.Nodes.{otherNodes}
+use Rattle.branching.specs.Branches.{sumOver}
+use Rattle.branching.specs.Growing.{Grown}
+use Rattle.branching.proofs.Sums.{pick, sum-same, sum-plus, sum-swap, sum-outside, sum-one}
+use Rattle.branching.proofs.Descendants.{sum-descendants}
+use Rattle.fitting.specs.Trees.{Tree, tip, fork, above, treeAt}
 use Rattle.fitting.proofs.Laws.Ends.{either}
-use Rattle.fitting.proofs.Laws.Sums.{pick, sum-same, sum-plus, sum-swap, sum-equal, sum-descendants, sum-none, sum-one}
-
--- going up k steps from node v reaches node 1
-abbrev pub Climbs : List ℕ → ℕ → ℕ → Type 0
-Climbs ancestors zero v = v ≡ 1
-Climbs ancestors (suc k) v = Climbs ancestors k (ancestor ancestors v)
-
--- what fitting needs of a branching of two taxa or more, in document 01's words: only nodes 2 to 2n-2 have an immediate ancestor; node 1 is
--- the ancestor of exactly one node, each HTU of exactly two, each other taxon of none; going up from any node reaches node 1
-pub record Branches (n : ℕ) (ancestors : List ℕ) : Type 0 where
-  pub several : 2 ≤ n
-  pub onlyNodes : (v : ℕ) → 1 ≤ ancestor ancestors v → (2 ≤ v) × (v ≤ 2 * n - 2)
-  pub ofRow1 : length (descendants ancestors (lowerNodes n) 1) ≡ 1
-  pub ofTaxon : (v : ℕ) → 2 ≤ v → v ≤ n → length (descendants ancestors (lowerNodes n) v) ≡ 0
-  pub ofHtu : (v : ℕ) → n < v → v ≤ 2 * n - 2 → length (descendants ancestors (lowerNodes n) v) ≡ 2
-  pub climbs : (v : ℕ) → 2 ≤ v → v ≤ 2 * n - 2 → (k : ℕ) × Climbs ancestors k v
+use Rattle.fitting.proofs.Laws.Branching.{Climbs, no-ancestor, none-below, two-below, steps-up}
 
 -- the sum of a quantity over the nodes of a tree
 unfoldable pub sumTree : (ℕ → ℕ) → Tree → ℕ
@@ -46,70 +38,45 @@ pick-swap true false x = refl
 pick-swap false true x = refl
 pick-swap false false x = refl
 
--- a test of equality, either way round
-eqb-comm : (a b : ℕ) → eqb a b ≡ eqb b a
-eqb-comm a b = go (eqb a b) refl
-  where
-    go : (t : Bool) → eqb a b ≡ t → t ≡ eqb b a
-    go true e = sym (eq-eqb b a (sym (eqb-true a b e)))
-    go false e = sym (ne-eqb b a (λ p. eqb-false a b e (sym p)))
-
--- numbers found for each of a row of numbers have a common bound
-bound-all : (P : ℕ → ℕ → Type 0) (first count : ℕ) → ((v : ℕ) → first ≤ v → v < first + count → (k : ℕ) × P v k) →
-    (bound : ℕ) × ((v : ℕ) → first ≤ v → v < first + count → (k : ℕ) × (k ≤ bound) × P v k)
-bound-all P first zero found = (0, λ v p q. absurd (omega arith))
-bound-all P first (suc count) found =
-    let own = found first (omega arith) (omega arith) in
-    let rest = bound-all P (suc first) count (λ v p q. found v (omega arith) (omega arith)) in (
-      own .0 + rest .0,
-      λ v p q. either (suc first) v
-          (λ l. let r = rest .1 v l (omega arith) in (r .0, omega (arith, r .1), r .2))
-          (λ l. (own .0, omega arith, subst (λ u. P u (own .0)) (omega arith) (own .1))),
-    )
-
 -- the last of the nodes below row 1
 below-last : (n v : ℕ) → 2 ≤ n → v ≤ 2 * n - 2 → v < 2 + (2 * n - 3)
 below-last n v p q = omega arith
 
-module _ (n : ℕ) (ancestors : List ℕ) (branches : Branches n ancestors) where
-  -- what is no node below row 1 has no ancestor
-  no-ancestor : (v : ℕ) → (2 ≤ v → v < 2 + (2 * n - 3) → ⊥) → ancestor ancestors v ≡ 0
-  no-ancestor v outside = either 1 (ancestor ancestors v)
-      (λ h. absurd (outside (branches .onlyNodes v h .0) (below-last n v (branches .several) (branches .onlyNodes v h .1))))
-      (λ h. omega arith)
-
+module _ (n : ℕ) (ancestors : List ℕ) (grown : Grown n n ancestors) where
   -- a node's ancestor is u, or the node is one of u's descendants: counted over all nodes below row 1
-  descends : (u v x : ℕ) → 1 ≤ u → sum (λ a. pick (eqb v a) x) (descendants ancestors (lowerNodes n) u)
+  descends : (u v x : ℕ) → 1 ≤ u → sumOver (λ a. pick (eqb v a) x) (descendants ancestors (otherNodes n) u)
       ≡ pick (eqb (ancestor ancestors v) u) x
-  unfolding lowerNodes
+  unfolding otherNodes
   descends u v x h = sum-descendants (λ a. pick (eqb v a) x) ancestors (numbers 2 (2 * n - 3)) u
       ∙ sum-same (λ a. pick (eqb (ancestor ancestors a) u) (pick (eqb v a) x))
       (λ a. pick (eqb a v) (pick (eqb (ancestor ancestors a) u) x)) (numbers 2 (2 * n - 3))
-      (λ a. pick-swap (eqb (ancestor ancestors a) u) (eqb v a) x ∙ ap (λ t. pick t (pick (eqb (ancestor ancestors a) u) x)) (eqb-comm v a))
+      (λ a m. pick-swap (eqb (ancestor ancestors a) u) (eqb v a) x ∙ ap (λ t. pick t (pick (eqb (ancestor ancestors a) u) x)) (eqb-sym v a))
       ∙ either 2 v
       (λ p. either v (2 * n - 2)
-      (λ q. sum-one 2 (2 * n - 3) v (λ a. pick (eqb (ancestor ancestors a) u) x) p (below-last n v (branches .several) q))
-      (λ q. nothing (λ r s. omega arith)))
-      (λ p. nothing (λ r s. omega arith))
+      (λ q. sum-one 2 (2 * n - 3) v (λ a. pick (eqb (ancestor ancestors a) u) x) p (below-last n v (grown .atLeastTwo) q))
+      (λ q. nothing (inr q)))
+      (λ p. nothing (inl p))
     where
-      nothing : (2 ≤ v → v < 2 + (2 * n - 3) → ⊥) →
-          sum (λ a. pick (eqb a v) (pick (eqb (ancestor ancestors a) u) x)) (numbers 2 (2 * n - 3)) ≡ pick (eqb (ancestor ancestors v) u) x
-      nothing outside = sum-none 2 (2 * n - 3) v (λ a. pick (eqb (ancestor ancestors a) u) x) outside
-          ∙ sym (ap (λ t. pick t x) (ne-eqb (ancestor ancestors v) u (λ e. omega (arith, no-ancestor v outside))))
+      nothing : (v < 2) ⊎ (2 * n - 2 < v) →
+          sumOver (λ a. pick (eqb a v) (pick (eqb (ancestor ancestors a) u) x)) (numbers 2 (2 * n - 3))
+          ≡ pick (eqb (ancestor ancestors v) u) x
+      nothing outside = sum-outside 2 (2 * n - 3) v (λ a. pick (eqb (ancestor ancestors a) u) x)
+          (λ r s. ⊎-elim (λ l. omega arith) (λ l. omega (arith, grown .atLeastTwo)) outside)
+          ∙ sym (ap (λ t. pick t x) (ne-eqb (ancestor ancestors v) u (λ e. omega (arith, no-ancestor n ancestors grown v outside))))
 
   -- going up from a node comes to u as often as going on from its ancestor comes to a descendant of u
   along-descends : (steps u v x : ℕ) → 1 ≤ u →
-      sum (λ a. along ancestors steps v a x) (descendants ancestors (lowerNodes n) u) ≡ along ancestors steps (ancestor ancestors v) u x
+      sumOver (λ a. along ancestors steps v a x) (descendants ancestors (otherNodes n) u) ≡ along ancestors steps (ancestor ancestors v) u x
   unfolding along
   along-descends zero u v x h = descends u v x h
   along-descends (suc steps) u v x h =
-      sum-plus (λ a. pick (eqb v a) x) (λ a. along ancestors steps (ancestor ancestors v) a x) (descendants ancestors (lowerNodes n) u)
+      sum-plus (λ a. pick (eqb v a) x) (λ a. along ancestors steps (ancestor ancestors v) a x) (descendants ancestors (otherNodes n) u)
       ∙ omega (arith, descends u v x h, along-descends steps u (ancestor ancestors v) x h)
 
   -- the sum over a node and its descendants' trees
   sumTree-above : (q : ℕ → ℕ) (v : ℕ) (tree : ℕ → Tree) (us : List ℕ) → (length us ≡ 1 → ⊥) → length us ≤ 2 →
-      sumTree q (above v (map tree us)) ≡ q v + sum (λ u. sumTree q (tree u)) us
-  unfolding above sumTree sum
+      sumTree q (above v (map tree us)) ≡ q v + sumOver (λ u. sumTree q (tree u)) us
+  unfolding above sumTree sumOver
   sumTree-above q v tree [] h l = omega arith
   sumTree-above q v tree (a ∷ []) h l = absurd (h refl)
   sumTree-above q v tree (a ∷ b ∷ []) h l = omega arith
@@ -117,65 +84,67 @@ module _ (n : ℕ) (ancestors : List ℕ) (branches : Branches n ancestors) wher
 
   -- a node below row 1 has no descendant or two
   descendant-number : (v : ℕ) → 2 ≤ v → v ≤ 2 * n - 2 →
-      (length (descendants ancestors (lowerNodes n) v) ≡ 1 → ⊥) × (length (descendants ancestors (lowerNodes n) v) ≤ 2)
+      (length (descendants ancestors (otherNodes n) v) ≡ 1 → ⊥) × (length (descendants ancestors (otherNodes n) v) ≤ 2)
   descendant-number v p q = either v n
-      (λ h. let e = branches .ofTaxon v p h in (λ k. omega arith, omega arith))
-      (λ h. let e = branches .ofHtu v h q in (λ k. omega arith, omega arith))
+      (λ h. let e = none-below n ancestors grown v p h in (λ k. omega arith, omega arith))
+      (λ h. let e = two-below n ancestors grown v h q in (λ k. omega arith, omega arith))
 
   -- quantities that are equal on all nodes below row 1 have equal sums over descendants
   over-descendants : (f g : ℕ → ℕ) (u : ℕ) → ((a : ℕ) → 2 ≤ a → a ≤ 2 * n - 2 → f a ≡ g a) →
-      sum f (descendants ancestors (lowerNodes n) u) ≡ sum g (descendants ancestors (lowerNodes n) u)
-  unfolding lowerNodes
+      sumOver f (descendants ancestors (otherNodes n) u) ≡ sumOver g (descendants ancestors (otherNodes n) u)
+  unfolding otherNodes
   over-descendants f g u e = sum-descendants f ancestors (numbers 2 (2 * n - 3)) u
-      ∙ sum-equal (λ a. pick (eqb (ancestor ancestors a) u) (f a)) (λ a. pick (eqb (ancestor ancestors a) u) (g a)) 2 (2 * n - 3)
-      (λ a p q. ap (λ x. pick (eqb (ancestor ancestors a) u) x) (e a p (omega arith)))
+      ∙ sum-same (λ a. pick (eqb (ancestor ancestors a) u) (f a)) (λ a. pick (eqb (ancestor ancestors a) u) (g a)) (numbers 2 (2 * n - 3))
+      (λ a m.
+      let w = numbers-within 2 (2 * n - 3) a m in
+      ap (λ x. pick (eqb (ancestor ancestors a) u) x) (e a (w .0) (omega arith)))
       ∙ sym (sum-descendants g ancestors (numbers 2 (2 * n - 3)) u)
 
   -- the sum over the tree of node u, if it is the sum over all nodes from which going up comes to u
   Gathers : (ℕ → ℕ) → ℕ → ℕ → Type 0
-  Gathers q depth u = sumTree q (treeAt ancestors (lowerNodes n) depth u) ≡ sum (λ v. along ancestors depth v u (q v)) (lowerNodes n)
+  Gathers q depth u = sumTree q (treeAt ancestors (otherNodes n) depth u) ≡ sumOver (λ v. along ancestors depth v u (q v)) (otherNodes n)
 
   -- then the sum over the trees of u's descendants is the sum over all nodes from whose ancestors it comes to u
   gathers-below : (q : ℕ → ℕ) (depth u : ℕ) → 1 ≤ u → ((a : ℕ) → 2 ≤ a → a ≤ 2 * n - 2 → Gathers q depth a) →
-      sum (λ a. sumTree q (treeAt ancestors (lowerNodes n) depth a)) (descendants ancestors (lowerNodes n) u)
-      ≡ sum (λ v. along ancestors depth (ancestor ancestors v) u (q v)) (lowerNodes n)
+      sumOver (λ a. sumTree q (treeAt ancestors (otherNodes n) depth a)) (descendants ancestors (otherNodes n) u)
+      ≡ sumOver (λ v. along ancestors depth (ancestor ancestors v) u (q v)) (otherNodes n)
   unfolding Gathers
   gathers-below q depth u h each =
-      over-descendants (λ a. sumTree q (treeAt ancestors (lowerNodes n) depth a))
-      (λ a. sum (λ v. along ancestors depth v a (q v)) (lowerNodes n)) u each
-      ∙ sum-swap (λ a v. along ancestors depth v a (q v)) (descendants ancestors (lowerNodes n) u) (lowerNodes n)
-      ∙ sum-same (λ v. sum (λ a. along ancestors depth v a (q v)) (descendants ancestors (lowerNodes n) u))
-      (λ v. along ancestors depth (ancestor ancestors v) u (q v)) (lowerNodes n) (λ v. along-descends depth u v (q v) h)
+      over-descendants (λ a. sumTree q (treeAt ancestors (otherNodes n) depth a))
+      (λ a. sumOver (λ v. along ancestors depth v a (q v)) (otherNodes n)) u each
+      ∙ sum-swap (λ a v. along ancestors depth v a (q v)) (descendants ancestors (otherNodes n) u) (otherNodes n)
+      ∙ sum-same (λ v. sumOver (λ a. along ancestors depth v a (q v)) (descendants ancestors (otherNodes n) u))
+      (λ v. along ancestors depth (ancestor ancestors v) u (q v)) (otherNodes n) (λ v m. along-descends depth u v (q v) h)
 
   -- over all nodes below row 1, those equal to one of them are that one
-  own-node : (q : ℕ → ℕ) (u : ℕ) → 2 ≤ u → u ≤ 2 * n - 2 → sum (λ v. pick (eqb v u) (q v)) (lowerNodes n) ≡ q u
-  unfolding lowerNodes
-  own-node q u p h = sum-one 2 (2 * n - 3) u q p (below-last n u (branches .several) h)
+  own-node : (q : ℕ → ℕ) (u : ℕ) → 2 ≤ u → u ≤ 2 * n - 2 → sumOver (λ v. pick (eqb v u) (q v)) (otherNodes n) ≡ q u
+  unfolding otherNodes
+  own-node q u p h = sum-one 2 (2 * n - 3) u q p (below-last n u (grown .atLeastTwo) h)
 
   -- and it always is
   gathers : (q : ℕ → ℕ) (depth u : ℕ) → 2 ≤ u → u ≤ 2 * n - 2 → Gathers q depth u
   unfolding Gathers treeAt sumTree along
   gathers q zero u p h = sym (own-node q u p h)
   gathers q (suc depth) u p h =
-      sumTree-above q u (λ v. treeAt ancestors (lowerNodes n) depth v) (descendants ancestors (lowerNodes n) u)
+      sumTree-above q u (λ v. treeAt ancestors (otherNodes n) depth v) (descendants ancestors (otherNodes n) u)
       (descendant-number u p h .0) (descendant-number u p h .1)
       ∙ omega (
         arith,
         own-node q u p h,
         gathers-below q depth u (omega arith) (λ a r s. gathers q depth a r s),
-        sum-plus (λ v. pick (eqb v u) (q v)) (λ v. along ancestors depth (ancestor ancestors v) u (q v)) (lowerNodes n),
+        sum-plus (λ v. pick (eqb v u) (q v)) (λ v. along ancestors depth (ancestor ancestors v) u (q v)) (otherNodes n),
       )
 
-  -- row 1 has no ancestor, nor has 0, and going up from 0 does not reach row 1
+  -- row 1 has no ancestor
   row1-top : ancestor ancestors 1 ≡ 0
-  row1-top = no-ancestor 1 (λ p q. omega arith)
+  row1-top = no-ancestor n ancestors grown 1 (inl (omega arith))
 
   -- 0 has no ancestor
   zero-top : ancestor ancestors 0 ≡ 0
-  zero-top = no-ancestor 0 (λ p q. omega arith)
+  zero-top = no-ancestor n ancestors grown 0 (inl (omega arith))
 
   -- going up from 0 does not reach row 1
-  pub never-climbs : (k : ℕ) → Climbs ancestors k 0 → ⊥
+  never-climbs : (k : ℕ) → Climbs ancestors k 0 → ⊥
   never-climbs zero e = omega arith
   never-climbs (suc k) c = never-climbs k (subst (λ v. Climbs ancestors k v) zero-top c)
 
@@ -205,27 +174,18 @@ module _ (n : ℕ) (ancestors : List ℕ) (branches : Branches n ancestors) wher
   climbs-unique (suc j) zero v c d = absurd (climbs-not-row1 j v c d)
   climbs-unique (suc j) (suc k) v c d = ap suc (climbs-unique j k (ancestor ancestors v) c d)
 
-  -- from every node below row 1, row 1 is reached within so many steps
-  abbrev pub Within : ℕ → Type 0
-  Within depth = (v : ℕ) → 2 ≤ v → v ≤ 2 * n - 2 → (k : ℕ) × (k ≤ depth) × Climbs ancestors k v
-
-  -- some number of steps is enough for all
-  pub some-depth : (depth : ℕ) × Within depth
-  some-depth =
-      let r = bound-all (λ v k. Climbs ancestors k v) 2 (2 * n - 3) (λ v p q. branches .climbs v p (omega arith)) in
-      (r .0, λ v p q. r .1 v p (below-last n v (branches .several) q))
-
   -- from the ancestor of a node below row 1, row 1 is reached exactly once
-  along-node : (depth : ℕ) → Within depth → (v x : ℕ) → 2 ≤ v → v ≤ 2 * n - 2 → along ancestors depth (ancestor ancestors v) 1 x ≡ x
-  along-node depth within v x p h = let c = within v p h in go (c .0) (c .1) (c .2)
+  along-node : (depth : ℕ) → 2 * n - 2 ≤ depth → (v x : ℕ) → 2 ≤ v → v ≤ 2 * n - 2 →
+      along ancestors depth (ancestor ancestors v) 1 x ≡ x
+  along-node depth deep v x p h = let c = steps-up n ancestors grown v p h in go (c .0) (c .1) (c .2)
     where
-      go : (k : ℕ) → k ≤ depth → Climbs ancestors k v → along ancestors depth (ancestor ancestors v) 1 x ≡ x
+      go : (k : ℕ) → k ≤ 2 * n - 2 → Climbs ancestors k v → along ancestors depth (ancestor ancestors v) 1 x ≡ x
       go zero l c = absurd (omega arith)
       go (suc k) l c = along-climbs k depth (ancestor ancestors v) x c (omega arith)
 
   -- the sum over the trees that hang from row 1 is the sum over all nodes below row 1
-  pub sumTree-all : (depth : ℕ) → Within depth → (q : ℕ → ℕ) →
-      sum (λ a. sumTree q (treeAt ancestors (lowerNodes n) depth a)) (descendants ancestors (lowerNodes n) 1) ≡ sum q (lowerNodes n)
-  sumTree-all depth within q = gathers-below q depth 1 (omega arith) (λ a p h. gathers q depth a p h)
-      ∙ unfold lowerNodes in sum-equal (λ v. along ancestors depth (ancestor ancestors v) 1 (q v)) q 2 (2 * n - 3)
-      (λ v p l. along-node depth within v (q v) p (omega arith))
+  pub sumTree-all : (depth : ℕ) → 2 * n - 2 ≤ depth → (q : ℕ → ℕ) →
+      sumOver (λ a. sumTree q (treeAt ancestors (otherNodes n) depth a)) (descendants ancestors (otherNodes n) 1) ≡ sumOver q (otherNodes n)
+  sumTree-all depth deep q = gathers-below q depth 1 (omega arith) (λ a p h. gathers q depth a p h)
+      ∙ unfold otherNodes in sum-same (λ v. along ancestors depth (ancestor ancestors v) 1 (q v)) q (numbers 2 (2 * n - 3))
+      (λ v m. let w = numbers-within 2 (2 * n - 3) v m in along-node depth deep v (q v) (w .0) (omega arith))
