@@ -1,5 +1,5 @@
 -- A tree is a list of immediate ancestors by node number: place v holds the ancestor of node v, and 0 where node v has none or is not
--- in the tree. Place 0 is not used.
+-- in the tree. Place 0 is that of no node, and holds 0.
 use mathlib.Core.List.{List, [], _∷_}
 use mathlib.Core.Bool.{cond}
 use Prim.Native.Nat.{ℕ}

@@ -17,6 +17,6 @@ linked tree b = set tree b 1
 unfoldable pub hung : List ℕ → ℕ → ℕ → ℕ → List ℕ
 hung tree b c y = set (set (set tree y (ancestor tree c)) c y) b y
 
--- the number of the next HTU of a growing tree of n taxa, k of them placed: n+k-1
+-- the number of the next HTU of a growing tree of n taxa, k of them placed, k at least 2: n+k-1
 unfoldable pub nextHtu : ℕ → List ℕ → ℕ
 nextHtu n tree = n + taxaPlaced n tree - 1

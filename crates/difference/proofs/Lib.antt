@@ -1,2 +1,3 @@
 -- What is proved about difference, median and interval difference.
 pub mod Laws
+pub mod Largest

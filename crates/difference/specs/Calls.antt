@@ -6,28 +6,29 @@ use lib.Dec.{eqb}
 use lib.IntN.{ℤ}
 use lib.ListN.{length}
 use Rattle.matrix.specs.Shape.{columns, row}
+use Rattle.matrix.specs.Refusals.{refusalNumber, Said, value, refused, answered, askedSays}
 use Rattle.matrix.specs.Questions.{ask, askNodes}
 use Rattle.matrix.specs.declared.refusal.Refusal.the-variants.{ListSize}
 use Rattle.matrix.specs.declared.refusal.Asked.{Asked}
-use Rattle.matrix.specs.declared.refusal.Asked.the-variants as Asked
 use Rattle.difference.specs.Rows.{difference, medians, intervalDifference, overwritten}
 use Rattle.difference.specs.declared.calls.Length.{Length}
 use Rattle.difference.specs.declared.calls.Length.the-variants.{Is, Refused}
+use Rattle.matrix.specs.declared.refusal.Asked.the-variants as Asked
 
--- a length, if the questions pass
-abbrev pub measured : Asked → ℕ → Length
-measured Asked.Passed length = Is length
-measured (Asked.Refused refusal) length = Refused refusal
+-- what a length handed back says
+abbrev pub lengthSays : Length → Said ℕ
+lengthSays (Is length) = value length
+lengthSays (Refused refusal) = refused (refusalNumber refusal) 0
 
 -- the difference of nodes a and b
-unfoldable pub differenceAnswer : List ℤ → ℕ → ℕ → ℕ → ℕ → Length
+unfoldable pub differenceAnswer : List ℤ → ℕ → ℕ → ℕ → ℕ → Said ℕ
 differenceAnswer codes n m a b =
-    measured (askNodes codes n m (a ∷ b ∷ [])) (difference (row codes m a) (row codes m b))
+    answered (askNodes codes n m (a ∷ b ∷ [])) (difference (row codes m a) (row codes m b))
 
 -- the interval difference of node b from the interval between nodes c and d
-unfoldable pub intervalAnswer : List ℤ → ℕ → ℕ → ℕ → ℕ → ℕ → Length
+unfoldable pub intervalAnswer : List ℤ → ℕ → ℕ → ℕ → ℕ → ℕ → Said ℕ
 intervalAnswer codes n m b c d =
-    measured (askNodes codes n m (b ∷ c ∷ d ∷ [])) (intervalDifference (row codes m b) (row codes m c) (row codes m d))
+    answered (askNodes codes n m (b ∷ c ∷ d ∷ [])) (intervalDifference (row codes m b) (row codes m c) (row codes m d))
 
 -- the questions of the call for medians: the lent row has 128 codes, then those on the matrix and the three nodes
 unfoldable pub askMedians : List ℤ → ℕ → ℕ → ℕ → ℕ → ℕ → List ℤ → Asked
@@ -40,5 +41,5 @@ kept (Asked.Refused refusal) written old = old
 
 -- the call for medians answers its questions; the lent row then has the medians over its first m codes, or is as before
 pub record MediansAnswer (codes : List ℤ) (n m a b c : ℕ) (old new : List ℤ) (r : Asked) : Type 0 where
-  pub answers : r ≡ askMedians codes n m a b c old
-  pub row : new ≡ kept r (overwritten (medians (row codes m a) (row codes m b) (row codes m c)) old) old
+  pub says : askedSays r ≡ askedSays (askMedians codes n m a b c old)
+  pub lent : new ≡ kept (askMedians codes n m a b c old) (overwritten (medians (row codes m a) (row codes m b) (row codes m c)) old) old

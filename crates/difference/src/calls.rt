@@ -6,7 +6,7 @@ use matrix::refusal::Asked;
 use matrix::refusal::Refusal;
 use matrix::rows::row;
 ghost use mathlib.Core.Path.{_≡_};
-ghost use Rattle.difference.specs.Calls.{differenceAnswer, intervalAnswer, MediansAnswer};
+ghost use Rattle.difference.specs.Calls.{lengthSays, differenceAnswer, intervalAnswer, MediansAnswer};
 
 // A length, or why there is none.
 pub enum Length {
@@ -16,7 +16,7 @@ pub enum Length {
 
 // The difference of nodes a and b.
 pub fn difference(matrix: &[i32], n: usize, m: usize, a: usize, b: usize) -> Length
-    ensures { λ r. ⌜ r ≡ differenceAnswer (now (matrix .entry)) n m a b ⌝ }
+    ensures { λ r. ⌜ lengthSays r ≡ differenceAnswer (now (matrix .entry)) n m a b ⌝ }
 {
     let named = [a, b];
     match ask_nodes(matrix, n, m, &named) {
@@ -34,7 +34,7 @@ pub fn interval_difference(
     c: usize,
     d: usize,
 ) -> Length
-    ensures { λ r. ⌜ r ≡ intervalAnswer (now (matrix .entry)) n m b c d ⌝ }
+    ensures { λ r. ⌜ lengthSays r ≡ intervalAnswer (now (matrix .entry)) n m b c d ⌝ }
 {
     let named = [b, c, d];
     match ask_nodes(matrix, n, m, &named) {

@@ -2,35 +2,37 @@
 use mathlib.Core.List.{List, [], _∷_, _++_, map, flatMap}
 use mathlib.Core.Bool.{Bool, true, false}
 use Prim.Native.Nat.{ℕ, _+_, _-_}
+use Prim.Native.String.{String}
 use lib.IntN.{ℤ}
 use Rattle.matrix.specs.Choice.{numbers}
 use Rattle.matrix_file.specs.Decimal.{digitsOf, decimal}
+use Rattle.matrix_file.specs.Text.{bytes}
 use Rattle.prim.specs.Network.{Link}
 use Rattle.branching.specs.Ancestors.{ancestor}
 use Rattle.branching.specs.Nodes.{otherNodes}
 use Rattle.wagner.specs.Placing.{Placement}
 use Rattle.fitting.specs.Fit.{chosenState, range, fittedLength, markedPlus}
-use Rattle.listing.specs.Lines.{line, letter, nodeName}
+use Rattle.listing.specs.Lines.{line, nodeName}
 
--- a line that gives a block's total
-unfoldable pub totalLine : ℕ → ℕ → List ℕ
-totalLine byte total = line (letter byte ∷ digitsOf total ∷ [])
+-- the line of a block's total, with the letter that begins it
+unfoldable pub totalLine : String → ℕ → List ℕ
+totalLine letter total = line (bytes letter ∷ digitsOf total ∷ [])
 
--- `+` if a branch is supported, else `-`
+-- `+` for a branch that is marked, else `-`
 unfoldable pub mark : Bool → List ℕ
-mark true = 43 ∷ []
-mark false = 45 ∷ []
+mark true = bytes "+"
+mark false = bytes "-"
 
 module _ (n : ℕ) (names : List (List ℕ)) where
   -- `P`: taxon, taxon it joins, difference
   unfoldable pub primLine : Link → List ℕ
-  primLine link = line (letter 80 ∷ nodeName n names (link .taxon) ∷ nodeName n names (link .joined) ∷ digitsOf (link .length) ∷ [])
+  primLine link = line (bytes "P" ∷ nodeName n names (link .taxon) ∷ nodeName n names (link .joined) ∷ digitsOf (link .length) ∷ [])
 
   -- `W`: taxon, lower end, upper end, HTU, length added
   unfoldable pub wagnerLine : Placement → List ℕ
   wagnerLine p =
       line
-      (letter 87
+      (bytes "W"
       ∷ nodeName n names (p .taxon)
       ∷ nodeName n names (p .lower)
       ∷ nodeName n names (p .upper)
@@ -44,7 +46,7 @@ module _ (n : ℕ) (names : List (List ℕ)) where
     fittedLine v =
         let length = fittedLength tree rows n m v in
         line
-        (letter 84
+        (bytes "T"
         ∷ nodeName n names v
         ∷ nodeName n names (ancestor tree v)
         ∷ digitsOf length
@@ -56,7 +58,7 @@ module _ (n : ℕ) (names : List (List ℕ)) where
     rangeLine v j =
         let span = range tree rows n v j in
         line
-        (letter 72
+        (bytes "H"
         ∷ nodeName n names v
         ∷ digitsOf j
         ∷ decimal (span .low)

@@ -1,4 +1,4 @@
--- A line of the listing, and what its fields say: a letter, a number, a node.
+-- A line of the listing, and the node that a field names.
 use mathlib.Core.List.{List, [], _∷_, _++_}
 use mathlib.Core.Bool.{Bool, true, false}
 use Prim.Native.Nat.{ℕ, zero, suc, _-_}
@@ -6,22 +6,19 @@ use lib.Dec.{leb}
 use lib.ListN.{getD}
 use Rattle.matrix_file.specs.Bytes.{tab, lineFeed, joinedBy}
 use Rattle.matrix_file.specs.Decimal.{digitsOf}
+use Rattle.matrix_file.specs.Text.{bytes}
 
 -- a line: its fields parted by tabs, ended by a line feed
 unfoldable pub line : List (List ℕ) → List ℕ
 line fields = joinedBy tab fields ++ (lineFeed ∷ [])
 
--- the letter that begins a line, by its byte
-abbrev pub letter : ℕ → List ℕ
-letter byte = byte ∷ []
-
 -- what stands where there is no node
-abbrev pub hyphen : List ℕ
-hyphen = 45 ∷ []
+unfoldable pub hyphen : List ℕ
+hyphen = bytes "-"
 
 -- an HTU: `#` and its number among the HTUs
 unfoldable pub htuName : ℕ → List ℕ
-htuName number = 35 ∷ digitsOf number
+htuName number = bytes "#" ++ digitsOf number
 
 -- a node as it is printed: a taxon by name, an HTU by its number, and a hyphen for no node
 unfoldable pub nodeName : ℕ → List (List ℕ) → ℕ → List ℕ

@@ -5,6 +5,7 @@ use lib.IntN.{ℤ}
 use Rattle.matrix.specs.Refusals.{refusalNumber}
 use Rattle.matrix.specs.declared.refusal.Refusal.{Refusal}
 use Rattle.matrix_file.specs.Decimal.{digitsOf}
+use Rattle.matrix_file.specs.Text.{bytes}
 use Rattle.matrix_file.specs.Job.{Job}
 use Rattle.matrix_file.specs.Reading.{ReadAnswer, accepted, refused, readAnswer}
 use Rattle.difference.specs.Rows.{difference}
@@ -12,25 +13,25 @@ use Rattle.prim.specs.Network.{Link, network, total}
 use Rattle.wagner.specs.Nodes.{nodeDifference}
 use Rattle.wagner.specs.Build.{Built, wagner, wagnerLength}
 use Rattle.fitting.specs.Fit.{fittedTotal}
-use Rattle.listing.specs.Lines.{line, letter}
+use Rattle.listing.specs.Lines.{line}
 use Rattle.listing.specs.Blocks.{totalLine, primLine, wagnerLine, fittedLines, rangeLines}
 
 -- the Prim Network: its `P` lines, and `p`
 unfoldable pub primBlock : Job → List (List ℕ)
 primBlock job =
     let links = network (nodeDifference difference (job .rows)) (job .n) in
-    map (primLine (job .n) (job .names)) links ++ (totalLine 112 (total links) ∷ [])
+    map (primLine (job .n) (job .names)) links ++ (totalLine "p" (total links) ∷ [])
 
 -- the Wagner tree: its `W` lines, and `w`
 unfoldable pub wagnerBlock : Job → Built → List (List ℕ)
 wagnerBlock job built =
-    map (wagnerLine (job .n) (job .names)) (built .placements) ++ (totalLine 119 (wagnerLength (job .n) built) ∷ [])
+    map (wagnerLine (job .n) (job .names)) (built .placements) ++ (totalLine "w" (wagnerLength (job .n) built) ∷ [])
 
 -- the fitted tree: its `T` lines, and `t`
 unfoldable pub fittedBlock : Job → List ℕ → List (List ℕ)
 fittedBlock job tree =
     fittedLines (job .n) (job .names) tree (job .rows) (job .m)
-    ++ (totalLine 116 (fittedTotal tree (job .rows) (job .n) (job .m)) ∷ [])
+    ++ (totalLine "t" (fittedTotal tree (job .rows) (job .n) (job .m)) ∷ [])
 
 -- the ranges: the `H` lines
 unfoldable pub rangeBlock : Job → List ℕ → List (List ℕ)
@@ -44,7 +45,7 @@ listing job =
 
 -- the one line of a refusal: `R`, its number, the line of the file
 unfoldable pub refusalLine : Refusal → ℕ → List ℕ
-refusalLine refusal at = line (letter 82 ∷ digitsOf (refusalNumber refusal) ∷ digitsOf at ∷ [])
+refusalLine refusal at = line (bytes "R" ∷ digitsOf (refusalNumber refusal) ∷ digitsOf at ∷ [])
 
 -- the lines printed for an answer
 unfoldable pub printed : ReadAnswer → List (List ℕ)

@@ -4,6 +4,7 @@ use mathlib.Core.List.{List, [], _∷_, _++_}
 use Prim.Native.Nat.{ℕ, _-_}
 use lib.IntN.{ℤ}
 use lib.ListN.{length, replicate}
+use Rattle.matrix.specs.Refusals.{askedSays}
 use Rattle.matrix.specs.Questions.{askMatrix}
 use Rattle.matrix.specs.declared.refusal.Asked.{Asked}
 use Rattle.matrix.specs.declared.refusal.Asked.the-variants.{Passed, Refused}
@@ -31,7 +32,7 @@ abbrev pub unlessRefused : Asked → List Link → List Link
 unlessRefused Passed links = links
 unlessRefused (Refused refusal) links = []
 
--- the answer for a lent matrix of n taxa and m characters: that of the questions, with the Prim Network
+-- the answer for a lent matrix of n taxa and m characters: what the questions say, and the Prim Network, or no link on a refusal
 pub record NetworkAnswer (codes : List ℤ) (n m : ℕ) (r : Answer) : Type 0 where
-  pub asked : r .asked ≡ askMatrix codes n m
+  pub says : askedSays (r .asked) ≡ askedSays (askMatrix codes n m)
   pub network : Holds (unlessRefused (askMatrix codes n m) (network (taxonDifference codes m) n)) (r .network)

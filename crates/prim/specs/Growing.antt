@@ -1,3 +1,4 @@
+-- For the proofs of the private functions alone; no public contract cites this file.
 -- What is kept of the taxa while the Prim Network grows, over any difference d of two taxa, and what the functions that grow it promise.
 -- `later` is the list of the taxa placed after row 1.
 use mathlib.Core.Path.{_≡_}

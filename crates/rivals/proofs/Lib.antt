@@ -2,3 +2,4 @@
 pub mod Rows
 pub mod Placements
 pub mod Demand
+pub mod Lent

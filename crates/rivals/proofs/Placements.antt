@@ -1,32 +1,38 @@
 -- Placements on trees handed in, and those of our own build.
-use mathlib.Core.Path.{_≡_, refl, sym, ap, _∙_}
-use mathlib.Core.Bool.{true}
+use mathlib.Core.Path.{_≡_, sym, _∙_}
+use mathlib.Core.Bool.{false, true≢false}
 use mathlib.Core.List.{List, _++_}
-use Prim.Native.Nat.{ℕ, zero, suc, _+_, _*_, _-_, _≤_, _<_}
+use Prim.Native.Nat.{ℕ, zero, suc, _+_, _-_, _≤_}
 use native.Mathlib.Omega.{arith}
 use lib.IntN.{ℤ}
 use lib.ListN.{length, length-append}
 use Rattle.difference.specs.Rows.{difference}
-use Rattle.branching.specs.Growing.{growingTree, GrowingTree, alone, several, Grown, Unplaced}
+use Rattle.branching.specs.Growing.{rowOneAlone, GrowingTree, alone, several, Grown, Unplaced}
 use Rattle.branching.specs.Hanging.{noBranches}
 use Rattle.branching.specs.Nodes.{taxaPlaced}
 use Rattle.branching.proofs.Nodes.{noBranches-none, noBranches-places}
-use Rattle.branching.proofs.Test.{growing-fact, growing-placed}
-use Rattle.wagner.specs.Placing.{Placed, place}
-use Rattle.wagner.specs.Build.{byAdvancement}
+use Rattle.branching.proofs.Test.{alone-iff, growing-fact, growing-placed}
+use Rattle.wagner.specs.Placing.{link, place}
+use Rattle.wagner.proofs.Placing.{place-first}
+use Rattle.wagner.specs.Build.{byAdvancement, buildOn, build, wagner}
 use Rattle.wagner.specs.Rival.{PlacementIsLeast}
 use Rattle.wagner.proofs.Build.{Chooses, advancement-chooses}
 use Rattle.wagner.proofs.BuildLength.{place-growth}
 use Rattle.wagner.proofs.Difference.{difference-laws, placement-least}
-use Rattle.wagner.proofs.Lengths.{Growth, OfLength}
-use Rattle.rivals.specs.Accepted.{Accepted, HandedIn}
-use Rattle.rivals.specs.Demand.{EachIsLeast, done, more}
-use Rattle.rivals.proofs.Rows.{rows-sized, rows-append}
+use Rattle.wagner.proofs.Lengths.{Growth}
+use Rattle.rivals.specs.Accepted.{HandedIn}
+use Rattle.rivals.specs.Demand.{EachIsLeast, done, more, BuildIsLeast, oneTaxon, severalTaxa}
+use Rattle.rivals.proofs.Rows.{MatrixRows, rows-sized, rows-append}
 
 -- a growing tree of at least two taxa is a tree of several
 several-of : {n k : ℕ} {tree : List ℕ} → 2 ≤ k → GrowingTree n tree k → Grown n k tree
 several-of two (alone none) = absurd (omega arith)
 several-of two (several g) = g
+
+-- and one that is not row 1 alone has at least two
+has-several : {n k : ℕ} {tree : List ℕ} → rowOneAlone tree ≡ false → GrowingTree n tree k → 2 ≤ k
+has-several {tree} more-than-row-1 (alone none) = absurd (true≢false (sym (alone-iff tree .1 none) ∙ more-than-row-1))
+has-several more-than-row-1 (several g) = g .atLeastTwo
 
 module _ (n m : ℕ) (taxa : 1 ≤ n) (most : n ≤ 64) where
   -- a growing tree of at least two taxa, with a row for each node: a placement on it is least
@@ -37,7 +43,7 @@ module _ (n m : ℕ) (taxa : 1 ≤ n) (most : n ≤ 64) where
       placement-least n m k tree rows (several-of two (g .growing)) (g .room) full (g .each) b u
 
   -- a tree handed in for accepted rows, as a growing tree with its rows
-  handed-growth : (rows : List (List ℤ)) → Accepted n m rows → (tree : List ℕ) (htus : List (List ℤ)) → HandedIn n m tree htus
+  handed-growth : (rows : List (List ℤ)) → MatrixRows n m rows → (tree : List ℕ) (htus : List (List ℤ)) → HandedIn n m tree htus
       → Growth n m (taxaPlaced n tree) tree (rows ++ htus)
   handed-growth rows a tree htus h =
       record {
@@ -47,26 +53,44 @@ module _ (n m : ℕ) (taxa : 1 ≤ n) (most : n ≤ 64) where
         each = rows-sized m (rows ++ htus) (rows-append m rows htus (a .codes) (h .codes));
       }
 
-  pub handed-least : (rows : List (List ℤ)) → Accepted n m rows → (tree : List ℕ) (htus : List (List ℤ)) → HandedIn n m tree htus
-      → 2 ≤ taxaPlaced n tree → (b : ℕ) → Unplaced n tree b
+  pub handed-least : (rows : List (List ℤ)) → MatrixRows n m rows → (tree : List ℕ) (htus : List (List ℤ)) → HandedIn n m tree htus
+      → (b : ℕ) → Unplaced n tree b
       → PlacementIsLeast difference n m tree (rows ++ htus) b (place difference n tree (rows ++ htus) b)
-  handed-least rows a tree htus h two b u = growth-least _ tree (rows ++ htus) (handed-growth rows a tree htus h) two b u
+  handed-least rows a tree htus h b u =
+      let growth = handed-growth rows a tree htus h in
+      growth-least _ tree (rows ++ htus) growth (has-several (h .intervals) (growth .growing)) b u
 
   module _ (next : ℕ → List ℕ → List (List ℤ) → ℕ) (chooses : Chooses next n) where
-    -- each placement of a build from a growing tree on
-    each-least : (count k : ℕ) (tree : List ℕ) (rows : List (List ℤ)) → Growth n m k tree rows → count + k ≤ n
-        → EachIsLeast next n m count tree rows
-    each-least zero k tree rows g h = done
-    each-least (suc count) k tree rows g h =
-        let placed-so-far = growing-placed tree n taxa (g .growing) in
-        let chosen : Unplaced n tree (next n tree rows) = chooses tree rows (omega (arith, placed-so-far)) in
-        more (place difference n tree rows (next n tree rows)) refl
-        (λ two. growth-least k tree rows g (omega (arith, placed-so-far)) (next n tree rows) chosen)
-        (each-least count (suc k) _ _ (place-growth difference n m k tree rows g (difference-laws m) (next n tree rows) chosen) (omega arith))
+    -- each placement of a build from a growing tree of at least two taxa on
+    each-least : (count k : ℕ) (tree : List ℕ) (rows : List (List ℤ)) → Growth n m k tree rows → 2 ≤ k → count + k ≤ n
+        → EachIsLeast n m tree rows
+        (buildOn difference next n count tree rows .placements)
+        (buildOn difference next n count tree rows .tree)
+        (buildOn difference next n count tree rows .rows)
+    unfolding buildOn
+    each-least zero k tree rows g two h = done
+    each-least (suc count) k tree rows g two h =
+        let b : ℕ = next n tree rows in
+        let chosen : Unplaced n tree b = chooses tree rows (omega (arith, growing-placed tree n taxa (g .growing))) in
+        more b (place difference n tree rows b) chosen (growth-least k tree rows g two b chosen)
+        (each-least count (suc k) _ _ (place-growth difference n m k tree rows g (difference-laws m) b chosen) (omega arith) (omega arith))
 
-  -- each placement of the build of accepted rows
-  pub build-least : (rows : List (List ℤ)) → Accepted n m rows → EachIsLeast (byAdvancement difference) n m (n - 1) noBranches rows
-  build-least rows a =
+    -- a whole build, so many placements from row 1 alone
+    build-least : (count : ℕ) (rows : List (List ℤ)) → Growth n m 1 noBranches rows → count + 1 ≡ n
+        → BuildIsLeast n m rows (buildOn difference next n count noBranches rows)
+    unfolding buildOn link
+    build-least zero rows g e = oneTaxon (sym e)
+    build-least (suc count) rows g e =
+        let b : ℕ = next n noBranches rows in
+        let chosen : Unplaced n noBranches b = chooses noBranches rows (omega (arith, growing-placed noBranches n taxa (g .growing))) in
+        let first = place-first difference n noBranches rows b noBranches-none in
+        let after = rw first at (place-growth difference n m 1 noBranches rows g (difference-laws m) b chosen) in
+        rw first (severalTaxa b chosen (each-least count 2 _ _ after (omega arith) (omega arith)))
+
+  -- the build of the Wagner tree
+  pub wagner-least : (rows : List (List ℤ)) → MatrixRows n m rows → BuildIsLeast n m rows (wagner n rows)
+  unfolding wagner build
+  wagner-least rows a =
       let start : Growth n m 1 noBranches rows =
       record {
         growing = alone noBranches-none;
@@ -74,4 +98,4 @@ module _ (n m : ℕ) (taxa : 1 ≤ n) (most : n ≤ 64) where
         full = omega (arith, a .count);
         each = rows-sized m rows (a .codes);
       } in
-      each-least (byAdvancement difference) (advancement-chooses difference n) (n - 1) 1 noBranches rows start (omega arith)
+      build-least (byAdvancement difference) (advancement-chooses difference n) (n - 1) rows start (omega arith)

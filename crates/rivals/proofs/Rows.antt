@@ -1,29 +1,28 @@
--- Rows of m codes, and which matrices are accepted.
-use mathlib.Core.Path.{_≡_, refl, ap, _∙_}
+-- Rows of m codes: those of an accepted matrix.
+use mathlib.Core.Path.{_≡_, ap, _∙_}
 use mathlib.Core.Bool.{Bool, true}
-use mathlib.Core.List.{List, [], _++_, map}
+use mathlib.Core.List.{List, [], _++_}
 use Prim.Native.Nat.{ℕ, _+_, _-_, _≤_, _<_}
 use native.Mathlib.Omega.{arith}
 use borrow.Author.Tests.{eqb-true, eq-eqb}
 use lib.IntN.{ℤ}
-use lib.ListN.{length, getD, length-append}
-use Rattle.matrix.specs.Choice.{numbers}
+use lib.ListN.{length, getD}
 use Rattle.matrix.specs.Every.{every}
 use Rattle.matrix.specs.Shape.{row}
-use Rattle.matrix.specs.Questions.{withinLimits, oneTo, allInRange, askMatrix, LentMatrix}
+use Rattle.matrix.specs.Questions.{withinLimits, allInRange, askMatrix, LentMatrix}
 use Rattle.matrix.specs.declared.refusal.Asked.the-variants.{Passed}
 use Rattle.matrix.proofs.Both.{and-both}
 use Rattle.matrix.proofs.Every.{every-at, every-from, every-append}
 use Rattle.matrix.proofs.Passing.{matrix-passes, true-oneTo}
 use Rattle.matrix.proofs.Row.{row-length}
-use Rattle.matrix_file.specs.Job.{Job, hasCodes, JobWithinLimits}
+use Rattle.matrix_file.specs.Job.{Job, hasCodes}
 use Rattle.matrix_file.specs.Reading.{readAnswer, accepted}
 use Rattle.matrix_file.proofs.FileOfRead.{file-of-read}
 use Rattle.wagner.specs.Nodes.{rowOf}
 use Rattle.wagner.specs.Matrix.{rowsOf}
 use Rattle.wagner.proofs.Lengths.{OfLength}
 use Rattle.wagner.proofs.Matrix.{length-rowsOf, rowOf-rowsOf}
-use Rattle.rivals.specs.Accepted.{CodeRows, Accepted}
+use Rattle.rivals.specs.Accepted.{CodeRows, Accepted, fileRead, matrixLent}
 
 -- the row of each node has m codes
 pub rows-sized : (m : ℕ) (rows : List (List ℤ)) → CodeRows m rows → OfLength m rows
@@ -38,9 +37,15 @@ rows-append m rows more p q =
       known = every-append allInRange rows more (p .known) (q .known);
     }
 
--- a matrix whose file a read accepts is accepted
-pub accepted-read : (file : List ℕ) (job : Job) → readAnswer file ≡ accepted job → Accepted (job .n) (job .m) (job .rows)
-accepted-read file job e =
+-- n rows of m codes within the limits
+pub record MatrixRows (n m : ℕ) (rows : List (List ℤ)) : Type 0 where
+  pub limits : withinLimits n m ≡ true
+  pub count : length rows ≡ n
+  pub codes : CodeRows m rows
+
+-- such are the rows of a file that a read accepts
+rows-read : (file : List ℕ) (job : Job) → readAnswer file ≡ accepted job → MatrixRows (job .n) (job .m) (job .rows)
+rows-read file job e =
     let within = file-of-read file job e .0 in
     record {
       limits = within .limits;
@@ -65,10 +70,10 @@ rows-from test codes m n h = every-from test [] (rowsOf codes m n) at-place
         let small : i < n = omega (arith, length-rowsOf codes m n) in
         rw (row-at codes m n i small) (h (i + 1) (omega arith) (omega arith))
 
--- a lent matrix that passes its questions is accepted
-pub accepted-lent : (codes : List ℤ) (n m : ℕ) → askMatrix codes n m ≡ Passed → Accepted n m (rowsOf codes m n)
+-- and those of a lent matrix that passes its questions
+rows-lent : (codes : List ℤ) (n m : ℕ) → askMatrix codes n m ≡ Passed → MatrixRows n m (rowsOf codes m n)
 unfolding withinLimits hasCodes
-accepted-lent codes n m e =
+rows-lent codes n m e =
     let lent = matrix-passes codes n m .0 e in
     record {
       limits = and-both (true-oneTo 64 n (lent .taxon) (lent .taxa)) (true-oneTo 128 m (lent .character) (lent .characters));
@@ -82,3 +87,8 @@ accepted-lent codes n m e =
     full : LentMatrix codes n m → (v : ℕ) → 1 ≤ v → v ≤ n → hasCodes m (row codes m v) ≡ true
     full lent v low high =
         eq-eqb _ _ (row-length codes m v (lent .full) (lent .characters) low (omega (arith, lent .taxa)))
+
+-- an accepted matrix has n rows of m codes within the limits
+pub accepted-rows : {n m : ℕ} {rows : List (List ℤ)} → Accepted n m rows → MatrixRows n m rows
+accepted-rows (fileRead file job e) = rows-read file job e
+accepted-rows (matrixLent codes n m e) = rows-lent codes n m e

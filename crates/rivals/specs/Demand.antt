@@ -1,37 +1,48 @@
 -- The claim: for an accepted matrix, no connected network of the taxa, no hanging of a taxon and no choice of inner states does better.
 use mathlib.Core.Path.{_≡_}
 use mathlib.Core.Bool.{true}
-use mathlib.Core.List.{List, _++_}
-use Prim.Native.Nat.{ℕ, zero, suc, _-_, _≤_}
+use mathlib.Core.List.{List, [], _∷_, _++_}
+use Prim.Native.Nat.{ℕ}
 use lib.IntN.{ℤ}
 use Rattle.difference.specs.Rows.{difference}
 use Rattle.prim.specs.Rival.{Shortest}
 use Rattle.branching.specs.Growing.{branching, Unplaced}
-use Rattle.branching.specs.Hanging.{noBranches}
-use Rattle.branching.specs.Nodes.{taxaPlaced}
+use Rattle.branching.specs.Hanging.{noBranches, linked}
+use Rattle.branching.specs.Branches.{BranchRecord, lentBranching, ancestorsOf}
 use Rattle.wagner.specs.Nodes.{nodeDifference}
-use Rattle.wagner.specs.Placing.{Placed, place}
-use Rattle.wagner.specs.Build.{byAdvancement}
+use Rattle.wagner.specs.Placing.{Placement, Placed, link, place}
+use Rattle.wagner.specs.Build.{Built, wagner}
 use Rattle.wagner.specs.Rival.{PlacementIsLeast}
 use Rattle.fitting.specs.Rival.{FitIsLeast}
 use Rattle.rivals.specs.Accepted.{HandedIn}
 
--- so many placements of a build in turn, from a tree with its rows: each that finds an interval adds the least
-pub data EachIsLeast (next : ℕ → List ℕ → List (List ℤ) → ℕ) (n m : ℕ) : ℕ → List ℕ → List (List ℤ) → Type 0 where
-  done : {tree : List ℕ} {rows : List (List ℤ)} → EachIsLeast next n m zero tree rows
-  more : {count : ℕ} {tree : List ℕ} {rows : List (List ℤ)} (placed : Placed) → placed ≡ place difference n tree rows (next n tree rows)
-      → (2 ≤ taxaPlaced n tree → PlacementIsLeast difference n m tree rows (next n tree rows) placed)
-      → EachIsLeast next n m count (placed .tree) (placed .rows)
-      → EachIsLeast next n m (suc count) tree rows
+-- placements in turn, from a tree with its rows to another with its rows: each of them is least
+pub data EachIsLeast (n m : ℕ) : List ℕ → List (List ℤ) → List Placement → List ℕ → List (List ℤ) → Type 0 where
+  done : {tree : List ℕ} {rows : List (List ℤ)} → EachIsLeast n m tree rows [] tree rows
+  more : {tree last : List ℕ} {rows lastRows : List (List ℤ)} {placements : List Placement} (b : ℕ) (placed : Placed)
+      → Unplaced n tree b → PlacementIsLeast difference n m tree rows b placed
+      → EachIsLeast n m (placed .tree) (placed .rows) placements last lastRows
+      → EachIsLeast n m tree rows (placed .placement ∷ placements) last lastRows
 
+-- a build from row 1 alone: no placement for n = 1; else a taxon is linked to row 1, and each placement after it is least
+pub data BuildIsLeast (n m : ℕ) (rows : List (List ℤ)) : Built → Type 0 where
+  oneTaxon : n ≡ 1 → BuildIsLeast n m rows (record { tree = noBranches; rows = rows; placements = [] })
+  severalTaxa : {last : List ℕ} {lastRows : List (List ℤ)} {placements : List Placement} (b : ℕ) → Unplaced n noBranches b
+      → EachIsLeast n m (linked noBranches b) rows placements last lastRows
+      → BuildIsLeast n m rows
+      (record { tree = last; rows = lastRows; placements = link difference noBranches rows b .placement ∷ placements })
+
+-- ours against the three rivals, for a matrix of n taxa and m characters with these rows
 pub record NoRivalDoesBetter (n m : ℕ) (rows : List (List ℤ)) : Type 0 where
   -- our network is a connected one, of length `p`, and no connected network of the taxa is shorter
   pub network : Shortest (nodeDifference difference rows) n
   -- our placement of a taxon on a tree handed in is a hanging on one of its intervals, adds its interval difference, and none adds less
-  pub placement : (tree : List ℕ) (htus : List (List ℤ)) → HandedIn n m tree htus → 2 ≤ taxaPlaced n tree
-      → (b : ℕ) → Unplaced n tree b
+  pub placement : (tree : List ℕ) (htus : List (List ℤ)) → HandedIn n m tree htus → (b : ℕ) → Unplaced n tree b
       → PlacementIsLeast difference n m tree (rows ++ htus) b (place difference n tree (rows ++ htus) b)
-  -- so are the placements of our own build
-  pub build : EachIsLeast (byAdvancement difference) n m (n - 1) noBranches rows
-  -- on any branching lent our chosen states have the least total, and a range has exactly the states of assignments of least length
+  -- so is each placement of our Wagner tree, which is a branching of all n taxa
+  pub build : BuildIsLeast n m rows (wagner n rows)
+  pub whole : branching n (wagner n rows .tree) ≡ true
+  -- on any branching our chosen states have the least total, and a range has exactly the states of assignments of least length
   pub fit : (tree : List ℕ) → branching n tree ≡ true → FitIsLeast tree rows n m
+  -- a branching may be lent as branch records
+  pub lentFit : (records : List BranchRecord) → lentBranching n records ≡ true → FitIsLeast (ancestorsOf n records) rows n m

@@ -1,5 +1,5 @@
 -- The laws of medians hold of the difference of rows, so all that is proved from them holds of the Wagner tree.
-use mathlib.Core.Path.{_≡_, sym, _∙_}
+use mathlib.Core.Path.{_≡_, refl, sym, _∙_}
 use mathlib.Core.List.{List}
 use Prim.Native.Nat.{ℕ, _+_, _*_, _-_, _≤_, _<_}
 use lib.IntN.{ℤ}
@@ -16,6 +16,11 @@ use Rattle.wagner.proofs.Build.{advancement-chooses}
 use Rattle.wagner.proofs.Lengths.{MedianLaws, OfLength}
 use Rattle.wagner.proofs.Rival.{second-rival}
 use Rattle.wagner.proofs.BuildLength.{Sound, build-sound, build-length}
+
+-- the interval difference by the difference of rows is the interval difference of the lower crate
+pub intervalBy-difference : (b c e : List ℤ) → intervalBy difference b c e ≡ intervalDifference b c e
+unfolding intervalBy intervalDifference
+intervalBy-difference b c e = refl
 
 -- the laws of medians for the difference of rows of m codes
 pub difference-laws : (m : ℕ) → MedianLaws difference m

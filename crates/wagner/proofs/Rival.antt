@@ -22,6 +22,9 @@ second-rival d n m k tree rows laws g room full each b u =
     let growth : Growth n m k tree rows = record { growing = several g; room = room; full = omega (arith, g .atLeastTwo); each = each } in
     let adds = place-added d n m k tree rows growth laws b u in
     record {
+      taxon = rw later;
+      upper = rw later;
+      htu = rw later;
       inside = rw later (nearest-node d n tree rows b k g .1);
       hangs = rw later;
       row = rw later;

@@ -3,4 +3,5 @@ pub mod Nodes
 pub mod Placing
 pub mod Build
 pub mod Rival
+pub mod Asking
 pub mod Matrix

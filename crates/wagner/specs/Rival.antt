@@ -18,6 +18,9 @@ module _ (d : List ℤ → List ℤ → ℕ) where
 pub record PlacementIsLeast (d : List ℤ → List ℤ → ℕ) (n m : ℕ) (tree : List ℕ) (rows : List (List ℤ)) (b : ℕ) (placed : Placed)
     : Type 0 where
   -- b was hung on an interval of the tree, through an HTU with the median codes
+  pub taxon : placed .placement .taxon ≡ b
+  pub upper : placed .placement .upper ≡ ancestor tree (placed .placement .lower)
+  pub htu : placed .placement .htu ≡ nextHtu n tree
   pub inside : 1 ≤ ancestor tree (placed .placement .lower)
   pub hangs : placed .tree ≡ hung tree b (placed .placement .lower) (nextHtu n tree)
   pub row : placed .rows ≡ rows ++ (medianRow rows b (placed .placement .lower) (ancestor tree (placed .placement .lower)) ∷ [])

@@ -7,6 +7,7 @@ use borrow.Author.Needs.{needs}
 use lib.IntN.{ℤ}
 use lib.ListN.{take}
 use Rattle.matrix.specs.Shape.{row}
+use Rattle.matrix.specs.Refusals.{value}
 use Rattle.matrix.specs.Questions.{askNodes}
 use Rattle.matrix.specs.declared.refusal.Asked.{Asked}
 use Rattle.matrix.specs.declared.refusal.Asked.the-variants.{Passed}
@@ -15,7 +16,6 @@ use Rattle.matrix.proofs.Row.{row-128}
 use Rattle.difference.specs.Rows.{difference}
 use Rattle.difference.specs.Answers.{DifferenceOf}
 use Rattle.difference.specs.Calls.{differenceAnswer}
-use Rattle.difference.specs.declared.calls.Length.the-variants.{Is}
 use Rattle.difference.proofs.calls.difference.Statement.{statement}
 use Rattle.difference.proofs.calls.difference.Tie as tie
 
@@ -46,12 +46,12 @@ returns c = rw (sym (c .before .before .before .ask-nodes .ensures) ∙ c .befor
 
 -- where the questions pass, the answer is the difference of the two rows
 answered : (codes : List ℤ) (n m a b r : ℕ) (asked : Asked) (xs ys : List ℤ) → asked ≡ askNodes codes n m (a ∷ b ∷ []) → asked ≡ Passed
-    → xs ≡ row codes m a → ys ≡ row codes m b → DifferenceOf xs ys r → Is r ≡ differenceAnswer codes n m a b
+    → xs ≡ row codes m a → ys ≡ row codes m b → DifferenceOf xs ys r → value r ≡ differenceAnswer codes n m a b
 unfolding differenceAnswer
 answered codes n m a b r asked xs ys e passed ex ey d =
     let pass : askNodes codes n m (a ∷ b ∷ []) ≡ Passed = sym e ∙ passed in
     let narrow = nodes-passed codes n m (a ∷ b ∷ []) pass .matrix .characters in
-    rw pass (ap Is (d .is ∙ ap₂ difference (ap (take 128) ex ∙ row-128 codes m a narrow) (ap (take 128) ey ∙ row-128 codes m b narrow)))
+    rw pass (ap value (d .is ∙ ap₂ difference (ap (take 128) ex ∙ row-128 codes m a narrow) (ap (take 128) ey ∙ row-128 codes m b narrow)))
 
 returns-2 : tie.Need-returns-2
 returns-2 c = answered _ _ _ _ _ _ _ _ _ (c .before .before .before .before .before .ask-nodes .ensures) (c .before .before .before .enum-told .given .1) (c .before .before .row .ensures) (c .before .row2 .ensures) (c .difference .ensures)

@@ -7,6 +7,7 @@ use borrow.Author.Needs.{needs}
 use lib.IntN.{ℤ}
 use lib.ListN.{take}
 use Rattle.matrix.specs.Shape.{row}
+use Rattle.matrix.specs.Refusals.{value}
 use Rattle.matrix.specs.Questions.{askNodes}
 use Rattle.matrix.specs.declared.refusal.Asked.{Asked}
 use Rattle.matrix.specs.declared.refusal.Asked.the-variants.{Passed}
@@ -14,7 +15,6 @@ use Rattle.matrix.proofs.Passing.{nodes-passed}
 use Rattle.matrix.proofs.Row.{row-128}
 use Rattle.difference.specs.Rows.{intervalDifference}
 use Rattle.difference.specs.Calls.{intervalAnswer}
-use Rattle.difference.specs.declared.calls.Length.the-variants.{Is}
 use Rattle.difference.proofs.calls.interval_difference.Statement.{statement}
 use Rattle.difference.proofs.calls.interval_difference.Tie as tie
 
@@ -49,7 +49,7 @@ returns c = rw (sym (c .before .before .before .ask-nodes .ensures) ∙ c .befor
 -- where the questions pass, the answer is the interval difference of the three rows
 answered : (codes : List ℤ) (n m b c d r : ℕ) (asked : Asked) (xs ys zs : List ℤ) → asked ≡ askNodes codes n m (b ∷ c ∷ d ∷ []) → asked ≡ Passed
     → xs ≡ row codes m b → ys ≡ row codes m c → zs ≡ row codes m d
-    → r ≡ intervalDifference (take 128 xs) (take 128 ys) (take 128 zs) → Is r ≡ intervalAnswer codes n m b c d
+    → r ≡ intervalDifference (take 128 xs) (take 128 ys) (take 128 zs) → value r ≡ intervalAnswer codes n m b c d
 unfolding intervalAnswer
 answered codes n m b c d r asked xs ys zs e passed ex ey ez i =
     let pass : askNodes codes n m (b ∷ c ∷ d ∷ []) ≡ Passed = sym e ∙ passed in

@@ -1,17 +1,23 @@
 -- `difference::calls::medians` meets its contract: a refusal is that of the questions, and leaves the lent row as it was. Assumes nothing.
-use mathlib.Core.Path.{_≡_, refl, sym, _∙_}
-use mathlib.Core.List.{List}
+use mathlib.Core.Path.{_≡_, sym, _∙_}
+use mathlib.Core.List.{List, [], _∷_}
+use Prim.Native.Nat.{ℕ}
 use borrow.Author.Tests.{eq-eqb, ne-eqb}
 use borrow.Author.Needs.{needs}
+use lib.ListN.{length}
 use lib.IntN.{ℤ}
+use Rattle.matrix.specs.Shape.{row}
+use Rattle.matrix.specs.Questions.{askNodes}
+use Rattle.matrix.specs.declared.refusal.Refusal.{Refusal}
+use Rattle.matrix.specs.declared.refusal.Asked.the-variants.{Passed, Refused}
 use Rattle.difference.specs.Rows.{medians, overwritten}
-use Rattle.difference.specs.Calls.{askMedians}
+use Rattle.difference.specs.Calls.{askMedians, MediansAnswer}
 use Rattle.difference.proofs.calls.medians.Statement.{statement}
 use Rattle.difference.proofs.calls.medians.Tie as tie
 
 returns : tie.Need-returns
 unfolding askMedians
-returns c = record { answers = rw (ne-eqb _ _ (c .if1 .taken)); row = refl }
+returns c = record { says = rw (ne-eqb _ _ (c .if1 .taken)); lent = rw (ne-eqb _ _ (c .if1 .taken)) }
 
 slice-aggregate-ask-nodes : tie.Need-slice-aggregate-ask-nodes
 slice-aggregate-ask-nodes c = search needs
@@ -37,34 +43,40 @@ row-requires-3 c κs = search needs
 write-medians-requires : tie.Need-write-medians-requires
 write-medians-requires c κs = search needs
 
-returns-2 : tie.Need-returns-2
+-- where the questions refuse, the call says so, and the lent row is as before
+refuses : (codes : List ℤ) (n m a b c : ℕ) (old : List ℤ) (refusal : Refusal) → length old ≡ 128
+    → askNodes codes n m (a ∷ b ∷ c ∷ []) ≡ Refused refusal → MediansAnswer codes n m a b c old old (Refused refusal)
 unfolding askMedians
-returns-2 c = record {
-  answers =
-      rw (
-        eq-eqb _ _ (c .before .before .before .before .before .if1 .left),
-        sym (c .before .before .before .ask-nodes .ensures) ∙ c .before .refusal .given .1,
-      );
-  row = refl;
-}
+refuses codes n m a b c old refusal size e = record { says = rw (eq-eqb (length old) 128 size, e); lent = rw (eq-eqb (length old) 128 size, e) }
+
+returns-2 : tie.Need-returns-2
+returns-2 c =
+    refuses _ _ _ _ _ _ _ _ (c .before .before .before .before .before .if1 .left)
+    (sym (c .before .before .before .ask-nodes .ensures) ∙ c .before .refusal .given .1)
 
 same-length : tie.Need-same-length
 same-length c = search needs
 
--- what was written is the medians of the three rows
-written : (xs ys zs a b c out new : List ℤ) → a ≡ xs → b ≡ ys → c ≡ zs → new ≡ overwritten (medians a b c) out → new ≡ overwritten (medians xs ys zs) out
-written xs ys zs a b c out new ea eb ec e = rw (ea, eb, ec) at e
+-- where they pass, the medians of the three rows are written
+passes : (codes : List ℤ) (n m a b c : ℕ) (old new xs ys zs : List ℤ) → length old ≡ 128
+    → askNodes codes n m (a ∷ b ∷ c ∷ []) ≡ Passed → xs ≡ row codes m a → ys ≡ row codes m b → zs ≡ row codes m c
+    → new ≡ overwritten (medians xs ys zs) old → MediansAnswer codes n m a b c old new Passed
+unfolding askMedians
+passes codes n m a b c old new xs ys zs size e ex ey ez written =
+    record {
+      says = rw (eq-eqb (length old) 128 size, e);
+      lent = rw (eq-eqb (length old) 128 size, e) (rw (ex, ey, ez) at written);
+    }
 
 returns-3 : tie.Need-returns-3
-unfolding askMedians
-returns-3 c = record {
-  answers =
-      rw (
-        eq-eqb _ _ (c .before .before .before .before .before .before .before .before .before .before .if1 .left),
-        sym (c .before .before .before .before .before .before .before .before .ask-nodes .ensures) ∙ c .before .before .before .before .before .before .enum-told .given .1,
-      );
-  row = written _ _ _ _ _ _ _ _ (c .before .before .before .before .row .ensures) (c .before .before .before .row2 .ensures) (c .before .before .row3 .ensures) (c .before .write-medians .ensures);
-}
+returns-3 c =
+    let asked = c .before .before .before .before .before .before .before .before in
+    passes _ _ _ _ _ _ _ _ _ _ _ (asked .before .before .if1 .left)
+    (sym (asked .ask-nodes .ensures) ∙ c .before .before .before .before .before .before .enum-told .given .1)
+    (c .before .before .before .before .row .ensures)
+    (c .before .before .before .row2 .ensures)
+    (c .before .before .row3 .ensures)
+    (c .before .write-medians .ensures)
 
 pub medians-spec : {M : Type 1} → statement M
 medians-spec =

@@ -24,12 +24,12 @@ grow-requires c κs = matrix-passes _ _ _ .0 (sym (c .before .before .ask-matrix
 returns : tie.Need-returns
 returns c =
     let told = sym (c .before .before .before .before .ask-matrix .ensures) ∙ c .before .before .refusal .given .1 in
-    record { asked = sym told; network = rw told (c .no-links .ensures) }
+    record { says = rw told; network = rw told (c .no-links .ensures) }
 
 returns-2 : tie.Need-returns-2
 returns-2 c =
     let told = sym (c .before .before .before .ask-matrix .ensures) ∙ c .before .enum-told .given .1 in
-    record { asked = sym told; network = rw told (c .grow .ensures) }
+    record { says = rw told; network = rw told (c .grow .ensures) }
 
 pub network-spec : {M : Type 1} → statement M
 network-spec =

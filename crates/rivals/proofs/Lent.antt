@@ -1,0 +1,134 @@
+-- What the claim says of a lent matrix, in the terms of the calls on it.
+use mathlib.Core.Path.{_≡_, sym, ap₂, _∙_}
+use mathlib.Core.Bool.{Bool, true, false, not}
+use mathlib.Core.List.{List, [], _++_, map, map-append}
+use Prim.Native.Nat.{ℕ, _+_, _-_, _≤_, _<_}
+use native.Mathlib.Omega.{arith}
+use borrow.Author.Tests.{leb-true, eq-eqb}
+use lib.Dec.{leb}
+use lib.IntN.{ℤ}
+use lib.ListN.{length, getD}
+use Rattle.matrix.specs.Choice.{numbers}
+use Rattle.matrix.specs.Every.{every}
+use Rattle.matrix.specs.Shape.{row}
+use Rattle.matrix.specs.Questions.{oneTo, allInRange, htuInRange, htusInRange, askMatrix}
+use Rattle.matrix.specs.declared.refusal.Asked.the-variants.{Passed}
+use Rattle.matrix.specs.declared.refusal.Refusal.the-variants.{CodeRange, NotThere, NotBranching}
+use Rattle.matrix.proofs.Passing.{ask-passed, andThen-passed, oneTo-true, matrix-passes}
+use Rattle.difference.specs.Rows.{difference}
+use Rattle.prim.specs.Network.{network, taxonDifference}
+use Rattle.prim.proofs.Agreement.{network-agrees}
+use Rattle.branching.specs.Ancestors.{ancestor}
+use Rattle.branching.specs.Nodes.{inTree, taxaPlaced}
+use Rattle.branching.proofs.Nodes.{not-inTree, taxaPlaced-le}
+use Rattle.matrix.proofs.Choice.{numbers-append, length-map-numbers, map-numbers, getD-numbers, length-numbers}
+use Rattle.matrix.proofs.Both.{or-cases}
+use Rattle.matrix.proofs.Every.{every-at, every-from}
+use Rattle.matrix.proofs.Row.{row-length}
+use Rattle.matrix_file.specs.Job.{hasCodes}
+use Rattle.wagner.specs.Placing.{place}
+use Rattle.wagner.specs.Rival.{PlacementIsLeast}
+use Rattle.rivals.specs.Accepted.{CodeRows, matrixLent}
+use Rattle.rivals.proofs.Demand.{no-rival}
+use Rattle.branching.specs.Growing.{growingTree, rowOneAlone, Unplaced}
+use Rattle.wagner.specs.Nodes.{nodeDifference}
+use Rattle.wagner.specs.Matrix.{rowsOf}
+use Rattle.wagner.specs.Asking.{htusOf, askPlacement}
+use Rattle.wagner.proofs.Matrix.{rowOf-rowsOf}
+
+-- the network that the call answers is the one that the claim and the listing speak of
+pub same-network : (codes : List ℤ) (n m : ℕ)
+    → network (nodeDifference difference (rowsOf codes m n)) n ≡ network (taxonDifference codes m) n
+unfolding nodeDifference taxonDifference
+same-network codes n m =
+    network-agrees (nodeDifference difference (rowsOf codes m n)) (taxonDifference codes m) n
+    (λ x y tx ty. ap₂ difference (rowOf-rowsOf codes m n x (tx .0) (tx .1)) (rowOf-rowsOf codes m n y (ty .0) (ty .1)))
+
+-- what passed questions of a placement tell
+pub record PlacementAsked (codes : List ℤ) (n m : ℕ) (tree : List ℕ) (b : ℕ) : Type 0 where
+  pub matrix : askMatrix codes n m ≡ Passed
+  pub growing : growingTree n tree ≡ true
+  pub unplaced : Unplaced n tree b
+  pub htus : htusInRange codes n m (htusOf n tree) ≡ true
+
+-- a taxon that is not in the tree is neither row 1 nor has it an ancestor
+not-in : (n : ℕ) (tree : List ℕ) (b : ℕ) → 1 ≤ b → b ≤ n → not (inTree tree b) ≡ true → Unplaced n tree b
+not-in n tree b low high e =
+    let out = not-inTree tree b e in
+    record { other = omega (arith, out .0); taxon = high; free = out .1 }
+
+pub placement-asked : (codes : List ℤ) (n m : ℕ) (tree : List ℕ) (b : ℕ) → askPlacement codes n m tree b ≡ Passed
+    → PlacementAsked codes n m tree b
+unfolding askPlacement
+placement-asked codes n m tree b e =
+    let both = andThen-passed (askMatrix codes n m) _ e in
+    let taxon = ask-passed (oneTo n b) NotThere _ (both .1) in
+    let tree-asked = ask-passed (growingTree n tree) NotBranching _ (taxon .1) in
+    let free = ask-passed (not (inTree tree b)) NotThere _ (tree-asked .1) in
+    let known = ask-passed (htusInRange codes n m (htusOf n tree)) CodeRange Passed (free .1) in
+    let limits = oneTo-true n b (taxon .0) in
+    record {
+      matrix = both .0;
+      growing = tree-asked .0;
+      unplaced = not-in n tree b (limits .0) (limits .1) (free .0);
+      htus = known .0;
+    }
+
+-- a test of the rows of some nodes, row by row
+rows-every : (test : List ℤ → Bool) (codes : List ℤ) (m first count : ℕ)
+    → ((v : ℕ) → first ≤ v → v < first + count → test (row codes m v) ≡ true)
+    → every test (map (row codes m) (numbers first count)) ≡ true
+rows-every test codes m first count h = every-from test [] (map (row codes m) (numbers first count)) at-place
+  where
+    at-place : (i : ℕ) → i < length (map (row codes m) (numbers first count))
+        → test (getD (map (row codes m) (numbers first count)) i []) ≡ true
+    at-place i below =
+        let small : i < count = omega (arith, length-map-numbers (row codes m) first count) in
+        rw (map-numbers (row codes m) [] first count i small) (h (first + i) (omega arith) (omega arith))
+
+-- a tree and a taxon that the questions of a placement let pass
+module _ (codes : List ℤ) (n m : ℕ) (tree : List ℕ) (b : ℕ) (asked : PlacementAsked codes n m tree b) where
+  -- behind the rows of the taxa, those of the HTUs make the rows of all nodes of the tree
+  rows-behind : rowsOf codes m n ++ map (row codes m) (htusOf n tree) ≡ rowsOf codes m (n + (taxaPlaced n tree - 2))
+  unfolding rowsOf htusOf
+  rows-behind =
+      let next : n + 1 ≡ 1 + n = omega arith in
+      rw (next, numbers-append 1 n (taxaPlaced n tree - 2)) (sym (map-append (row codes m) (numbers 1 n) (numbers (1 + n) (taxaPlaced n tree - 2))))
+
+  -- the row of each HTU of the tree has m codes from -999 to 999
+  htu-rows : CodeRows m (map (row codes m) (htusOf n tree))
+  unfolding htusOf htusInRange htuInRange hasCodes
+  htu-rows =
+      let lent = matrix-passes codes n m .0 (asked .matrix) in
+      record {
+        full = rows-every (hasCodes m) codes m (n + 1) (taxaPlaced n tree - 2) (λ v low high.
+            eq-eqb _ _
+            (row-length codes m v (lent .full) (lent .characters) (omega arith) (omega (arith, lent .taxa, taxaPlaced-le tree n))));
+        known = rows-every allInRange codes m (n + 1) (taxaPlaced n tree - 2) known;
+      }
+    where
+      known : (v : ℕ) → n + 1 ≤ v → v < n + 1 + (taxaPlaced n tree - 2) → allInRange (row codes m v) ≡ true
+      known v low high =
+          let count : ℕ = taxaPlaced n tree - 2 in
+          let i : ℕ = v - (n + 1) in
+          let below : i < length (numbers (n + 1) count) = omega (arith, length-numbers (n + 1) count) in
+          let place : getD (numbers (n + 1) count) i 0 ≡ v = getD-numbers (n + 1) count i 0 (omega arith) ∙ omega arith in
+          let known = rw place at (every-at (htuInRange codes n m) (numbers (n + 1) count) (asked .htus) i 0 below) in
+          or-cases (leb v n) (allInRange (row codes m v)) known (λ e. absurd (omega (arith, leb-true v n e))) (λ e. e)
+
+  -- on a tree that is not row 1 alone our placement is least
+  pub placement-lent : length tree ≡ 127 → rowOneAlone tree ≡ false
+      → PlacementIsLeast difference n m tree (rowsOf codes m (n + (taxaPlaced n tree - 2))) b
+      (place difference n tree (rowsOf codes m (n + (taxaPlaced n tree - 2))) b)
+  unfolding htusOf
+  placement-lent places several =
+      rw (← rows-behind)
+      (no-rival n m (rowsOf codes m n) (matrixLent codes n m (asked .matrix)) .placement tree _
+      (record {
+        places = places;
+        growing = asked .growing;
+        count = length-map-numbers (row codes m) (n + 1) (taxaPlaced n tree - 2);
+        codes = htu-rows;
+        intervals = several;
+      })
+      b (asked .unplaced))

@@ -1,0 +1,39 @@
+-- The questions of a placement and of a lent branching, in document 01's order.
+use mathlib.Core.List.{List}
+use mathlib.Core.Bool.{not}
+use Prim.Native.Nat.{ℕ, _+_, _-_}
+use lib.Dec.{eqb}
+use lib.IntN.{ℤ}
+use lib.ListN.{length}
+use Rattle.matrix.specs.Choice.{numbers}
+use Rattle.matrix.specs.Questions.{ask, andThen, oneTo, htusInRange, askMatrix}
+use Rattle.matrix.specs.declared.refusal.Refusal.the-variants.{CodeRange, ListSize, NotThere, NotBranching}
+use Rattle.matrix.specs.declared.refusal.Asked.{Asked}
+use Rattle.matrix.specs.declared.refusal.Asked.the-variants.{Passed}
+use Rattle.branching.specs.Nodes.{inTree, taxaPlaced}
+use Rattle.branching.specs.Growing.{growingTree}
+use Rattle.branching.specs.Branches.{BranchRecord, lentBranching}
+
+-- the HTUs of a growing tree of n taxa, k of them placed: n+1 to n+k-2
+unfoldable pub htusOf : ℕ → List ℕ → List ℕ
+htusOf n tree = numbers (n + 1) (taxaPlaced n tree - 2)
+
+-- the questions of a placement of taxon b on a tree handed in: those on the matrix; the taxon exists; the tree is a growing tree; the
+-- taxon is not yet in it; the rows of its HTUs
+unfoldable pub askPlacement : List ℤ → ℕ → ℕ → List ℕ → ℕ → Asked
+askPlacement codes n m tree b =
+    andThen (askMatrix codes n m)
+    (ask (oneTo n b) NotThere
+    (ask (growingTree n tree) NotBranching
+    (ask (not (inTree tree b)) NotThere (ask (htusInRange codes n m (htusOf n tree)) CodeRange Passed))))
+
+-- 125 branch records
+abbrev pub branchesSize : ℕ
+branchesSize = 125
+
+-- the questions of a call on a lent branching that reads no HTU row, as a fitting: the size of the list of branches, those on the
+-- matrix, whether the branches are a branching
+unfoldable pub askBranching : List ℤ → ℕ → ℕ → List BranchRecord → Asked
+askBranching codes n m records =
+    ask (eqb (length records) branchesSize) ListSize
+    (andThen (askMatrix codes n m) (ask (lentBranching n records) NotBranching Passed))
