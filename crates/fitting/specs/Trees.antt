@@ -1,4 +1,4 @@
--- A branching seen from row 1 down, as trees: a tip is a taxon, a fork is an HTU with its two descendants by rising node number.
+-- A branching as trees, from row 1 down: a tip is a taxon, a fork is an HTU with its two descendants by rising node number.
 use mathlib.Core.List.{List, [], _∷_, map}
 use Prim.Native.Nat.{ℕ, zero, suc, _*_}
 use Rattle.branching.specs.Ancestors.{descendants}
