@@ -1,6 +1,8 @@
--- Document 01's examples of fitting, computed: the three joins, the fit of the matrix A, B, C, D to its Wagner tree, and small n.
+-- Document 01's examples of fitting, computed: the three joins, the fit of the matrix A, B, C, D to its Wagner tree, small n, and the
+-- marks of the lengths 0 and 1.
 use mathlib.Core.Path.{_≡_, refl}
 use mathlib.Core.List.{List, [], _∷_, map, flatMap}
+use mathlib.Core.Bool.{true, false}
 use Prim.Native.Nat.{ℕ, suc, _-_}
 use lib.IntN.{ℤ, pos, negsuc}
 use Rattle.matrix.specs.Choice.{numbers}
@@ -12,7 +14,7 @@ use Rattle.fitting.specs.Sets.{only, join, nearest, insert, inOrder, mid
 use Rattle.fitting.specs.Trees.{tip, fork, above, treeAt, treesBelow}
 use Rattle.fitting.specs.Character.{valueAt, up, chosen, ranges}
 use Rattle.fitting.specs.Assignments.{character, branchLength, total}
-use Rattle.fitting.specs.Fit.{chosenState, range, fittedLength, fittedTotal}
+use Rattle.fitting.specs.Fit.{chosenState, range, fittedLength, fittedTotal, markedPlus}
 use Rattle.fitting.proofs.Laws.Sets.{span}
 
 -- [0,1] with [2,2] gives [1,2]
@@ -114,3 +116,13 @@ pub fit-3 : printed (0 ∷ 0 ∷ 4 ∷ 4 ∷ 1 ∷ []) ((negsuc 0 ∷ []) ∷ (p
 }
 unfolding printed
 fit-3 = refl
+
+-- a branch of fitted length 0 is not marked `+`
+pub mark-0 : markedPlus 0 ≡ false
+unfolding markedPlus
+mark-0 = refl
+
+-- a branch of fitted length 1 is
+pub mark-1 : markedPlus 1 ≡ true
+unfolding markedPlus
+mark-1 = refl

@@ -1,6 +1,7 @@
 -- The laws of fitting.
 pub mod Ends
 pub mod Sets
+pub mod JoinWords
 pub mod Basic
 pub mod Tables
 pub mod Nodes

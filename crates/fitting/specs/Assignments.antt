@@ -17,23 +17,23 @@ character rows j v = getD (getD rows (v - 1) []) (j - 1) (pos 0)
 
 -- the length of the branch from node v to its immediate ancestor: the difference of their states over all m characters
 unfoldable pub branchLength : List ℕ → ℕ → (ℕ → ℕ → ℤ) → ℕ → ℕ
-branchLength ancestors m states v = sumOver (λ j. apart (states v j) (states (ancestor ancestors v) j)) (numbers 1 m)
+branchLength tree m states v = sumOver (λ j. apart (states v j) (states (ancestor tree v) j)) (numbers 1 m)
 
 -- the total of an assignment: the sum of its branches' lengths
 unfoldable pub total : List ℕ → ℕ → ℕ → (ℕ → ℕ → ℤ) → ℕ
-total ancestors n m states = sumOver (λ v. branchLength ancestors m states v) (otherNodes n)
+total tree n m states = sumOver (λ v. branchLength tree m states v) (otherNodes n)
 
 -- an assignment gives each HTU any whole number for each character; taxa keep their codes
 pub record IsAssignment (rows : List (List ℤ)) (n m : ℕ) (states : ℕ → ℕ → ℤ) : Type 0 where
   pub keeps : (v j : ℕ) → 1 ≤ v → v ≤ n → 1 ≤ j → j ≤ m → states v j ≡ character rows j v
 
 -- an assignment is of least length if every other has at least its total
-pub record IsLeast (ancestors : List ℕ) (rows : List (List ℤ)) (n m : ℕ) (states : ℕ → ℕ → ℤ) : Type 0 where
+pub record IsLeast (tree : List ℕ) (rows : List (List ℤ)) (n m : ℕ) (states : ℕ → ℕ → ℤ) : Type 0 where
   pub assigns : IsAssignment rows n m states
-  pub least : (others : ℕ → ℕ → ℤ) → IsAssignment rows n m others → total ancestors n m states ≤ total ancestors n m others
+  pub least : (others : ℕ → ℕ → ℤ) → IsAssignment rows n m others → total tree n m states ≤ total tree n m others
 
 -- node v has state s in character j in some assignment of least length
-pub record Occurs (ancestors : List ℕ) (rows : List (List ℤ)) (n m v j : ℕ) (s : ℤ) : Type 0 where
+pub record Occurs (tree : List ℕ) (rows : List (List ℤ)) (n m v j : ℕ) (s : ℤ) : Type 0 where
   pub states : ℕ → ℕ → ℤ
-  pub isLeast : IsLeast ancestors rows n m states
+  pub isLeast : IsLeast tree rows n m states
   pub here : states v j ≡ s

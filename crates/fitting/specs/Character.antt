@@ -20,7 +20,7 @@ valueAt otherwise (entry ∷ table) v =
     cond (eqb (entry .0) v) (entry .1) later
 
 module _ (code : ℕ → ℤ) where
-  -- the set of a tree's first node, from the tips up: a taxon's code, or the join of the sets of the two descendants
+  -- the set of a tree's top node, from the tips up: a taxon's code, or the join of the sets of the two descendants
   unfoldable pub up : Tree → Span
   up (tip v) = only (code v)
   up (fork v a b) = join (up a) (up b)
@@ -32,8 +32,8 @@ module _ (code : ℕ → ℤ) where
       let own = nearest state (join (up a) (up b)) in
       (v, own) ∷ (chosen own a ++ chosen own b)
 
-  -- the range of each HTU. `outside` is the set of all that is not below the first node, seen from that node: the state above if it
-  -- hangs from row 1, else the join of its sister's set and what is outside of its ancestor
+  -- the range of each HTU, from the sets of its two descendants and `outside`, the set of all nodes that are not in the tree: row 1's code
+  -- if the tree hangs from row 1, else the join of its sister's set and the `outside` of its ancestor's tree
   unfoldable pub ranges : Span → Tree → Table Span
   ranges outside (tip v) = []
   ranges outside (fork v a b) =

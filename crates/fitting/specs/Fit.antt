@@ -9,26 +9,26 @@ use Rattle.fitting.specs.Trees.{treesBelow}
 use Rattle.fitting.specs.Character.{valueAt, chosen, ranges}
 use Rattle.fitting.specs.Assignments.{character, branchLength, total}
 
-module _ (ancestors : List ℕ) (rows : List (List ℤ)) (n : ℕ) where
+module _ (tree : List ℕ) (rows : List (List ℤ)) (n : ℕ) where
   -- the state chosen for node v in character j; a taxon keeps its code
   unfoldable pub chosenState : ℕ → ℕ → ℤ
   chosenState v j =
       let code = character rows j in
-      valueAt (code v) (flatMap (λ tree. chosen code (code 1) tree) (treesBelow ancestors n)) v
+      valueAt (code v) (flatMap (chosen code (code 1)) (treesBelow tree n)) v
 
   -- the range of HTU v in character j, lowest to highest state; a taxon's is its code
   unfoldable pub range : ℕ → ℕ → Span
   range v j =
       let code = character rows j in
-      valueAt (only (code v)) (flatMap (λ tree. ranges code (only (code 1)) tree) (treesBelow ancestors n)) v
+      valueAt (only (code v)) (flatMap (ranges code (only (code 1))) (treesBelow tree n)) v
 
   -- the fitted length of the branch from node v to its immediate ancestor, over m characters
   unfoldable pub fittedLength : ℕ → ℕ → ℕ
-  fittedLength m v = branchLength ancestors m chosenState v
+  fittedLength m v = branchLength tree m chosenState v
 
-  -- the fitted total
+  -- the fitted total: the total of the chosen states
   unfoldable pub fittedTotal : ℕ → ℕ
-  fittedTotal m = total ancestors n m chosenState
+  fittedTotal m = total tree n m chosenState
 
 -- a branch is marked `+` if its fitted length is above 0, else `-`
 unfoldable pub markedPlus : ℕ → Bool

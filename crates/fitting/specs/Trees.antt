@@ -1,4 +1,4 @@
--- A branching seen from row 1 down, as trees: a tip is a taxon, a fork is an HTU with its two descendants by rising node number.
+-- A branching as trees, from row 1 down: a tip is a taxon, a fork is an HTU with its two descendants by rising node number.
 use mathlib.Core.List.{List, [], _∷_, map}
 use Prim.Native.Nat.{ℕ, zero, suc, _*_}
 use Rattle.branching.specs.Ancestors.{descendants}
@@ -17,10 +17,10 @@ above v (a ∷ b ∷ rest) = fork v a b
 
 -- the tree of node v and all nodes below it, `depth` steps down
 unfoldable pub treeAt : List ℕ → List ℕ → ℕ → ℕ → Tree
-treeAt ancestors nodes zero v = tip v
-treeAt ancestors nodes (suc depth) v = above v (map (λ u. treeAt ancestors nodes depth u) (descendants ancestors nodes v))
+treeAt tree nodes zero v = tip v
+treeAt tree nodes (suc depth) v = above v (map (λ u. treeAt tree nodes depth u) (descendants tree nodes v))
 
 -- the trees that hang from row 1: one, and none for n = 1
 unfoldable pub treesBelow : List ℕ → ℕ → List Tree
-treesBelow ancestors n =
-    map (λ v. treeAt ancestors (otherNodes n) (2 * n) v) (descendants ancestors (otherNodes n) 1)
+treesBelow tree n =
+    map (λ v. treeAt tree (otherNodes n) (2 * n) v) (descendants tree (otherNodes n) 1)

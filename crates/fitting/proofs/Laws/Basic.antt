@@ -47,7 +47,7 @@ module _ (code : ℕ → ℤ) where
         offset-triangle y s (join (up code a) (up code b)) (join-nonempty (up code a) (up code b)),
       )
 
-  -- an assignment that gives a tree's first node the nearest member of its set, and is least below it, costs no more
+  -- an assignment that gives a tree's top node the nearest member of its set, and is least below it, costs no more
   pub basic-step : (y : ℤ) (v : ℕ) (a b : Tree) (f : ℕ → ℤ) →
       f v ≡ nearest y (join (up code a) (up code b)) →
       cost f (f v) a ≡ leastCost a + offset (f v) (up code a) →

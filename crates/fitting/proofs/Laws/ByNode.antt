@@ -1,5 +1,5 @@
 -- The fit by node number, as a program finds it: the set of a node from those of its descendants, its chosen state and its outside from
--- those of its ancestor, its range from the three sets that it sees.
+-- those of its ancestor, its range from the sets of its descendants and its outside.
 use mathlib.Core.Path.{_≡_, refl, sym, _∙_, ap, ap₂, subst}
 use mathlib.Core.Logic.{⊎-elim}
 use mathlib.Core.List.{List, [], _∷_, List·Memᴰ, List·Memᴰ·not-nil, List·Memᴰ·cases-cons, List·Memᴰ·eq-of-singleton}
@@ -334,7 +334,7 @@ module _ (n : ℕ) (ancestors : List ℕ) (grown : Grown n n ancestors) where
             state-handed v c d htu (chosenState ancestors rows n u j) (q .0)
             (q .1 ∙ sym (state-part u sister v up (htu-part u sister v up)))
 
-    -- all that is not below an HTU, as one set seen from it
+    -- the outside of an HTU: the set of all nodes that are not in its tree
     unfoldable pub outsideAt : ℕ → Span
     outsideAt v = valueAt (only (code 1)) (downward (λ x a b. x) (outsideLeft code) (outsideRight code) (only (code 1))
         (treeOf .tree)) v
@@ -371,7 +371,7 @@ module _ (n : ℕ) (ancestors : List ℕ) (grown : Grown n n ancestors) where
         outside-part b c d below (q .0) ∙ unfold seen outsideRight setAt in
         (q .1 ∙ ap (join (up code (treeFrom a))) (sym (outside-part u a b htu p)))
 
-    -- the range of an HTU, from the three sets that it sees
+    -- the range of an HTU, from the sets of its two descendants and its outside
     pub range-htu : (u a b : ℕ) → Htu u a b → range ancestors rows n u j ≡ middle (setAt a) (setAt b) (outsideAt u)
     range-htu u a b htu = range-tree n ancestors rows treeOf u j
         ∙ ap (λ table. valueAt (only (code u)) table u) (ranges-downward code (only (code 1)) (treeOf .tree))

@@ -1,6 +1,5 @@
 -- The chosen states of a tree whose nodes are distinct are an assignment of least cost.
 use mathlib.Core.Path.{_≡_, refl, sym, _∙_, ap}
-use mathlib.Core.List.{List·Memᴰ}
 use Prim.Native.Nat.{ℕ, _+_}
 use native.Mathlib.Omega.{arith}
 use lib.IntN.{ℤ}
@@ -8,10 +7,9 @@ use Rattle.fitting.specs.Trees.{Tree, tip, fork}
 use Rattle.fitting.specs.Character.{valueAt, up, chosen}
 use Rattle.fitting.proofs.Laws.Sets.{offset, offset-only}
 use Rattle.fitting.proofs.Laws.Basic.{cost, Keeps, leastCost, basic-step}
-use Rattle.fitting.proofs.Laws.Nodes.{Parts, Distinct, htus}
+use Rattle.fitting.proofs.Laws.Nodes.{Parts, Distinct}
 use Rattle.fitting.proofs.Laws.Agree.{Agree, cost-agree, keeps-agree}
-use Rattle.fitting.proofs.Laws.Downward.{downward, stateFrom, chosen-downward, downward-absent, downward-top, downward-left}
-use Rattle.fitting.proofs.Laws.Downward.{downward-right}
+use Rattle.fitting.proofs.Laws.Downward.{downward, stateFrom, chosen-downward, downward-top, downward-left, downward-right}
 
 module _ (code : ℕ → ℤ) where
   -- the assignment of the chosen states
@@ -24,16 +22,12 @@ module _ (code : ℕ → ℤ) where
   unfolding fit
   fit-downward y t w = ap (λ table. valueAt (code w) table w) (chosen-downward code y t)
 
-  -- a node that is no HTU keeps its code
-  pub fit-absent : (y : ℤ) (t : Tree) (w : ℕ) → (List·Memᴰ w (htus t) → ⊥) → fit y t w ≡ code w
-  fit-absent y t w h = fit-downward y t w ∙ downward-absent (stateFrom code) (stateFrom code) (stateFrom code) y t w (code w) h
-
   module _ (y : ℤ) (v : ℕ) (a b : Tree) where
-    -- the state of a first node
+    -- the state of a top node
     abbrev own : ℤ
     own = stateFrom code y a b
 
-    -- a first node has its own state
+    -- a top node has its own state
     fit-top : fit y (fork v a b) v ≡ own
     fit-top = fit-downward y (fork v a b) v ∙ downward-top (stateFrom code) (stateFrom code) (stateFrom code) y v a b (code v)
 

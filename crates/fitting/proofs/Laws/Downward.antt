@@ -64,12 +64,12 @@ module _ {X A : Type 0} (own : X → Tree → Tree → A) (toLeft toRight : X �
         rw (differ b v w (parts .rightWithout) h, valueAt-append otherwise (downward (toLeft x a b) a) (downward (toRight x a b) b) w)
         (downward-outside (toLeft x a b) a w (valueAt otherwise (downward (toRight x a b) b) w) (not-left v a b parts w h))
 
-  -- the value of the tree's first node
+  -- the value of the tree's top node
   pub downward-top : (x : X) (v : ℕ) (a b : Tree) (otherwise : A) → valueAt otherwise (downward x (fork v a b)) v ≡ own x a b
   unfolding downward valueAt
   downward-top x v a b otherwise = rw (eq-eqb v v refl)
 
-  -- the value of a part's first node
+  -- the value of a part's top node
   pub downward-part : (x : X) (v : ℕ) (a b t : Tree) (p : Part (fork v a b) t) → Distinct t → (otherwise : A) →
       valueAt otherwise (downward x t) v ≡ own (handed toLeft toRight x p) a b
   unfolding handed
@@ -93,6 +93,10 @@ module _ (code : ℕ → ℤ) where
   chosen-downward y (fork v a b) =
       let s = nearest y (join (up code a) (up code b)) in
       ap₂ (λ l r. (v, s) ∷ (l ++ r)) (chosen-downward s a) (chosen-downward s b)
+
+  -- and name the HTUs
+  pub chosen-htus : (y : ℤ) (t : Tree) → keys (chosen code y t) ≡ htus t
+  chosen-htus y t = rw (chosen-downward y t) (downward-keys stateFrom stateFrom stateFrom y t)
 
   -- an HTU's range, and what it hands on: to each descendant the join of its sister's set and the outside
   unfoldable pub rangeFrom : Span → Tree → Tree → Span

@@ -20,7 +20,7 @@ use Rattle.fitting.specs.Sets.{only}
 use Rattle.fitting.specs.Trees.{Tree}
 use Rattle.fitting.specs.Character.{up, ranges}
 use Rattle.fitting.specs.Assignments.{character, branchLength, total, IsAssignment, IsLeast, Occurs}
-use Rattle.fitting.specs.Fit.{chosenState, range, fittedTotal}
+use Rattle.fitting.specs.Fit.{chosenState, range, fittedLength, fittedTotal}
 use Rattle.fitting.specs.Rival.{FitIsLeast}
 use Rattle.fitting.proofs.Laws.Sets.{In, offset, only-nonempty}
 use Rattle.fitting.proofs.Laws.Basic.{cost, Keeps, leastCost, basic-lemma}
@@ -29,6 +29,12 @@ use Rattle.fitting.proofs.Laws.Chosen.{fit-cost}
 use Rattle.fitting.proofs.Laws.Range.{leastWith, costWith, cost-row1, least-row1, range-holds, Attains, range-attained}
 use Rattle.fitting.proofs.Laws.Shape.{TreeOf, cost-sumTree}
 use Rattle.fitting.proofs.Laws.OneTree.{keeps-taxon, keeps-of, chosenState-fit, chosenState-taxon, range-entry}
+
+-- the fitted lengths of the branches add up to the fitted total
+pub lengths-total : (n m : ℕ) (ancestors : List ℕ) (rows : List (List ℤ)) →
+    sumOver (fittedLength ancestors rows n m) (otherNodes n) ≡ fittedTotal ancestors rows n m
+unfolding fittedTotal fittedLength total
+lengths-total n m ancestors rows = refl
 
 module _ (n m : ℕ) (ancestors : List ℕ) (rows : List (List ℤ)) (several : 2 ≤ n) (treeOf : TreeOf n ancestors) where
   -- the tree of the branching
@@ -203,7 +209,7 @@ module _ (n m : ℕ) (ancestors : List ℕ) (rows : List (List ℤ)) (several : 
   pub fit-is-least : FitIsLeast ancestors rows n m
   fit-is-least = record {
     assigns = fit-assigns;
-    totals = unfold fittedTotal in refl;
+    lengths = lengths-total n m ancestors rows;
     least = fit-least;
     ranges = λ v j s p q r l. (
       λ h. occurs-of v j s p q

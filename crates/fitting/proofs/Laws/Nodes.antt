@@ -79,7 +79,7 @@ htus-has (fork v a b) w m = ⊎-elim
     (List·Memᴰ·append-cases (htus a) rest))
     (List·Memᴰ·cases-cons m)
 
--- the first node of a tree
+-- the top node of a tree
 unfoldable pub top : Tree → ℕ
 top (tip v) = v
 top (fork v a b) = v

@@ -10,16 +10,16 @@ use native.Mathlib.Omega.{arith}
 use lib.Dec.{eqb}
 use lib.IntN.{ℤ}
 use borrow.Author.Tests.{eqb-true}
-use Rattle.fitting.specs.Sets.{only}
+use Rattle.fitting.specs.Sets.{Span, only}
 use Rattle.fitting.specs.Trees.{Tree, tip, fork}
-use Rattle.fitting.specs.Character.{valueAt, chosen, ranges}
+use Rattle.fitting.specs.Character.{Table, valueAt, chosen, ranges}
 use Rattle.fitting.specs.Assignments.{character}
 use Rattle.fitting.specs.Fit.{chosenState, range}
 use Rattle.fitting.proofs.Laws.Basic.{Keeps}
-use Rattle.fitting.proofs.Laws.Tables.{valueAt-present}
+use Rattle.fitting.proofs.Laws.Tables.{keys, valueAt-absent, valueAt-present}
 use Rattle.fitting.proofs.Laws.Nodes.{has, htus}
-use Rattle.fitting.proofs.Laws.Downward.{ranges-htus}
-use Rattle.fitting.proofs.Laws.Chosen.{fit, fit-absent}
+use Rattle.fitting.proofs.Laws.Downward.{chosen-htus, ranges-htus}
+use Rattle.fitting.proofs.Laws.Chosen.{fit}
 use Rattle.fitting.proofs.Laws.Shape.{Made, TreeOf}
 
 -- the HTUs of a tree of n taxa are numbered above n
@@ -81,16 +81,48 @@ module _ (n : ℕ) (ancestors : List ℕ) (rows : List (List ℤ)) (treeOf : Tre
   unfolding range
   range-tree v j = rw (treeOf .below) (unfold flatMap in rw (append-nil (ranges (character rows j) (only (character rows j 1)) tree)))
 
-  -- a taxon keeps its code under the chosen states
-  pub chosenState-taxon : (v j : ℕ) → v ≤ n → chosenState ancestors rows n v j ≡ character rows j v
-  chosenState-taxon v j h = chosenState-fit v j
-      ∙ fit-absent (character rows j) (character rows j 1) tree v (λ m. omega (arith, htus-above n ancestors tree (treeOf .isMade) v m))
+  -- a table that names the tree's HTUs gives a taxon no value
+  taxon-absent : {A : Type 0} (otherwise : A) (table : Table A) → keys table ≡ htus tree → (v : ℕ) → v ≤ n →
+      valueAt otherwise table v ≡ otherwise
+  taxon-absent otherwise table e v h =
+      valueAt-absent otherwise table v
+      (λ m. omega (arith, htus-above n ancestors tree (treeOf .isMade) v (subst (λ us. List·Memᴰ v us) e m)))
 
-  -- the range of an HTU is an entry of the table of ranges
-  pub range-entry : (v j : ℕ) → n < v → v ≤ 2 * n - 2 →
-      List·Memᴰ (v, range ancestors rows n v j) (ranges (character rows j) (only (character rows j 1)) tree)
-  range-entry v j p q =
-      rw (range-tree v j)
-      (valueAt-present (only (character rows j v)) (ranges (character rows j) (only (character rows j 1)) tree) v
-      (subst (λ us. List·Memᴰ v us) (sym (ranges-htus (character rows j) (only (character rows j 1)) tree))
-      (above-htus n ancestors tree (treeOf .isMade) v p (treeOf .hasAll v (omega arith) q))))
+  -- and gives each HTU one
+  htu-present : {A : Type 0} (otherwise : A) (table : Table A) → keys table ≡ htus tree → (v : ℕ) → n < v → v ≤ 2 * n - 2 →
+      List·Memᴰ (v, valueAt otherwise table v) table
+  htu-present otherwise table e v p q =
+      valueAt-present otherwise table v
+      (subst (λ us. List·Memᴰ v us) (sym e)
+      (above-htus n ancestors tree (treeOf .isMade) v p (treeOf .hasAll v (omega arith) q)))
+
+  module _ (v j : ℕ) where
+    -- the codes of character j
+    abbrev code : ℕ → ℤ
+    code = character rows j
+
+    -- the chosen states of the tree
+    abbrev states : Table ℤ
+    states = chosen code (code 1) tree
+
+    -- the ranges of the tree
+    abbrev spans : Table Span
+    spans = ranges code (only (code 1)) tree
+
+    -- a taxon keeps its code under the chosen states
+    pub chosenState-taxon : v ≤ n → chosenState ancestors rows n v j ≡ code v
+    unfolding fit
+    chosenState-taxon h = chosenState-fit v j ∙ taxon-absent (code v) states (chosen-htus code (code 1) tree) v h
+
+    -- the range of a taxon is its code alone
+    pub range-taxon : v ≤ n → range ancestors rows n v j ≡ only (code v)
+    range-taxon h = range-tree v j ∙ taxon-absent (only (code v)) spans (ranges-htus code (only (code 1)) tree) v h
+
+    -- the chosen state of an HTU is an entry of the table of chosen states
+    pub chosenState-entry : n < v → v ≤ 2 * n - 2 → List·Memᴰ (v, chosenState ancestors rows n v j) states
+    unfolding fit
+    chosenState-entry p q = rw (chosenState-fit v j) (htu-present (code v) states (chosen-htus code (code 1) tree) v p q)
+
+    -- the range of an HTU is an entry of the table of ranges
+    pub range-entry : n < v → v ≤ 2 * n - 2 → List·Memᴰ (v, range ancestors rows n v j) spans
+    range-entry p q = rw (range-tree v j) (htu-present (only (code v)) spans (ranges-htus code (only (code 1)) tree) v p q)

@@ -1,4 +1,4 @@
--- The range of each HTU of a tree, for one character. All that lies outside the tree is seen from its first node as one set, `outside`.
+-- The range of each HTU of a tree, for one character. `outside` is the set of all nodes that are not in the tree.
 use mathlib.Core.Path.{_≡_, refl, sym, _∙_, ap, subst}
 use mathlib.Core.Logic.{⊎-elim}
 use mathlib.Core.List.{List·Memᴰ, List·Memᴰ·not-nil, List·Memᴰ·cases-cons, List·Memᴰ·append-cases, Memᴰ·map}
@@ -33,7 +33,7 @@ cost-top f y (tip v) = omega arith
 cost-top f y (fork v a b) = refl
 
 module _ (code : ℕ → ℤ) where
-  -- the least cost of a tree together with its first node's distance from what is outside
+  -- the least cost of a tree together with its top node's distance from what is outside
   unfoldable pub leastWith : Span → Tree → ℕ
   leastWith outside t = leastCost code t + gap (up code t) outside
 
@@ -94,7 +94,7 @@ module _ (code : ℕ → ℤ) where
     unfolding costWith top within
     costWith-swap f = omega arith
 
-    -- seen from one descendant, its sister and the outside are one set
+    -- the least cost of a fork, from one descendant's tree: the join of its sister's set and the outside is the descendant's outside
     leastWith-side :
         leastWith outside (fork v a b) ≡ leastWith (join (up code b) outside) a + (leastCost code b + gap (up code b) outside)
     leastWith-side = leastWith-fork outside v a b ∙ unfold leastWith leastSum in
@@ -104,7 +104,7 @@ module _ (code : ℕ → ℤ) where
           gap-comm (up code a) (join (up code b) outside),
         )
 
-    -- an assignment of least cost has least cost seen from that descendant
+    -- an assignment of least cost has least cost in that descendant's tree with its outside
     least-side : (f : ℕ → ℤ) → Keeps code f (fork v a b) → costWith outside f (fork v a b) ≡ leastWith outside (fork v a b) →
         costWith (join (up code b) outside) f a ≡ leastWith (join (up code b) outside) a
     least-side f k e =
@@ -123,7 +123,7 @@ module _ (code : ℕ → ℤ) where
         ))
         (costWith-least j js f a (k .0))
 
-    -- and its first node has a state of its range
+    -- and its top node has a state of its range
     least-own : (f : ℕ → ℤ) → Keeps code f (fork v a b) → costWith outside f (fork v a b) ≡ leastWith outside (fork v a b) →
         In (f v) (middle (up code a) (up code b) outside)
     least-own f k e = least-middle (up code a) (up code b) outside (up-nonempty code a) (up-nonempty code b) nonempty (f v)
@@ -162,7 +162,7 @@ module _ (code : ℕ → ℤ) where
       htus-has t (entry .0) (subst (λ us. List·Memᴰ (entry .0) us) (ranges-htus code outside t) (Memᴰ·map (λ (e : ℕ × Span). e .0) m))
 
   module _ (outside : Span) (nonempty : Nonempty outside) (v : ℕ) (a b : Tree) (parts : Parts v a b) where
-    -- a state of the range of the first node is attained: the chosen states follow from it on both sides
+    -- a state of the range of the top node is attained: the chosen states follow from it on both sides
     attain-own : Distinct a → Distinct b → (s : ℤ) → In s (middle (up code a) (up code b) outside) → Attains outside (fork v a b) v s
     attain-own da db s i = record {
       states = f;
@@ -196,8 +196,8 @@ module _ (code : ℕ → ℤ) where
         right : Agree f (fit code s b) b
         right = combined-right v s a b (fit code s a) (fit code s b) parts
 
-    -- a state attained in one descendant's tree is attained in the whole: the HTU takes the nearest member of what it sees beside that
-    -- descendant, and the chosen states follow from it on the other side
+    -- a state attained in one descendant's tree is attained in the whole: the HTU takes the nearest member of that descendant's
+    -- outside, and the chosen states follow from it on the other side
     attain-side : Distinct b → (w : ℕ) (s : ℤ) → has a w ≡ true → Attains (join (up code b) outside) a w s →
         Attains outside (fork v a b) w s
     attain-side db w s h attains = record {

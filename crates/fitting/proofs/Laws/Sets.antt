@@ -38,7 +38,7 @@ span l h = record { low = l; high = h }
 
 module _ (K : ℕ) where
   -- the set between two places
-  abbrev places : ℕ → ℕ → Span
+  abbrev pub places : ℕ → ℕ → Span
   places l h = span (place K l) (place K h)
 
   -- how far a place lies from such a set
@@ -52,18 +52,26 @@ module _ (K : ℕ) where
   gap-places l h l′ h′ = simp (lower-place, higher-place, apart-place) (omega arith)
 
   -- their join
-  join-places : (l h l′ h′ : ℕ) → join (places l h) (places l′ h′) ≡ places (min (max l l′) (min h h′)) (max (max l l′) (min h h′))
+  pub join-places : (l h l′ h′ : ℕ) → join (places l h) (places l′ h′) ≡ places (min (max l l′) (min h h′)) (max (max l l′) (min h h′))
   unfolding join
   join-places l h l′ h′ = simp (lower-place, higher-place)
 
   -- the member nearest to a place
-  nearest-places : (s l h : ℕ) → nearest (place K s) (places l h) ≡ place K (max l (min s h))
+  pub nearest-places : (s l h : ℕ) → nearest (place K s) (places l h) ≡ place K (max l (min s h))
   unfolding nearest
   nearest-places s l h = simp (lower-place, higher-place)
 
   -- such a set has a member only if its ends are in order
-  nonempty-places : (l h : ℕ) → Nonempty (places l h) → l ≤ h
+  pub nonempty-places : (l h : ℕ) → Nonempty (places l h) → l ≤ h
   nonempty-places l h p = place-le K l h (p .ordered)
+
+  -- a place between the ends of such a set is a member
+  pub in-places : {s l h : ℕ} → l ≤ s → s ≤ h → In (place K s) (places l h)
+  in-places {s} {l} {h} p q = record { fromLow = le-place K l s p; toHigh = le-place K s h q }
+
+  -- and only such a place is
+  pub places-in : (s l h : ℕ) → In (place K s) (places l h) → (l ≤ s) × (s ≤ h)
+  places-in s l h i = (place-le K l s (i .fromLow), place-le K s h (i .toHigh))
 
 -- the join of two sets has a member
 pub join-nonempty : (a b : Span) → Nonempty (join a b)
@@ -81,7 +89,7 @@ pub nearest-in : (s : ℤ) (a : Span) → Nonempty a → In (nearest s a) a
 nearest-in s a = everywhere (λ z. Nonempty (span (z 1) (z 2)) → In (nearest (z 0) (span (z 1) (z 2))) (span (z 1) (z 2)))
     (λ K n p.
     let q = nonempty-places K (n 1) (n 2) p in
-    rw (nearest-places K (n 0) (n 1) (n 2)) (record { fromLow = le-place K _ _ (omega arith); toHigh = le-place K _ _ (omega arith) }))
+    rw (nearest-places K (n 0) (n 1) (n 2)) (in-places K (omega arith) (omega arith)))
     (s ∷ a .low ∷ a .high ∷ [])
 
 -- from a state to a set it is at most as far as over another state
@@ -146,10 +154,9 @@ offset-in-join s a b = everywhere
     let p′ = nonempty-places K (n 1) (n 2) p in
     let q′ = nonempty-places K (n 3) (n 4) q in
     let r′ = rw (join-places K (n 1) (n 2) (n 3) (n 4)) at r in
-    let l = place-le K _ _ (r′ .fromLow) in
-    let h = place-le K _ _ (r′ .toHigh) in
+    let i = places-in K (n 0) _ _ r′ in
     rw (gap-places K (n 1) (n 2) (n 3) (n 4), offset-places K (n 0) (n 1) (n 2) p′, offset-places K (n 0) (n 3) (n 4) q′)
-    (in-join (n 0) (n 1) (n 2) (n 3) (n 4) p′ q′ l h))
+    (in-join (n 0) (n 1) (n 2) (n 3) (n 4) p′ q′ (i .0) (i .1)))
     (s ∷ a .low ∷ a .high ∷ b .low ∷ b .high ∷ [])
 
 -- the member of a set nearest to another set's low end is as far from that set as the two sets are

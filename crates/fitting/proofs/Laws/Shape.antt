@@ -120,7 +120,7 @@ cost-sumTree n ancestors f y (fork v a b) m e =
       cost-sumTree n ancestors f (f v) b (m .5) (ap f (m .3)),
     )
 
--- the first node of the tree of node v is v
+-- the top node of the tree of node v is v
 top-above : (v : ℕ) (ts : List Tree) → top (above v ts) ≡ v
 unfolding top above
 top-above v [] = refl
@@ -205,7 +205,7 @@ module _ (n : ℕ) (ancestors : List ℕ) (grown : Grown n n ancestors) where
   unfolding treeAt above
   treeTo-htu depth u two = ap (λ us. above u (map (treeTo depth) us)) (two .are)
 
-  -- the first node of a descendant's tree has the HTU as its ancestor
+  -- the top node of a descendant's tree has the HTU as its ancestor
   top-descends : (depth u a : ℕ) → Descends u a → ancestor ancestors (top (treeTo depth a)) ≡ u
   top-descends depth u a d = ap (ancestor ancestors) (top-treeAt ancestors (otherNodes n) depth a) ∙ d .from
 

@@ -18,13 +18,13 @@ use Rattle.fitting.specs.Assignments.{total}
 use Rattle.fitting.specs.Fit.{chosenState, fittedTotal}
 use Rattle.fitting.specs.Rival.{FitIsLeast}
 use Rattle.fitting.proofs.Laws.Shape.{tree-of}
-use Rattle.fitting.proofs.Laws.Matrix.{fit-is-least}
+use Rattle.fitting.proofs.Laws.Matrix.{lengths-total, fit-is-least}
 
 -- row 1 alone: no branch, no HTU, and a total of 0
 alone : (m : ℕ) (ancestors : List ℕ) (rows : List (List ℤ)) → FitIsLeast ancestors rows 1 m
 alone m ancestors rows = record {
   assigns = record { keeps = λ v j p q r s. unfold chosenState treesBelow otherNodes numbers descendants flatMap valueAt in refl };
-  totals = unfold fittedTotal in refl;
+  lengths = lengths-total 1 m ancestors rows;
   least = λ states h. unfold fittedTotal total otherNodes numbers sumOver in omega arith;
   ranges = λ v j s p q r l. absurd (omega arith);
 }

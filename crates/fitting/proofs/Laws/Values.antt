@@ -1,44 +1,27 @@
--- Fitting makes no new values: what holds of every code of a character holds of every end of a set, chosen state and end of a range.
-use mathlib.Core.Path.{refl, sym, subst}
+-- Fitting makes no new values: what holds of the codes of the n taxa of a branching in one character holds of both ends of every set, of
+-- the chosen state of every node and of both ends of its range.
+use mathlib.Core.Path.{sym, subst}
 use mathlib.Core.Logic.{⊎-elim}
-use mathlib.Core.List.{List, [], _∷_, flatMap, List·Memᴰ, List·Memᴰ·head, List·Memᴰ·tail, List·Memᴰ·not-nil, List·Memᴰ·cases-cons}
+use mathlib.Core.List.{List, [], _∷_, List·Memᴰ, List·Memᴰ·not-nil, List·Memᴰ·cases-cons}
 use mathlib.Core.List.{List·Memᴰ·append-cases}
 use mathlib.Core.Bool.{Bool, true, false, cond}
-use Prim.Native.Nat.{ℕ, zero, suc, _<_}
+use Prim.Native.Nat.{ℕ, zero, suc, _*_, _-_, _≤_, _<_}
 use native.Mathlib.Omega.{arith}
-use lib.Dec.{eqb}
 use lib.IntN.{ℤ, pos}
 use lib.ListN.{length, getD}
 use lib.Signed.{leZ}
 use Rattle.difference.specs.Rows.{lower}
 use Rattle.difference.proofs.Laws.Order.{lower-keeps, higher-keeps}
+use Rattle.branching.specs.Growing.{Grown}
 use Rattle.fitting.specs.Sets.{Span, only, join, nearest, insert, inOrder, ends, middle}
-use Rattle.fitting.specs.Trees.{Tree, tip, fork, treesBelow}
-use Rattle.fitting.specs.Character.{Table, valueAt, up, chosen, ranges}
+use Rattle.fitting.specs.Trees.{Tree, tip, fork}
+use Rattle.fitting.specs.Character.{up, chosen, ranges}
 use Rattle.fitting.specs.Assignments.{character}
 use Rattle.fitting.specs.Fit.{chosenState, range}
+use Rattle.fitting.proofs.Laws.Ends.{either}
 use Rattle.fitting.proofs.Laws.Order.{length-inOrder}
-
--- what holds of a table's values, and of what stands in for a missing one, holds of a look-up
-valueAt-each : {A : Type 0} (Q : A → Type 0) (otherwise : A) (table : Table A) (w : ℕ) → Q otherwise →
-    ((entry : ℕ × A) → List·Memᴰ entry table → Q (entry .1)) → Q (valueAt otherwise table w)
-unfolding valueAt
-valueAt-each Q otherwise [] w p h = p
-valueAt-each Q otherwise (entry ∷ table) w p h =
-    go (eqb (entry .0) w) (valueAt-each Q otherwise table w p (λ e m. h e (List·Memᴰ·tail m)))
-  where
-    go : (t : Bool) → Q (valueAt otherwise table w) → Q (cond t (entry .1) (valueAt otherwise table w))
-    go true later = h entry (List·Memᴰ·head refl)
-    go false later = later
-
--- what holds of the values of several trees' tables holds of all of them
-flatMap-each : {A : Type 0} (Q : A → Type 0) (table : Tree → Table A) (ts : List Tree) →
-    ((t : Tree) (entry : ℕ × A) → List·Memᴰ entry (table t) → Q (entry .1)) →
-    (entry : ℕ × A) → List·Memᴰ entry (flatMap table ts) → Q (entry .1)
-unfolding flatMap
-flatMap-each Q table [] h entry m = absurd (List·Memᴰ·not-nil m)
-flatMap-each Q table (t ∷ ts) h entry m =
-    ⊎-elim (h t entry) (flatMap-each Q table ts h entry) (List·Memᴰ·append-cases (table t) m)
+use Rattle.fitting.proofs.Laws.Shape.{Made, TreeOf, tree-of}
+use Rattle.fitting.proofs.Laws.OneTree.{chosenState-taxon, range-taxon, chosenState-entry, range-entry}
 
 module _ (P : ℤ → Type 0) where
   -- of both ends of a set
@@ -96,54 +79,71 @@ module _ (P : ℤ → Type 0) where
         atHigh = getD-each (inOrder (ends a b c)) 3 all (omega (arith, length-inOrder (ends a b c)));
       }
 
-  module _ (code : ℕ → ℤ) (each : (v : ℕ) → P (code v)) where
+  module _ (n : ℕ) (ancestors : List ℕ) (code : ℕ → ℤ) (each : (u : ℕ) → 1 ≤ u → u ≤ n → P (code u)) where
     -- of a taxon's set
-    only-each : (v : ℕ) → Each (only (code v))
+    only-each : (u : ℕ) → 1 ≤ u → u ≤ n → Each (only (code u))
     unfolding only
-    only-each v = record { atLow = each v; atHigh = each v }
+    only-each u p q = record { atLow = each u p q; atHigh = each u p q }
 
     -- of the set of a tree
-    pub up-each : (t : Tree) → Each (up code t)
+    pub up-each : (t : Tree) → Made n ancestors t → Each (up code t)
     unfolding up
-    up-each (tip v) = only-each v
-    up-each (fork v a b) = join-each (up code a) (up code b) (up-each a) (up-each b)
+    up-each (tip v) made = only-each v (omega arith) (made .1)
+    up-each (fork v a b) made = join-each (up code a) (up code b) (up-each a (made .4)) (up-each b (made .5))
 
-    -- of the chosen states
-    chosen-each : (y : ℤ) → P y → (t : Tree) (entry : ℕ × ℤ) → List·Memᴰ entry (chosen code y t) → P (entry .1)
-    unfolding chosen
-    chosen-each y p (tip v) entry m = absurd (List·Memᴰ·not-nil m)
-    chosen-each y p (fork v a b) entry m =
+    -- of the chosen states of a tree
+    chosen-each : (y : ℤ) → P y → (t : Tree) → Made n ancestors t → (entry : ℕ × ℤ) → List·Memᴰ entry (chosen code y t) → P (entry .1)
+    unfolding chosen up
+    chosen-each y p (tip v) made entry m = absurd (List·Memᴰ·not-nil m)
+    chosen-each y p (fork v a b) made entry m =
         let s = nearest y (join (up code a) (up code b)) in
-        let q = nearest-each y (join (up code a) (up code b)) p (join-each (up code a) (up code b) (up-each a) (up-each b)) in
+        let q = nearest-each y (join (up code a) (up code b)) p (up-each (fork v a b) made) in
         ⊎-elim
         (λ e. subst (λ (x : ℕ × ℤ). P (x .1)) (sym e) q)
-        (λ rest. ⊎-elim (chosen-each s q a entry) (chosen-each s q b entry) (List·Memᴰ·append-cases (chosen code s a) rest))
+        (λ rest. ⊎-elim (chosen-each s q a (made .4) entry) (chosen-each s q b (made .5) entry)
+        (List·Memᴰ·append-cases (chosen code s a) rest))
         (List·Memᴰ·cases-cons m)
 
-    -- of the ranges
-    ranges-each : (outside : Span) → Each outside → (t : Tree) (entry : ℕ × Span) → List·Memᴰ entry (ranges code outside t) →
-        Each (entry .1)
+    -- of the ranges of a tree
+    ranges-each : (outside : Span) → Each outside → (t : Tree) → Made n ancestors t → (entry : ℕ × Span) →
+        List·Memᴰ entry (ranges code outside t) → Each (entry .1)
     unfolding ranges
-    ranges-each outside p (tip v) entry m = absurd (List·Memᴰ·not-nil m)
-    ranges-each outside p (fork v a b) entry m = ⊎-elim
-        (λ e. subst (λ (x : ℕ × Span). Each (x .1)) (sym e) (middle-each (up code a) (up code b) outside (up-each a) (up-each b) p))
+    ranges-each outside p (tip v) made entry m = absurd (List·Memᴰ·not-nil m)
+    ranges-each outside p (fork v a b) made entry m =
+        let q = up-each a (made .4) in
+        let r = up-each b (made .5) in
+        ⊎-elim
+        (λ e. subst (λ (x : ℕ × Span). Each (x .1)) (sym e) (middle-each (up code a) (up code b) outside q r p))
         (λ rest. ⊎-elim
-        (ranges-each (join (up code b) outside) (join-each (up code b) outside (up-each b) p) a entry)
-        (ranges-each (join (up code a) outside) (join-each (up code a) outside (up-each a) p) b entry)
+        (ranges-each (join (up code b) outside) (join-each (up code b) outside r p) a (made .4) entry)
+        (ranges-each (join (up code a) outside) (join-each (up code a) outside q p) b (made .5) entry)
         (List·Memᴰ·append-cases (ranges code (join (up code b) outside) a) rest))
         (List·Memᴰ·cases-cons m)
 
-  module _ (ancestors : List ℕ) (rows : List (List ℤ)) (n v j : ℕ) (each : (u : ℕ) → P (character rows j u)) where
-    -- of a chosen state
-    pub chosenState-each : P (chosenState ancestors rows n v j)
-    unfolding chosenState
-    chosenState-each = valueAt-each P (character rows j v) _ v (each v)
-        (flatMap-each P (λ tree. chosen (character rows j) (character rows j 1) tree) (treesBelow ancestors n)
-        (λ t. chosen-each (character rows j) each (character rows j 1) (each 1) t))
+  module _ (n : ℕ) (ancestors : List ℕ) (grown : Grown n n ancestors) (rows : List (List ℤ)) (j : ℕ)
+      (each : (u : ℕ) → 1 ≤ u → u ≤ n → P (character rows j u)) (v : ℕ) (first : 1 ≤ v) (last : v ≤ 2 * n - 2) where
+    -- the codes of character j
+    abbrev code : ℕ → ℤ
+    code = character rows j
 
-    -- and of both ends of a range
+    -- the tree of the branching
+    abbrev treeOf : TreeOf n ancestors
+    treeOf = tree-of n ancestors grown
+
+    -- row 1 is one of the taxa
+    one-taxon : 1 ≤ n
+    one-taxon = omega (arith, grown .atLeastTwo)
+
+    -- of the chosen state of each node of a branching
+    pub chosenState-each : P (chosenState ancestors rows n v j)
+    chosenState-each = either v n
+        (λ l. rw (chosenState-taxon n ancestors rows treeOf v j l) (each v first l))
+        (λ l. chosen-each n ancestors code each (code 1) (each 1 (omega arith) one-taxon) (treeOf .tree) (treeOf .isMade)
+        (v, chosenState ancestors rows n v j) (chosenState-entry n ancestors rows treeOf v j l last))
+
+    -- and of both ends of its range
     pub range-each : Each (range ancestors rows n v j)
-    unfolding range
-    range-each = valueAt-each Each (only (character rows j v)) _ v (only-each (character rows j) each v)
-        (flatMap-each Each (λ tree. ranges (character rows j) (only (character rows j 1)) tree) (treesBelow ancestors n)
-        (λ t. ranges-each (character rows j) each (only (character rows j 1)) (only-each (character rows j) each 1) t))
+    range-each = either v n
+        (λ l. rw (range-taxon n ancestors rows treeOf v j l) (only-each n ancestors code each v first l))
+        (λ l. ranges-each n ancestors code each (only (code 1)) (only-each n ancestors code each 1 (omega arith) one-taxon)
+        (treeOf .tree) (treeOf .isMade) (v, range ancestors rows n v j) (range-entry n ancestors rows treeOf v j l last))
