@@ -2,11 +2,12 @@
 use mathlib.Core.Path.{_≡_, refl, sym, ap, _∙_}
 use mathlib.Core.List.{List, [], _∷_}
 use mathlib.Core.Bool.{Bool, true, false, _&&_, false≢true}
-use Prim.Native.Nat.{ℕ, zero, suc, _≤_}
+use Prim.Native.Nat.{ℕ, zero, suc, _≤_, _<_}
 use native.Mathlib.Omega.{arith}
 use lib.Dec.{leb, eqb}
 use lib.IntN.{ℤ, pos, negsuc, negℤ}
-use borrow.Author.Tests.{le-leb, leb-true, ne-eqb, eqb-true}
+use lib.ListN.{length, getD, drop}
+use borrow.Author.Tests.{le-leb, leb-true, ne-eqb, eq-eqb, eqb-true}
 use Rattle.matrix.specs.Shape.{inRange}
 use Rattle.matrix.specs.Every.{every}
 use Rattle.matrix_file.specs.Bytes.{minus, isDigit}
@@ -91,3 +92,30 @@ decimal-of-code (byte ∷ bytes) e = by (eqb byte minus) refl
     by false other =
         let form : numberForm (byte ∷ bytes) ≡ true = rw other at e in
         ap decimal (plain-code byte bytes other) ∙ decimal-plain (numberOf (byte ∷ bytes)) ∙ digits-of-number (byte ∷ bytes) form
+
+-- a text that begins with another byte than a minus: its form and its code are those of a number
+pub code-form-plain : (text : List ℕ) → 0 < length text → (getD text 0 0 ≡ minus → ⊥) → codeForm text ≡ numberForm text
+code-form-plain [] h other = absurd (omega arith)
+code-form-plain (byte ∷ bytes) h other = plain-form byte bytes (ne-eqb byte minus other)
+
+pub code-plain : (text : List ℕ) → 0 < length text → (getD text 0 0 ≡ minus → ⊥) → codeOf text ≡ pos (numberOf text)
+code-plain [] h other = absurd (omega arith)
+code-plain (byte ∷ bytes) h other = plain-code byte bytes (ne-eqb byte minus other)
+
+-- a text that begins with a minus: a number stands behind it, and it is not `0`
+pub code-form-minus : (text : List ℕ) → 0 < length text → getD text 0 0 ≡ minus
+    → codeForm text ≡ numberForm (drop 1 text) && leb 1 (numberOf (drop 1 text))
+unfolding codeForm
+code-form-minus [] h same = absurd (omega arith)
+code-form-minus (byte ∷ bytes) h same = rw (eq-eqb byte minus same)
+
+pub code-minus : (text : List ℕ) → 0 < length text → getD text 0 0 ≡ minus → codeOf text ≡ negℤ (pos (numberOf (drop 1 text)))
+unfolding codeOf
+code-minus [] h same = absurd (omega arith)
+code-minus (byte ∷ bytes) h same = rw (eq-eqb byte minus same)
+
+-- a text of a code's form is not empty
+pub code-form-some : (text : List ℕ) → codeForm text ≡ true → 0 < length text
+unfolding codeForm
+code-form-some [] e = absurd (false≢true e)
+code-form-some (byte ∷ bytes) e = omega arith

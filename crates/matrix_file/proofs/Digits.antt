@@ -1,12 +1,14 @@
 -- Numbers in decimal: what is written is read back, and what is read is written back.
 use mathlib.Core.Path.{_≡_, refl, sym, ap, ap₂, _∙_}
 use mathlib.Core.List.{List, [], _∷_, _++_, append-nil, append-assoc}
-use mathlib.Core.Bool.{Bool, true, false, _&&_, false≢true}
+use mathlib.Core.Bool.{Bool, true, false, _&&_, not, false≢true}
 use Prim.Native.Nat.{ℕ, zero, suc, _+_, _-_, _*_, _/_, _%_, _^_, _≤_, _<_}
-use native.Mathlib.Nat.{div-lt-iff-lt-mul, pow-suc}
+use native.Mathlib.Nat.{div-lt-iff-lt-mul, pow-suc, pow-le-pow-right, lt-of-lt-of-le}
+use native.Mathlib.Numerals.{add-one}
 use native.Mathlib.Omega.{arith}
 use lib.Dec.{leb, ltb, eqb}
-use lib.ListN.{length, length-append}
+use lib.ListN.{length, getD, drop, length-append}
+use lib.Seq.{drop-cons}
 use borrow.Author.Tests.{ltb-true, ltb-false, lt-ltb, le-ltb, le-leb, leb-true, ne-eqb, eqb-false, not-true}
 use Rattle.matrix.specs.Every.{every}
 use Rattle.matrix_file.specs.Bytes.{isDigit}
@@ -214,3 +216,36 @@ digits-of-number (digit ∷ next ∷ digits) e =
     digits-behind (0 * 10 + (digit - zeroDigit)) (next ∷ digits) (omega arith) (every-tail isDigit digit (next ∷ digits) shape)
     ∙ ap (λ front. front ++ next ∷ digits) (digits-one (0 * 10 + (digit - zeroDigit)) (omega arith))
     ∙ ap (λ first. first ∷ next ∷ digits) (omega arith)
+
+-- a text of the right form has at most 6 digits
+pub form-short : (text : List ℕ) → numberForm text ≡ true → length text ≤ 6
+unfolding numberForm
+form-short text e =
+    leb-true (length text) 6 (and-right (leb 1 (length text)) _ (and-left (leb 1 (length text) && leb (length text) 6) _ e))
+
+-- one digit alone is no leading zero; of several the first must not be `0`
+pub leading-one : (text : List ℕ) → length text ≡ 1 → noLeadingZero text ≡ true
+unfolding noLeadingZero
+leading-one [] h = refl
+leading-one (digit ∷ []) h = refl
+leading-one (digit ∷ next ∷ digits) h = absurd (omega arith)
+
+pub leading-more : (text : List ℕ) → 1 ≤ length text → (length text ≡ 1 → ⊥) → noLeadingZero text ≡ not (eqb (getD text 0 0) zeroDigit)
+unfolding noLeadingZero
+leading-more [] h more = absurd (omega arith)
+leading-more (digit ∷ []) h more = absurd (more refl)
+leading-more (digit ∷ next ∷ digits) h more = refl
+
+-- a digit more behind i digits
+pub number-more-small : (number digit i : ℕ) → number < 10 ^ i → digit ≤ 57 → number * 10 + (digit - zeroDigit) < 10 ^ (i + 1)
+number-more-small number digit i h d = rw (add-one, pow-suc) (omega arith)
+
+-- at most 6 digits say a number below a million
+pub number-small : (number i : ℕ) → number < 10 ^ i → i ≤ 6 → number < 1000000
+number-small number i h k = lt-of-lt-of-le h (pow-le-pow-right {n = 10} (omega arith) k)
+
+-- the digits from place i on, behind others
+pub number-at : (before : ℕ) (text : List ℕ) (i : ℕ) → i < length text
+    → numberFrom before (drop i text) ≡ numberFrom (before * 10 + (getD text i 0 - zeroDigit)) (drop (i + 1) text)
+unfolding numberFrom
+number-at before text i h = rw (add-one, drop-cons text i 0 h)

@@ -1,6 +1,6 @@
 -- Document 01's example file and its further edges, read; and one refusal of each number 1 to 11 with its line.
 use mathlib.Core.Path.{_≡_, refl}
-use mathlib.Core.List.{List, [], _∷_, map, zipWith}
+use mathlib.Core.List.{List, [], _∷_, _++_, map, zipWith}
 use Prim.Native.Nat.{ℕ}
 use Prim.Native.String.{String}
 use lib.IntN.{ℤ, pos, negsuc}
@@ -10,13 +10,17 @@ use Rattle.matrix.specs.Questions.{oneTo, withinLimits}
 use Rattle.matrix.specs.Choice.{numbers}
 use Rattle.matrix.specs.Refusals.{refusalNumber}
 use Rattle.matrix.specs.Every.{every}
+use Rattle.matrix.specs.declared.refusal.Refusal.the-variants.{ListSize}
+use Rattle.matrix_file.specs.declared.answer.Read.the-variants.{Refused}
 use Rattle.matrix_file.specs.Bytes.{isDigit, isLetter, sameText, partsAt, joinedBy}
 use Rattle.matrix_file.specs.Decimal.{digitsIn, digitsOf, decimal, noLeadingZero, numberForm, numberFrom, numberOf, codeForm, codeOf}
 use Rattle.matrix_file.specs.Job.{Job, inName, nameForm, differsFromAll, firstText, rowText, ended, fileOf, padded}
 use Rattle.matrix_file.specs.Reading.{rowLine, linesOf, fieldsOf, firstFields, taxaIn, charactersIn, nameIn, codesIn, rowsOn, jobIn}
 use Rattle.matrix_file.specs.Reading.{firstForm, firstLineForm, askCodes, askRow, nothingMore, askRows, askFile, ReadAnswer, accepted}
 use Rattle.matrix_file.specs.Reading.{refused, readAnswer}
+use Rattle.matrix_file.specs.Report.{fullSize, readReport}
 use Rattle.matrix_file.specs.Text.{bytes}
+use Rattle.matrix_file.specs.Written.{overFront, matrixWritten}
 
 -- what an answer gives back: the job of an accepted file, or the refusal's number and line
 data Shown : Type 0 where
@@ -129,3 +133,14 @@ long-number = refl
 padded-name : padded (97 ∷ 98 ∷ []) ≡ 97 ∷ 98 ∷ replicate 14 0
 unfolding padded
 padded-name = refl
+
+-- rows written into a matrix: each over the front of its 128 codes, and all else as before
+two-rows : matrixWritten ((pos 1 ∷ pos 2 ∷ []) ∷ (pos 3 ∷ []) ∷ []) (replicate 131 (pos 9))
+    ≡ pos 1 ∷ pos 2 ∷ replicate 126 (pos 9) ++ pos 3 ∷ replicate 2 (pos 9)
+unfolding matrixWritten overFront
+two-rows = refl
+
+-- a read into a list that has not its full size is 12, with line 0
+not-full : readReport [] (replicate 16128 (pos 0)) (replicate 1023 0) ≡ Refused ListSize 0
+unfolding readReport fullSize
+not-full = refl

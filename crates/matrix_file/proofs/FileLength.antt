@@ -32,7 +32,7 @@ code-length (negsuc n) e =
     omega arith
 
 -- a name has at most 16 bytes
-name-length : (name : List ℕ) → nameForm name ≡ true → length name ≤ 16
+pub name-length : (name : List ℕ) → nameForm name ≡ true → length name ≤ 16
 unfolding nameForm
 name-length [] e = absurd (false≢true e)
 name-length (byte ∷ bytes) e =

@@ -49,7 +49,7 @@ lines-split file = rw (parts-some lineFeed file .2)
 
 module _ (file : List ℕ) (e : askFile file ≡ filePassed) where
   -- what a file that passes was answered
-  file-answers :
+  pub file-answers :
       (length file ≤ mostBytes) × (firstLineForm (linesOf file) ≡ true) × (withinLimits (taxaIn file) (charactersIn file) ≡ true)
       × (askRows (charactersIn file) [] 1 (taxaIn file) (rowsOn file) ≡ filePassed)
   unfolding askFile
@@ -62,7 +62,7 @@ module _ (file : List ℕ) (e : askFile file ≡ filePassed) where
       (leb-true (length file) mostBytes (short .0), form .0, limits .0, first .1)
 
   -- its rows
-  rows-said : RowsRead (charactersIn file) [] (taxaIn file) (rowsOn file)
+  pub rows-said : RowsRead (charactersIn file) [] (taxaIn file) (rowsOn file)
   rows-said = rows-read (charactersIn file) [] 1 (taxaIn file) (rowsOn file) (file-answers .3)
 
   -- the job that it says is within the limits

@@ -1,4 +1,5 @@
--- Laws of reading a matrix file. `Accepted` has the law that joins the file of a job and the questions.
+-- Laws of reading a matrix file. `Accepted` has the law that joins the file of a job and the questions; `ReadLists` says what the lent
+-- lists hold after a read.
 pub mod Parts
 pub mod Digits
 pub mod Codes
@@ -12,4 +13,14 @@ pub mod PassedRows
 pub mod ReadOfFile
 pub mod FileOfRead
 pub mod Accepted
+pub mod FirstPart
+pub mod PartsFrom
+pub mod Fields
+pub mod RowsWalk
+pub mod FileWalk
+pub mod AcceptedRows
+pub mod LinesWalk
+pub mod Overwriting
+pub mod WrittenLines
+pub mod ReadLists
 pub mod Examples

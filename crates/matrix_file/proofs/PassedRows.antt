@@ -42,7 +42,7 @@ fields-split line = rw (parts-some tab line .2)
 
 -- a row that passes was answered "yes" four times
 module _ (m : ℕ) (earlier : List (List ℕ)) (line : List ℕ) (e : askRow m earlier line ≡ Passed) where
-  row-answers :
+  pub row-answers :
       (length (fieldsOf line) ≡ suc m) × (nameForm (nameIn line) ≡ true) × (differsFromAll (nameIn line) earlier ≡ true)
       × (askCodes (drop 1 (fieldsOf line)) ≡ Passed)
   unfolding askRow

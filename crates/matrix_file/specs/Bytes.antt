@@ -1,8 +1,9 @@
 -- Bytes of ASCII, and bytes parted at a separator. A byte is a number, a text is a list of bytes.
 use mathlib.Core.List.{List, [], _∷_, _++_}
-use mathlib.Core.Bool.{Bool, true, false, _&&_, _||_}
-use Prim.Native.Nat.{ℕ}
+use mathlib.Core.Bool.{Bool, true, false, _&&_, _||_, cond}
+use Prim.Native.Nat.{ℕ, suc}
 use lib.Dec.{leb, eqb}
+use lib.ListN.{take, drop}
 
 -- tab, line feed, `-` and `_`
 abbrev pub tab : ℕ
@@ -47,6 +48,19 @@ partsAt separator [] = [] ∷ []
 partsAt separator (byte ∷ bytes) =
     let rest = partsAt separator bytes in
     elim (eqb byte separator) [ true ↦ [] ∷ rest | false ↦ beforeFirst byte rest ]
+
+-- the length of a text's first part: the place of the first separator, or the text's length where there is none
+unfoldable pub partLength : ℕ → List ℕ → ℕ
+partLength separator [] = 0
+partLength separator (byte ∷ bytes) = cond (eqb byte separator) 0 (suc (partLength separator bytes))
+
+-- the first part of a text
+unfoldable pub firstPart : ℕ → List ℕ → List ℕ
+firstPart separator text = take (partLength separator text) text
+
+-- what stands behind the first separator of a text: nothing where there is none
+unfoldable pub behindPart : ℕ → List ℕ → List ℕ
+behindPart separator text = drop (suc (partLength separator text)) text
 
 -- parts put together, with one separator between two of them
 unfoldable pub joinedBy : ℕ → List (List ℕ) → List ℕ

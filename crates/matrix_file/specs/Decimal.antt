@@ -1,7 +1,8 @@
 -- Whole numbers in decimal: how they are written, which form is right, and what number a text of that form says.
 use mathlib.Core.List.{List, [], _∷_, _++_}
 use mathlib.Core.Bool.{Bool, true, false, _&&_, not, cond}
-use Prim.Native.Nat.{ℕ, zero, suc, _+_, _-_, _*_, _/_, _%_}
+use mathlib.Core.Path.{_≡_}
+use Prim.Native.Nat.{ℕ, zero, suc, _+_, _-_, _*_, _/_, _%_, _<_}
 use lib.Dec.{leb, ltb, eqb}
 use lib.IntN.{ℤ, pos, negsuc, negℤ}
 use lib.ListN.{length}
@@ -64,3 +65,8 @@ unfoldable pub codeOf : List ℕ → ℤ
 codeOf [] = pos 0
 codeOf (byte ∷ bytes) =
     cond (eqb byte minus) (negℤ (pos (numberOf bytes))) (pos (numberOf (byte ∷ bytes)))
+
+-- r is the number that digits say, and below a million
+pub record NumberSaid (digits : List ℕ) (r : ℕ) : Type 0 where
+  pub is : r ≡ numberOf digits
+  pub small : r < 1000000

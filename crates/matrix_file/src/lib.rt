@@ -1,1 +1,13 @@
 // Reading a matrix file.
+pub mod answer;
+mod bytes;
+mod judging;
+mod numbers;
+pub mod reading;
+mod writing;
+
+// A name takes 16 bytes of the lent list.
+pub const NAME_SIZE: usize = 16;
+
+// The lent list has 64 names.
+pub const NAMES_SIZE: usize = 1024;

@@ -1,0 +1,70 @@
+-- `matrix_file::bytes::part_length` meets its contract. The loop's invariant: the first part is the bytes passed and what it has of the
+-- rest. Assumes nothing.
+-- rest. Assumes nothing.
+-- rest. Assumes nothing.
+-- rest. Assumes nothing.
+use mathlib.Core.Path.{_≡_}
+use mathlib.Core.List.{List}
+use Prim.Native.Nat.{ℕ, _+_, _-_, _≤_, _<_}
+use native.Mathlib.Omega.{arith}
+use borrow.Author.Needs.{needs}
+use lib.ListN.{length, getD, drop}
+use Rattle.matrix_file.specs.Bytes.{partLength}
+use Rattle.matrix_file.proofs.FirstPart.{part-here, part-on, part-past}
+use Rattle.matrix_file.proofs.bytes.part_length.Statement.{statement}
+use Rattle.matrix_file.proofs.bytes.part_length.Tie as tie
+
+-- what a loop over a text knows at place i: the first part is the i bytes passed and what it has of the rest
+module _ (s : ℕ) (text : List ℕ) (i : ℕ) (inv : partLength s text ≡ i + partLength s (drop i text)) where
+  -- at a separator it ends
+  found : i < length text → getD text i 0 ≡ s → i ≡ partLength s text
+  found h e = omega (arith, part-here s text i h e)
+
+  -- at any other byte it goes on
+  goes-on : i < length text → (getD text i 0 ≡ s → ⊥) → partLength s text ≡ i + 1 + partLength s (drop (i + 1) text)
+  goes-on h e = omega (arith, part-on s text i h e)
+
+  -- at the end of the text it ends
+  at-end : i ≤ length text → length text ≤ i → i ≡ partLength s text
+  at-end low h = omega (arith, part-past s text i h)
+
+abbrev Inv-loop : tie.InvT-loop
+Inv-loop text separator i₀ i = (i ≤ length text) × (partLength separator text ≡ i + partLength separator (drop i text))
+
+abbrev μ-loop : tie.MeasureT-loop
+μ-loop text separator i₀ i = length text - i
+
+loop-holds : tie.Need-loop-holds Inv-loop μ-loop
+loop-holds c = search needs
+
+shared-slice-read-if1 : tie.Need-shared-slice-read-if1 Inv-loop μ-loop
+shared-slice-read-if1 c = search needs
+
+returns : tie.Need-returns Inv-loop μ-loop
+returns c = found _ _ _ (c .before .before .before .loop .inv .1) (c .before .before .loop-test .taken) (c .if1 .taken)
+
+add-i : tie.Need-add-i Inv-loop μ-loop
+add-i c = search needs
+
+loop-less : tie.Need-loop-less Inv-loop μ-loop
+loop-less c = search needs
+
+loop-again : tie.Need-loop-again Inv-loop μ-loop
+loop-again c = (omega arith, goes-on _ _ _ (c .before .before .before .loop .inv .1) (c .before .before .loop-test .taken) (c .if1 .left))
+
+returns-2 : tie.Need-returns-2 Inv-loop μ-loop
+returns-2 c = at-end _ _ _ (c .before .loop .inv .1) (c .before .loop .inv .0) (c .loop-test .left)
+
+pub part-length-spec : {M : Type 1} → statement M
+part-length-spec =
+    tie.close
+    (tie.spec
+    Inv-loop
+    μ-loop
+    loop-holds
+    shared-slice-read-if1
+    returns
+    add-i
+    loop-less
+    loop-again
+    returns-2)

@@ -1,0 +1,62 @@
+-- `matrix_file::numbers::all_digits` meets its contract. The loop's invariant: the bytes that are left decide. Assumes nothing.
+use mathlib.Core.Path.{_≡_}
+use Prim.Native.Nat.{_-_, _≤_}
+use native.Mathlib.Omega.{arith}
+use borrow.Author.Needs.{needs}
+use lib.ListN.{length, drop}
+use Rattle.matrix_file.specs.Bytes.{isDigit}
+use Rattle.matrix.specs.Every.{every}
+use Rattle.matrix.proofs.Every.{every-fails, every-goes-on, every-passes}
+use Rattle.matrix_file.proofs.numbers.all_digits.Statement.{statement}
+use Rattle.matrix_file.proofs.numbers.all_digits.Tie as tie
+
+abbrev Inv-loop : tie.InvT-loop
+Inv-loop text i₀ i = (i ≤ length text) × (every isDigit text ≡ every isDigit (drop i text))
+
+abbrev μ-loop : tie.MeasureT-loop
+μ-loop text i₀ i = length text - i
+
+loop-holds : tie.Need-loop-holds Inv-loop μ-loop
+loop-holds c = search needs
+
+shared-slice-read-is-digit : tie.Need-shared-slice-read-is-digit Inv-loop μ-loop
+shared-slice-read-is-digit c = search needs
+
+is-digit-requires : tie.Need-is-digit-requires Inv-loop μ-loop
+is-digit-requires c κs = search needs
+
+returns : tie.Need-returns Inv-loop μ-loop
+returns c =
+    every-fails isDigit 0 _ _ (c .before .before .before .before .loop .inv .1) (c .before .before .before .loop-test .taken)
+    (c .before .is-digit .ensures) (c .if1 .taken)
+
+add-i : tie.Need-add-i Inv-loop μ-loop
+add-i c = search needs
+
+loop-less : tie.Need-loop-less Inv-loop μ-loop
+loop-less c = search needs
+
+loop-again : tie.Need-loop-again Inv-loop μ-loop
+loop-again c = (
+  omega arith,
+  every-goes-on isDigit 0 _ _ (c .before .before .before .before .loop .inv .1) (c .before .before .before .loop-test .taken)
+      (c .before .is-digit .ensures) (c .if1 .left),
+)
+
+returns-2 : tie.Need-returns-2 Inv-loop μ-loop
+returns-2 c = every-passes isDigit 0 _ _ (c .before .loop .inv .1) (c .loop-test .left)
+
+pub all-digits-spec : {M : Type 1} → statement M
+all-digits-spec =
+    tie.close
+    (tie.spec
+    Inv-loop
+    μ-loop
+    loop-holds
+    shared-slice-read-is-digit
+    is-digit-requires
+    returns
+    add-i
+    loop-less
+    loop-again
+    returns-2)

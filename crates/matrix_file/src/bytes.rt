@@ -1,0 +1,120 @@
+// Bytes of ASCII and parts of a text.
+ghost use mathlib.Core.Path.{_≡_};
+ghost use Prim.Native.Nat.{_+_};
+ghost use mathlib.Core.Bool.{_&&_};
+ghost use lib.Dec.{leb, eqb};
+ghost use lib.ListN.{length, drop};
+ghost use Rattle.matrix_file.specs.Bytes.{isDigit, isLetter, sameText, partsAt, partLength, firstPart, behindPart};
+ghost use Rattle.matrix_file.specs.Job.{inName};
+
+pub(crate) const TAB: u8 = 9;
+
+pub(crate) const LINE_FEED: u8 = 10;
+
+// Whether a byte is from `low` to `high`.
+fn between(low: u8, high: u8, byte: u8) -> bool
+    ensures { λ r. ⌜ r ≡ leb low byte && leb byte high ⌝ }
+{
+    low <= byte && byte <= high
+}
+
+// Whether a byte is `0` to `9`.
+pub(crate) fn is_digit(byte: u8) -> bool
+    ensures { λ r. ⌜ r ≡ isDigit byte ⌝ }
+{
+    between(b'0', b'9', byte)
+}
+
+// Whether a byte is `A` to `Z` or `a` to `z`.
+pub(crate) fn is_letter(byte: u8) -> bool
+    ensures { λ r. ⌜ r ≡ isLetter byte ⌝ }
+{
+    between(b'A', b'Z', byte) || between(b'a', b'z', byte)
+}
+
+// Whether a byte is a letter, a digit or `_`.
+pub(crate) fn in_name(byte: u8) -> bool
+    ensures { λ r. ⌜ r ≡ inName byte ⌝ }
+{
+    is_letter(byte) || (is_digit(byte) || byte == b'_')
+}
+
+// Whether two bytes are the same.
+fn same_byte(a: u8, b: u8) -> bool
+    ensures { λ r. ⌜ r ≡ eqb a b ⌝ }
+{
+    a == b
+}
+
+// Whether two texts are the same, byte for byte.
+pub(crate) fn same_text(a: &[u8], b: &[u8]) -> bool
+    ensures { λ r. ⌜ r ≡ sameText (now (a .entry)) (now (b .entry)) ⌝ }
+{
+    if a.len() != b.len() {
+        return false;
+    }
+    let mut i = 0;
+    while i < a.len() {
+        if !same_byte(a[i], b[i]) {
+            return false;
+        }
+        i += 1;
+    }
+    true
+}
+
+// The length of a text's first part: the place of the first separator, or the text's length where there is none.
+pub(crate) fn part_length(text: &[u8], separator: u8) -> usize
+    ensures { λ r. ⌜ r ≡ partLength separator (now (text .entry)) ⌝ }
+{
+    let mut i = 0;
+    while i < text.len() {
+        if text[i] == separator {
+            return i;
+        }
+        i += 1;
+    }
+    i
+}
+
+// How many separators a text has.
+pub(crate) fn separators(text: &[u8], separator: u8) -> usize
+    ensures { λ r. ⌜ r + 1 ≡ length (partsAt separator (now (text .entry))) ⌝ }
+{
+    let mut count = 0;
+    let mut i = 0;
+    while i < text.len() {
+        if text[i] == separator {
+            count += 1;
+        }
+        i += 1;
+    }
+    count
+}
+
+// The rest of a text from a place on: nothing past its end.
+pub(crate) fn rest_from(text: &[u8], at: usize) -> &[u8]
+    ensures { λ r. ⌜ now r ≡ drop at (now (text .entry)) ⌝ }
+{
+    let length = text.len();
+    if length < at {
+        return &text[length..];
+    }
+    &text[at..]
+}
+
+// The first part of a text.
+pub(crate) fn first_part(text: &[u8], separator: u8) -> &[u8]
+    ensures { λ r. ⌜ now r ≡ firstPart separator (now (text .entry)) ⌝ }
+{
+    let end = part_length(text, separator);
+    &text[..end]
+}
+
+// What stands behind the first separator of a text: nothing where there is none.
+pub(crate) fn behind_part(text: &[u8], separator: u8) -> &[u8]
+    ensures { λ r. ⌜ now r ≡ behindPart separator (now (text .entry)) ⌝ }
+{
+    let end = part_length(text, separator);
+    rest_from(text, end + 1)
+}

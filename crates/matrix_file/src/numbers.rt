@@ -1,0 +1,102 @@
+// Whole numbers in decimal: their form, and the number that a text of this form says.
+use crate::bytes::is_digit;
+use crate::bytes::rest_from;
+ghost use mathlib.Core.Path.{_≡_};
+ghost use mathlib.Core.Bool.{true};
+ghost use Prim.Native.Nat.{_<_};
+ghost use lib.IntN.{pos, negℤ};
+ghost use Rattle.matrix.specs.Every.{every};
+ghost use Rattle.matrix_file.specs.Bytes.{isDigit};
+ghost use Rattle.matrix_file.specs.Decimal.{numberForm, NumberSaid, codeForm, codeOf};
+
+// Whether every byte of a text is a digit.
+fn all_digits(text: &[u8]) -> bool
+    ensures { λ r. ⌜ r ≡ every isDigit (now (text .entry)) ⌝ }
+{
+    let mut i = 0;
+    while i < text.len() {
+        if !is_digit(text[i]) {
+            return false;
+        }
+        i += 1;
+    }
+    true
+}
+
+// Whether a text has the form of the numbers n and m.
+pub(crate) fn number_form(text: &[u8]) -> bool
+    ensures { λ r. ⌜ r ≡ numberForm (now (text .entry)) ⌝ }
+{
+    if text.len() < 1 {
+        return false;
+    }
+    if 6 < text.len() {
+        return false;
+    }
+    if !all_digits(text) {
+        return false;
+    }
+    text.len() == 1 || text[0] != b'0'
+}
+
+fn wide(byte: u8) -> usize
+    ensures { λ r. ⌜ r ≡ byte ⌝ }
+{
+    byte as usize
+}
+
+fn signed(number: usize) -> i32
+    requires { ⌜ number < 1000000 ⌝ }
+    ensures { λ r. ⌜ r ≡ pos number ⌝ }
+{
+    number as i32
+}
+
+fn negative(number: usize) -> i32
+    requires { ⌜ number < 1000000 ⌝ }
+    ensures { λ r. ⌜ r ≡ negℤ (pos number) ⌝ }
+{
+    0 - number as i32
+}
+
+// The number that a text of this form says.
+pub(crate) fn number_of(text: &[u8]) -> usize
+    requires { ⌜ numberForm (now text) ≡ true ⌝ }
+    ensures { λ r. ⌜ NumberSaid (now (text .entry)) r ⌝ }
+{
+    let mut number = 0;
+    let mut i = 0;
+    while i < text.len() {
+        number = number * 10 + (wide(text[i]) - 48);
+        i += 1;
+    }
+    number
+}
+
+// Whether a text has the form of a code.
+pub(crate) fn code_form(text: &[u8]) -> bool
+    ensures { λ r. ⌜ r ≡ codeForm (now (text .entry)) ⌝ }
+{
+    if text.len() == 0 {
+        return false;
+    }
+    if text[0] != b'-' {
+        return number_form(text);
+    }
+    let digits = rest_from(text, 1);
+    if !number_form(digits) {
+        return false;
+    }
+    1 <= number_of(digits)
+}
+
+// The code that a text of this form says.
+pub(crate) fn code_of(text: &[u8]) -> i32
+    requires { ⌜ codeForm (now text) ≡ true ⌝ }
+    ensures { λ r. ⌜ r ≡ codeOf (now (text .entry)) ⌝ }
+{
+    if text[0] != b'-' {
+        return signed(number_of(text));
+    }
+    negative(number_of(rest_from(text, 1)))
+}

@@ -1,0 +1,49 @@
+-- `read_files::bytes_kept` is safe and ends: there are no more of them than bytes passed. Assumes nothing.
+use mathlib.Core.Logic.{⊎-elim}
+use Prim.Native.Nat.{_-_, _≤_}
+use native.Mathlib.Omega.{arith}
+use borrow.Author.Needs.{needs}
+use lib.ListN.{length}
+use Rattle.read_files.proofs.bytes_kept.Statement.{statement}
+use Rattle.read_files.proofs.bytes_kept.Tie as tie
+
+abbrev Inv-loop : tie.InvT-loop
+Inv-loop names kept₀ i₀ kept i = (i ≤ length names) × (kept ≤ i)
+
+abbrev μ-loop : tie.MeasureT-loop
+μ-loop names kept₀ i₀ kept i = length names - i
+
+loop-holds : tie.Need-loop-holds Inv-loop μ-loop
+loop-holds c = omega arith
+
+shared-slice-read-if1 : tie.Need-shared-slice-read-if1 Inv-loop μ-loop
+shared-slice-read-if1 c = search needs
+
+add-kept : tie.Need-add-kept Inv-loop μ-loop
+add-kept c = omega arith
+
+add-i : tie.Need-add-i Inv-loop μ-loop
+add-i c = search needs
+
+loop-less : tie.Need-loop-less Inv-loop μ-loop
+loop-less c = omega arith
+
+loop-again : tie.Need-loop-again Inv-loop μ-loop
+loop-again c = ⊎-elim (λ w. omega arith) (λ w. omega arith) (c .if1 .came)
+
+returns : tie.Need-returns Inv-loop μ-loop
+returns c = tt
+
+pub bytes-kept-spec : {M : Type 1} → statement M
+bytes-kept-spec =
+    tie.close
+    (tie.spec
+    Inv-loop
+    μ-loop
+    loop-holds
+    shared-slice-read-if1
+    add-kept
+    add-i
+    loop-less
+    loop-again
+    returns)
