@@ -24,3 +24,4 @@ pub mod Overwriting
 pub mod WrittenLines
 pub mod ReadLists
 pub mod Examples
+pub mod Numbered

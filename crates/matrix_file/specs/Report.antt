@@ -7,6 +7,8 @@ use lib.Dec.{eqb}
 use lib.IntN.{ℤ}
 use lib.ListN.{length}
 use Rattle.matrix.specs.Shape.{matrixSize}
+use Rattle.matrix.specs.Refusals
+use Rattle.matrix.specs.Refusals.{refusalNumber, Said, value}
 use Rattle.matrix.specs.declared.refusal.Refusal.the-variants.{ListSize}
 use Rattle.matrix_file.specs.declared.answer.Read.{Read}
 use Rattle.matrix_file.specs.declared.answer.Read.the-variants.{Accepted, Refused}
@@ -23,6 +25,11 @@ answered n m (fileRefused refusal line) = Refused refusal line
 abbrev pub reported : ReadAnswer → Read
 reported (accepted job) = Accepted (job .n) (job .m)
 reported (refused refusal line) = Refused refusal line
+
+-- what a read says in document 01's terms: n and m, or the number of the refusal and the line
+abbrev pub readSays : Read → Said (ℕ × ℕ)
+readSays (Accepted n m) = value (n, m)
+readSays (Refused refusal line) = Refusals.refused (refusalNumber refusal) line
 
 -- both lent lists have their full size
 unfoldable pub fullSize : List ℤ → List ℕ → Bool
@@ -53,5 +60,6 @@ pub record ReadDone
     (newNames : List ℕ)
     (r : Read) : Type 0 where
   pub answers : r ≡ readReport file oldMatrix oldNames
+  pub says : readSays r ≡ readSays (readReport file oldMatrix oldNames)
   pub matrix : newMatrix ≡ afterRead r (matrixWritten (jobIn file .rows) oldMatrix) oldMatrix
   pub names : newNames ≡ afterRead r (namesWritten (jobIn file .names) oldNames) oldNames

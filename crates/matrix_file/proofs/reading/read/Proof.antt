@@ -9,7 +9,7 @@ use borrow.Author.Tests.{eq-eqb, ne-eqb}
 use borrow.Author.Needs.{needs}
 use lib.IntN.{ℤ}
 use lib.ListN.{length, take}
-use Rattle.matrix_file.specs.Report.{reported, fullSize, readReport, rowsToWrite, afterRead, ReadDone}
+use Rattle.matrix_file.specs.Report.{readSays, reported, fullSize, readReport, rowsToWrite, afterRead, ReadDone}
 use Rattle.matrix_file.proofs.AcceptedRows.{most-taxa, file-formed, job-rows-behind, job-names-behind}
 use Rattle.matrix_file.specs.Bytes.{lineFeed, behindPart}
 use Rattle.matrix_file.specs.Job.{namesSize, namesWritten, paddedNames}
@@ -30,7 +30,13 @@ wrong-matrix : (file : List ℕ) (matrix : List ℤ) (names : List ℕ) (answer 
     → (length matrix ≡ matrixSize → ⊥) → ReadDone file matrix names matrix names answer
 unfolding readReport fullSize
 wrong-matrix file matrix names answer a h =
-    rw a (record { answers = rw (ne-eqb (length matrix) matrixSize h, readReport); matrix = refl; names = refl })
+    rw a
+    (record {
+      answers = rw (ne-eqb (length matrix) matrixSize h, readReport);
+      says = rw (ne-eqb (length matrix) matrixSize h, readReport);
+      matrix = refl;
+      names = refl;
+    })
 
 -- names that have not
 wrong-names : (file : List ℕ) (matrix : List ℤ) (names : List ℕ) (answer : Read) → answer ≡ Refused ListSize 0
@@ -40,6 +46,7 @@ wrong-names file matrix names answer a m h =
     rw a
     (record {
       answers = rw (eq-eqb (length matrix) matrixSize m, ne-eqb (length names) namesSize h, readReport);
+      says = rw (eq-eqb (length matrix) matrixSize m, ne-eqb (length names) namesSize h, readReport);
       matrix = refl;
       names = refl;
     })
@@ -94,6 +101,7 @@ module _ (file : List ℕ) (matrix : List ℤ) (names : List ℕ) (m : length ma
   done answer a count w newMatrix newNames em en =
       record {
         answers = a ∙ sym full;
+        says = ap readSays (a ∙ sym full);
         matrix = em ∙ ap (λ k. matrixWritten (map codesIn (take k (linesOf rest))) matrix) w ∙ matrix-after answer a;
         names = en ∙ ap (λ k. namesWritten (map nameIn (take k (linesOf rest))) names) w ∙ names-after answer a;
       }
