@@ -1,5 +1,6 @@
--- What a growing tree and a branching are (document 01, "The questions put to an input", the paragraph "A branching"). A growing tree of n taxa is row 1 alone, with no branches, or
--- a tree of k of the taxa, row 1 among them, with HTUs n+1 to n+k-2. A branching is a growing tree with all n taxa in it.
+-- What a growing tree and a branching are (document 01, "The questions put to an input", the paragraph "A branching"). A growing tree
+-- of n taxa is row 1 alone, with no branches, or a tree of k of the taxa, row 1 among them, with HTUs n+1 to n+k-2. A branching is a
+-- growing tree with all n taxa in it.
 -- Each is said twice: as a test that computes, and as a proposition for proofs. The laws of this crate show that the two agree.
 use mathlib.Core.Path.{_≡_}
 use mathlib.Core.Logic.{_⊎_}

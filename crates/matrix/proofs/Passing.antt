@@ -11,7 +11,8 @@ use lib.IntN.{ℤ}
 use lib.ListN.{length, getD}
 use Rattle.matrix.specs.Choice.{numbers}
 use Rattle.matrix.specs.Shape.{matrixSize, row}
-use Rattle.matrix.specs.Questions.{ask, andThen, oneTo, withinLimits, allInRange, rowsInRange, askMatrix, LentMatrix, nodesExist, htusInRange, askNodes}
+use Rattle.matrix.specs.Questions.{ask, andThen, oneTo, withinLimits, allInRange, rowsInRange, askMatrix, LentMatrix, nodesExist}
+use Rattle.matrix.specs.Questions.{htusInRange, askNodes}
 use Rattle.matrix.specs.declared.refusal.Refusal.{Refusal}
 use Rattle.matrix.specs.declared.refusal.Refusal.the-variants.{BeyondLimits, CodeRange, ListSize, NotThere}
 use Rattle.matrix.specs.declared.refusal.Asked.{Asked}
@@ -80,7 +81,12 @@ matrix-passes codes n m = (passed, passes)
 
     passes : LentMatrix codes n m → askMatrix codes n m ≡ Passed
     passes l =
-        rw (eq-eqb (length codes) matrixSize (l .full), true-oneTo 64 n (l .taxon) (l .taxa), true-oneTo 128 m (l .character) (l .characters), rowsInRange-from codes m n (l .known))
+        rw (
+          eq-eqb (length codes) matrixSize (l .full),
+          true-oneTo 64 n (l .taxon) (l .taxa),
+          true-oneTo 128 m (l .character) (l .characters),
+          rowsInRange-from codes m n (l .known),
+        )
 
 -- what passed questions on a lent matrix and some nodes tell
 pub record NodesPassed (codes : List ℤ) (n m : ℕ) (nodes : List ℕ) : Type 0 where

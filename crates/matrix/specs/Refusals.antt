@@ -3,7 +3,9 @@ use Prim.Native.Nat.{ℕ}
 use Rattle.matrix.specs.declared.refusal.Asked.{Asked}
 use Rattle.matrix.specs.declared.refusal.Asked.the-variants.{Passed, Refused}
 use Rattle.matrix.specs.declared.refusal.Refusal.{Refusal}
-use Rattle.matrix.specs.declared.refusal.Refusal.the-variants.{FileTooLong, FileEmpty, FirstLine, BeyondLimits, LineMissing, NameForm, NameTaken, FieldCount, CodeForm, CodeRange, FileGoesOn, ListSize, NotThere, NotBranching}
+use Rattle.matrix.specs.declared.refusal.Refusal.the-variants.{FileTooLong, FileEmpty, FirstLine, BeyondLimits, LineMissing}
+use Rattle.matrix.specs.declared.refusal.Refusal.the-variants.{NameForm, NameTaken, FieldCount, CodeForm, CodeRange, FileGoesOn}
+use Rattle.matrix.specs.declared.refusal.Refusal.the-variants.{ListSize, NotThere, NotBranching}
 
 abbrev pub refusalNumber : Refusal → ℕ
 refusalNumber FileTooLong = 1

@@ -8,7 +8,8 @@ use crate::refusal::Refusal;
 use crate::rows::row;
 ghost use mathlib.Core.Path.{_≡_};
 ghost use Rattle.matrix.specs.Shape.{row, inRange, lastNode};
-ghost use Rattle.matrix.specs.Questions.{withinLimits, oneTo, allInRange, rowsInRange, askMatrix, nodesExist, htuInRange, htusInRange, askNodes};
+ghost use Rattle.matrix.specs.Questions.{withinLimits, oneTo, allInRange, rowsInRange, askMatrix};
+ghost use Rattle.matrix.specs.Questions.{nodesExist, htuInRange, htusInRange, askNodes};
 ghost use Prim.Native.Nat.{_≤_};
 
 // Whether a code is from -999 to 999.

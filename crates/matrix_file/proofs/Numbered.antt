@@ -9,13 +9,16 @@ use lib.ListN.{length, drop}
 use Rattle.matrix.specs.Refusals.{refusalNumber}
 use Rattle.matrix.specs.Shape.{inRange}
 use Rattle.matrix.specs.Questions.{ask, withinLimits}
-use Rattle.matrix.specs.declared.refusal.Refusal.the-variants.{FileTooLong, FileEmpty, FirstLine, BeyondLimits, NameForm, NameTaken, LineMissing, FieldCount, CodeForm, CodeRange, FileGoesOn}
+use Rattle.matrix.specs.declared.refusal.Refusal.the-variants.{FileTooLong, FileEmpty, FirstLine, BeyondLimits, NameForm, NameTaken}
+use Rattle.matrix.specs.declared.refusal.Refusal.the-variants.{LineMissing, FieldCount, CodeForm, CodeRange, FileGoesOn}
 use Rattle.matrix.specs.declared.refusal.Refusal.{Refusal}
 use Rattle.matrix.specs.declared.refusal.Asked.{Asked}
 use Rattle.matrix.specs.declared.refusal.Asked.the-variants.{Passed, Refused}
 use Rattle.matrix_file.specs.Decimal.{codeForm, codeOf}
 use Rattle.matrix_file.specs.Job.{Job, nameForm, differsFromAll}
-use Rattle.matrix_file.specs.Reading.{FileAsked, filePassed, fileRefused, onLine, askCodes, askRow, askRows, askFile, mostBytes, rowLine, linesOf, firstLineForm, nothingMore, fieldsOf, nameIn, charactersIn, taxaIn, rowsOn, jobIn, refused, answerOf, readAnswer}
+use Rattle.matrix_file.specs.Reading.{FileAsked, filePassed, fileRefused, onLine, askCodes, askRow, askRows, askFile, mostBytes}
+use Rattle.matrix_file.specs.Reading.{rowLine, linesOf, firstLineForm, nothingMore, fieldsOf, nameIn, charactersIn, taxaIn}
+use Rattle.matrix_file.specs.Reading.{rowsOn, jobIn, refused, answerOf, readAnswer}
 
 -- a refusal that a file can meet
 abbrev pub OfFile : Refusal → Type 0

@@ -93,7 +93,8 @@ module _ (codes : List ℤ) (n m : ℕ) (tree : List ℕ) (b : ℕ) (asked : Pla
   unfolding rowsOf htusOf
   rows-behind =
       let next : n + 1 ≡ 1 + n = omega arith in
-      rw (next, numbers-append 1 n (taxaPlaced n tree - 2)) (sym (map-append (row codes m) (numbers 1 n) (numbers (1 + n) (taxaPlaced n tree - 2))))
+      rw (next, numbers-append 1 n (taxaPlaced n tree - 2))
+      (sym (map-append (row codes m) (numbers 1 n) (numbers (1 + n) (taxaPlaced n tree - 2))))
 
   -- the row of each HTU of the tree has m codes from -999 to 999
   htu-rows : CodeRows m (map (row codes m) (htusOf n tree))

@@ -1,10 +1,10 @@
 -- The table, computed by the checker.
 use mathlib.Core.Path.{refl}
 use Rattle.listing.proofs.Computed.{computed}
-use Rattle.table.specs.Table.{Table}
+use Rattle.table.specs.Table.{text, Table}
 
 pub table : Table
-unfolding computed
+unfolding computed text
 table =
     record {
       median = refl;

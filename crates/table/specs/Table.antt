@@ -1,7 +1,7 @@
 -- The table of document 01, "Conditions of acceptance": the median of -1, 2 and 0; the three joins; the three sums of document 003; and
 -- the listing of the example, from the bytes of its file.
 use mathlib.Core.Path.{_≡_}
-use mathlib.Core.List.{List, [], _∷_}
+use mathlib.Core.List.{List, [], _∷_, flatMap}
 use Prim.Native.Nat.{ℕ}
 use Prim.Native.String.{String}
 use lib.IntN.{ℤ, pos, negsuc}
@@ -37,13 +37,44 @@ pub record Sum (taxon : List ℤ) (fromAncestor fromC interval : ℕ) : Type 0 w
   pub across : difference anc taxonC ≡ 4
   pub half : intervalDifference taxon taxonC anc ≡ interval
 
+-- the bytes of some lines
+unfoldable pub text : List String → List ℕ
+text lines = flatMap bytes lines
+
 -- the example's file
-abbrev pub file : String
-file = "W\t4\t3\nA\t0\t0\t0\nB\t2\t1\t0\nC\t2\t3\t1\nD\t-1\t1\t2\n"
+abbrev pub file : List String
+file =
+    "W\t4\t3\n"
+    ∷ "A\t0\t0\t0\n"
+    ∷ "B\t2\t1\t0\n"
+    ∷ "C\t2\t3\t1\n"
+    ∷ "D\t-1\t1\t2\n"
+    ∷ []
 
 -- its listing
-abbrev pub listed : String
-listed = "P\tB\tA\t3\nP\tC\tB\t3\nP\tD\tA\t4\np\t10\nW\tB\t-\tA\t-\t3\nW\tD\tB\tA\t#1\t3\nW\tC\tB\t#1\t#2\t3\nw\t9\nT\tB\t#2\t1\t+\nT\tC\t#2\t2\t+\nT\tD\t#1\t2\t+\nT\t#1\tA\t2\t+\nT\t#2\t#1\t2\t+\nt\t9\nH\t#1\t1\t0\t0\t0\nH\t#1\t2\t1\t1\t1\nH\t#1\t3\t0\t1\t1\nH\t#2\t1\t2\t2\t2\nH\t#2\t2\t1\t1\t1\nH\t#2\t3\t0\t1\t1\n"
+abbrev pub listed : List String
+listed =
+    "P\tB\tA\t3\n"
+    ∷ "P\tC\tB\t3\n"
+    ∷ "P\tD\tA\t4\n"
+    ∷ "p\t10\n"
+    ∷ "W\tB\t-\tA\t-\t3\n"
+    ∷ "W\tD\tB\tA\t#1\t3\n"
+    ∷ "W\tC\tB\t#1\t#2\t3\n"
+    ∷ "w\t9\n"
+    ∷ "T\tB\t#2\t1\t+\n"
+    ∷ "T\tC\t#2\t2\t+\n"
+    ∷ "T\tD\t#1\t2\t+\n"
+    ∷ "T\t#1\tA\t2\t+\n"
+    ∷ "T\t#2\t#1\t2\t+\n"
+    ∷ "t\t9\n"
+    ∷ "H\t#1\t1\t0\t0\t0\n"
+    ∷ "H\t#1\t2\t1\t1\t1\n"
+    ∷ "H\t#1\t3\t0\t1\t1\n"
+    ∷ "H\t#2\t1\t2\t2\t2\n"
+    ∷ "H\t#2\t2\t1\t1\t1\n"
+    ∷ "H\t#2\t3\t0\t1\t1\n"
+    ∷ []
 
 pub record Table : Type 0 where
   pub median : median (negsuc 0) (pos 2) (pos 0) ≡ pos 0
@@ -53,4 +84,4 @@ pub record Table : Type 0 where
   pub first-sum : Sum taxonA 7 11 7
   pub second-sum : Sum taxonB 9 11 8
   pub third-sum : Sum taxonD 6 8 5
-  pub listing : output (bytes file) ≡ bytes listed
+  pub listing : output (text file) ≡ text listed

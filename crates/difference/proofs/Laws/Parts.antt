@@ -46,4 +46,5 @@ pub difference-within : (most count : ℕ) (xs ys : List ℤ) → count ≡ min 
 difference-within most count xs ys e =
     let low : count ≤ most = omega arith in
     let cut : min (length (take most xs)) (length (take most ys)) ≤ count = omega (arith, length-take most xs, length-take most ys) in
-    ap₂ difference (sym (take-take count most xs low)) (sym (take-take count most ys low)) ∙ difference-part count (take most xs) (take most ys) cut
+    ap₂ difference (sym (take-take count most xs low)) (sym (take-take count most ys low))
+    ∙ difference-part count (take most xs) (take most ys) cut

@@ -10,7 +10,8 @@ use Rattle.matrix.specs.Shape.{inRange}
 use Rattle.matrix.specs.Every.{every}
 use Rattle.matrix.specs.Questions.{allInRange}
 use Rattle.difference.specs.Rows.{apart, median, difference, medians, intervalDifference, overwritten}
-use Rattle.difference.proofs.Laws.Codes.{apart-sym, apart-self, apart-zero, apart-triangle, apart-inRange, median-swap, median-rotate, median-between, median-inRange}
+use Rattle.difference.proofs.Laws.Codes.{apart-sym, apart-self, apart-zero, apart-triangle, apart-inRange, median-swap}
+use Rattle.difference.proofs.Laws.Codes.{median-rotate, median-between, median-inRange}
 
 -- ---- the difference of two rows
 

@@ -54,7 +54,13 @@ answered codes n m a b r asked xs ys e passed ex ey d =
     rw pass (ap value (d .is ∙ ap₂ difference (ap (take 128) ex ∙ row-128 codes m a narrow) (ap (take 128) ey ∙ row-128 codes m b narrow)))
 
 returns-2 : tie.Need-returns-2
-returns-2 c = answered _ _ _ _ _ _ _ _ _ (c .before .before .before .before .before .ask-nodes .ensures) (c .before .before .before .enum-told .given .1) (c .before .before .row .ensures) (c .before .row2 .ensures) (c .difference .ensures)
+returns-2 c =
+    answered _ _ _ _ _ _ _ _ _
+    (c .before .before .before .before .before .ask-nodes .ensures)
+    (c .before .before .before .enum-told .given .1)
+    (c .before .before .row .ensures)
+    (c .before .row2 .ensures)
+    (c .difference .ensures)
 
 pub difference-spec : {M : Type 1} → statement M
 difference-spec =

@@ -57,7 +57,14 @@ answered codes n m b c d r asked xs ys zs e passed ex ey ez i =
     rw (pass, i, ex, ey, ez, row-128 codes m b narrow, row-128 codes m c narrow, row-128 codes m d narrow)
 
 returns-2 : tie.Need-returns-2
-returns-2 c = answered _ _ _ _ _ _ _ _ _ _ _ (c .before .before .before .before .before .before .ask-nodes .ensures) (c .before .before .before .before .enum-told .given .1) (c .before .before .before .row .ensures) (c .before .before .row2 .ensures) (c .before .row3 .ensures) (c .interval-difference .ensures)
+returns-2 c =
+    answered _ _ _ _ _ _ _ _ _ _ _
+    (c .before .before .before .before .before .before .ask-nodes .ensures)
+    (c .before .before .before .before .enum-told .given .1)
+    (c .before .before .before .row .ensures)
+    (c .before .before .row2 .ensures)
+    (c .before .row3 .ensures)
+    (c .interval-difference .ensures)
 
 pub interval-difference-spec : {M : Type 1} → statement M
 interval-difference-spec =

@@ -36,7 +36,10 @@ wide-requires c κs = search needs
 wide-requires-2 : tie.Need-wide-requires-2
 wide-requires-2 c κs = search needs
 
-subtraction : (c : tie.After-wide2) → toZ w64 (ofZ w64 (c .before .wide .result)) -ℤ toZ w64 (ofZ w64 (c .wide2 .result)) ≡ c .before .before .args .a -ℤ c .before .before .args .b
+-- and that of the code
+subtraction : (c : tie.After-wide2)
+    → toZ w64 (ofZ w64 (c .before .wide .result)) -ℤ toZ w64 (ofZ w64 (c .wide2 .result))
+    ≡ c .before .before .args .a -ℤ c .before .before .args .b
 subtraction c =
     operands _ _ _ _ (c .before .before .fits .a) (c .before .before .fits .b) (c .before .wide .ensures) (c .wide2 .ensures)
     (sfits-of (c .before .wide .ok))

@@ -31,11 +31,18 @@ parts b c d bc bd cd p q r = rw (p .is, q .is, r .is)
 
 returns : tie.Need-returns
 returns c =
-    let zero : 0 ≡ (c .before .before .before .difference .result + c .before .before .difference2 .result - c .before .difference3 .result) / 2 = omega arith in
-    zero ∙ parts _ _ _ _ _ _ (c .before .before .before .difference .ensures) (c .before .before .difference2 .ensures) (c .before .difference3 .ensures)
+    let bc : ℕ = c .before .before .before .difference .result in
+    let bd : ℕ = c .before .before .difference2 .result in
+    let cd : ℕ = c .before .difference3 .result in
+    let none : 0 ≡ (bc + bd - cd) / 2 = omega arith in
+    none
+    ∙ parts _ _ _ _ _ _ (c .before .before .before .difference .ensures) (c .before .before .difference2 .ensures)
+    (c .before .difference3 .ensures)
 
 returns-2 : tie.Need-returns-2
-returns-2 c = parts _ _ _ _ _ _ (c .before .before .before .difference .ensures) (c .before .before .difference2 .ensures) (c .before .difference3 .ensures)
+returns-2 c =
+    parts _ _ _ _ _ _ (c .before .before .before .difference .ensures) (c .before .before .difference2 .ensures)
+    (c .before .difference3 .ensures)
 
 pub interval-difference-spec : {M : Type 1} → statement M
 interval-difference-spec =

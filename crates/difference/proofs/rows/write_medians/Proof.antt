@@ -97,7 +97,11 @@ loop-again c =
       simp length-set (place .inv .1),
       one-more (place .j) (args .xs .now) (args .ys .now) (args .zs .now) (place .out) (args .out .now) _ in-x in-y in-z (place .inv .2)
           (toZ-ofZ (sfits-of (c .median .ok))
-          ∙ rw (toZ-ofZ (sfits-of (c .before .before .before .median-arg .given)), toZ-ofZ (sfits-of (c .before .before .median-arg2 .given)), toZ-ofZ (sfits-of (c .before .median-arg3 .given))) at (c .median .ensures)),
+          ∙ rw (
+            toZ-ofZ (sfits-of (c .before .before .before .median-arg .given)),
+            toZ-ofZ (sfits-of (c .before .before .median-arg2 .given)),
+            toZ-ofZ (sfits-of (c .before .median-arg3 .given)),
+          ) at (c .median .ensures)),
     )
 
 same-length : tie.Need-same-length Inv-loop μ-loop

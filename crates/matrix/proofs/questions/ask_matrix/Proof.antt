@@ -18,18 +18,27 @@ within-limits-requires c κs = search needs
 
 returns-2 : tie.Need-returns-2
 unfolding askMatrix
-returns-2 c = let h = c .before .before .if1 .left in let w = c .before .within-limits .ensures in let t = c .if2 .taken in rw (eq-eqb _ _ h, sym w ∙ not-true _ t)
+returns-2 c =
+    let size = c .before .before .if1 .left in
+    let limits = c .before .within-limits .ensures in
+    rw (eq-eqb _ _ size, sym limits ∙ not-true _ (c .if2 .taken))
 
 rows-in-range-requires : tie.Need-rows-in-range-requires
 rows-in-range-requires c κs = search needs
 
 returns-3 : tie.Need-returns-3
 unfolding askMatrix
-returns-3 c = let h = c .before .before .before .before .if1 .left in let w = c .before .before .before .within-limits .ensures in let t = c .before .before .if2 .left in rw (eq-eqb _ _ h, sym w ∙ not-false _ t, sym (c .before .rows-in-range .ensures) ∙ not-true _ (c .if3 .taken))
+returns-3 c =
+    let size = c .before .before .before .before .if1 .left in
+    let limits = sym (c .before .before .before .within-limits .ensures) ∙ not-false _ (c .before .before .if2 .left) in
+    rw (eq-eqb _ _ size, limits, sym (c .before .rows-in-range .ensures) ∙ not-true _ (c .if3 .taken))
 
 returns-4 : tie.Need-returns-4
 unfolding askMatrix
-returns-4 c = let h = c .before .before .before .before .if1 .left in let w = c .before .before .before .within-limits .ensures in let t = c .before .before .if2 .left in rw (eq-eqb _ _ h, sym w ∙ not-false _ t, sym (c .before .rows-in-range .ensures) ∙ not-false _ (c .if3 .left))
+returns-4 c =
+    let size = c .before .before .before .before .if1 .left in
+    let limits = sym (c .before .before .before .within-limits .ensures) ∙ not-false _ (c .before .before .if2 .left) in
+    rw (eq-eqb _ _ size, limits, sym (c .before .rows-in-range .ensures) ∙ not-false _ (c .if3 .left))
 
 pub ask-matrix-spec : {M : Type 1} → statement M
 ask-matrix-spec =

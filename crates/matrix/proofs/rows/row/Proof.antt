@@ -24,11 +24,14 @@ drop-min codes start = go (decLe start (length codes))
         rw (min-eq-left long) (drop-length codes ∙ sym (drop-of-length-le codes long))
 
 -- a row that the list cuts short
-cut : (codes : List ℤ) (m v start : ℕ) → start ≡ min (length codes) (rowStart v) → length codes - start < m → take (length codes - start) (drop start codes) ≡ row codes m v
+cut : (codes : List ℤ) (m v start : ℕ) → start ≡ min (length codes) (rowStart v) → length codes - start < m
+    → take (length codes - start) (drop start codes) ≡ row codes m v
 unfolding row
 cut codes m v start e h =
     let all : length (drop start codes) ≡ length codes - start = length-drop start codes in
-    take-all (length codes - start) (drop start codes) (omega arith) ∙ sym (take-all m (drop start codes) (omega arith)) ∙ ap (take m) (ap (λ k. drop k codes) e ∙ drop-min codes (rowStart v))
+    take-all (length codes - start) (drop start codes) (omega arith)
+    ∙ sym (take-all m (drop start codes) (omega arith))
+    ∙ ap (take m) (ap (λ k. drop k codes) e ∙ drop-min codes (rowStart v))
 
 -- a row that the list has whole
 whole : (codes : List ℤ) (m v start : ℕ) → start ≡ min (length codes) (rowStart v) → take (start + m - start) (drop start codes) ≡ row codes m v
