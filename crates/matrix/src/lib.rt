@@ -10,3 +10,7 @@ pub const COLUMNS: usize = 128;
 pub const MOST_TAXA: usize = 64;
 
 pub const MOST_CHARACTERS: usize = 128;
+
+pub const LOWEST_CODE: i32 = -999;
+
+pub const HIGHEST_CODE: i32 = 999;

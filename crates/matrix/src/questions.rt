@@ -1,5 +1,7 @@
 // The questions put to a lent matrix. Each answers what its definition in specs/ answers, for every input.
 use crate::COLUMNS;
+use crate::HIGHEST_CODE;
+use crate::LOWEST_CODE;
 use crate::MOST_CHARACTERS;
 use crate::MOST_TAXA;
 use crate::ROWS;
@@ -16,7 +18,7 @@ ghost use Prim.Native.Nat.{_≤_};
 pub fn in_range(code: i32) -> bool
     ensures { λ r. ⌜ r ≡ inRange code ⌝ }
 {
-    -999 <= code && code <= 999
+    LOWEST_CODE <= code && code <= HIGHEST_CODE
 }
 
 // Whether an item, counted from 1, is one of `last`.
