@@ -12,6 +12,11 @@ use lib.Dec.{leb, ltb, eqb}
 use lib.ListN.{length, getD, length-append, length-map, List·getD-eq-default}
 use Rattle.matrix.specs.Choice.{firstLeast, numbers}
 
+-- of three items with equal keys the first is chosen
+first-of-equals : firstLeast (λ (item : ℕ). 7) 1 (2 ∷ 3 ∷ []) ≡ 1
+unfolding firstLeast
+first-of-equals = refl
+
 module _ {A : Type 0} where
   -- an element of a list such that each one before it has a greater key, and none behind it a lesser one
   pub record Chosen (key : A → ℕ) (list : List A) (chosen : A) : Type 0 where
