@@ -165,6 +165,10 @@ module _ (file : List ℕ) (n m : ℕ) (e : reported (readAnswer file) ≡ Accep
   room : length rows * columns ≤ length old
   room = omega (arith, count, limits .1)
 
+  -- the job has n rows
+  pub read-count : length rows ≡ n
+  read-count = count
+
   -- the row of taxon v is that of the job
   pub read-row : (v : ℕ) → 1 ≤ v → v ≤ n → row (matrixWritten rows old) m v ≡ getD rows (v - 1) []
   unfolding row

@@ -3,3 +3,4 @@ pub mod Rows
 pub mod Placements
 pub mod Demand
 pub mod Lent
+pub mod Reading

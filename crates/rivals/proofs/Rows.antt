@@ -54,7 +54,7 @@ rows-read file job e =
     }
 
 -- the rows of nodes 1 to n, place by place
-row-at : (codes : List ℤ) (m n i : ℕ) → i < n → getD (rowsOf codes m n) i [] ≡ row codes m (i + 1)
+pub row-at : (codes : List ℤ) (m n i : ℕ) → i < n → getD (rowsOf codes m n) i [] ≡ row codes m (i + 1)
 unfolding rowOf
 row-at codes m n i h =
     let place : i ≡ i + 1 - 1 = omega arith in
