@@ -5,12 +5,12 @@ use mathlib.Core.Bool.{Bool, true, false}
 use Prim.Native.Nat.{ℕ}
 use Rattle.matrix.specs.Choice.{numbers}
 use Rattle.matrix.specs.Shape.{lastNode}
-use Rattle.matrix.specs.Every.{every}
+use Rattle.matrix.specs.Every.{every, sameNumbers}
 use Rattle.branching.specs.Ancestors.{ancestor, descendants}
 use Rattle.branching.specs.Nodes.{hasAncestor, inTree, keep, nodesIn, otherNodes, taxaPlaced}
 use Rattle.branching.specs.Growing.{descendantCount, descendantsWanted, climbs, rowOneAlone, nodesOnly, htusIn, ancestorsIn}
 use Rattle.branching.specs.Growing.{descendantsRight, allClimb, grown, growingTree, branching}
-use Rattle.branching.specs.Branches.{BranchRecord, branchesRead, ancestorsOf, sameNumbers, namedInOrder, lentBranching}
+use Rattle.branching.specs.Branches.{BranchRecord, branchesRead, ancestorsOf, namedInOrder, lentBranching}
 
 -- whether a list of ancestors is a growing tree of four taxa
 growing : List ℕ → Bool

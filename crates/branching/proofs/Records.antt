@@ -1,31 +1,23 @@
 -- Branch records: a lent list of them is a branching exactly if it names the nodes in order and its ancestors are one; the branches of a
 -- branching, handed back, are such a list and give the same ancestors.
-use mathlib.Core.Path.{_≡_, refl, sym, ap, _∙_}
-use mathlib.Core.Logic.{_↔_, Iff·trans, Iff·symm, inl, inr, by-cases}
-use mathlib.Core.List.{List, [], _∷_, map, map-map, map-id, nil≢cons, cons-eq-cons}
-use mathlib.Core.Bool.{true, false≢true}
+use mathlib.Core.Path.{_≡_, sym, ap, _∙_}
+use mathlib.Core.Logic.{_↔_, inl, inr, by-cases}
+use mathlib.Core.List.{List, _∷_, map, map-map, map-id}
+use mathlib.Core.Bool.{true}
 use Prim.Native.Nat.{ℕ, zero, suc, _*_, _-_, _≤_}
 use native.Mathlib.Omega.{arith}
 use native.Mathlib.Decide.{decLe}
 use lib.ListN.{length}
 use lib.Seq.{take-all}
-use Rattle.matrix.proofs.Both.{eqb-iff, and-iff}
+use Rattle.matrix.proofs.Every.{sameNumbers-iff}
+use Rattle.matrix.proofs.Both.{and-iff}
 use Rattle.matrix.proofs.Choice.{length-map-numbers, map-numbers, map-beyond}
 use Rattle.branching.specs.Ancestors.{ancestor}
 use Rattle.branching.specs.Nodes.{otherNodes}
 use Rattle.branching.specs.Growing.{Branching}
-use Rattle.branching.specs.Branches.{BranchRecord, sumOver, treeLength, branchOf, branchRecords, branchesRead, ancestorsOf}
-use Rattle.branching.specs.Branches.{sameNumbers, namedInOrder, lentBranching}
+use Rattle.branching.specs.Branches.{BranchRecord, sumOver, treeLength, branchOf, branchRecords, branchesRead, ancestorsOf, namedInOrder, lentBranching}
 use Rattle.branching.proofs.Test.{branching-iff}
 use Rattle.branching.proofs.Whole.{growing-outside, growing-same, branching-length}
-
--- the test for equal lists of numbers
-pub sameNumbers-iff : (xs ys : List ℕ) → (sameNumbers xs ys ≡ true) ↔ (xs ≡ ys)
-unfolding sameNumbers
-sameNumbers-iff [] [] = (λ e. refl, λ e. refl)
-sameNumbers-iff [] (y ∷ ys) = (λ e. absurd (false≢true e), λ e. absurd (nil≢cons e))
-sameNumbers-iff (x ∷ xs) [] = (λ e. absurd (false≢true e), λ e. absurd (nil≢cons (sym e)))
-sameNumbers-iff (x ∷ xs) (y ∷ ys) = Iff·trans (and-iff (eqb-iff x y) (sameNumbers-iff xs ys)) (Iff·symm cons-eq-cons)
 
 -- the nodes that the branches name, as far as they are read
 abbrev pub nodesRead : ℕ → List BranchRecord → List ℕ

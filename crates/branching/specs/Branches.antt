@@ -4,6 +4,7 @@ use mathlib.Core.Bool.{Bool, true, false, _&&_}
 use Prim.Native.Nat.{ℕ, _+_, _*_, _-_}
 use lib.Dec.{eqb}
 use lib.ListN.{take}
+use Rattle.matrix.specs.Every.{sameNumbers}
 use Rattle.branching.specs.Ancestors.{ancestor}
 use Rattle.branching.specs.Nodes.{nodesIn, otherNodes}
 use Rattle.branching.specs.Growing.{branching}
@@ -38,13 +39,6 @@ branchesRead n records = take (2 * n - 3) records
 -- the tree that the first 2n-3 branches give, if they name nodes 2 to 2n-2 in order
 unfoldable pub ancestorsOf : ℕ → List BranchRecord → List ℕ
 ancestorsOf n records = 0 ∷ (0 ∷ map (λ (branch : BranchRecord). branch .ancestor) (branchesRead n records))
-
--- two lists hold the same numbers in the same order
-unfoldable pub sameNumbers : List ℕ → List ℕ → Bool
-sameNumbers [] [] = true
-sameNumbers [] (y ∷ ys) = false
-sameNumbers (x ∷ xs) [] = false
-sameNumbers (x ∷ xs) (y ∷ ys) = eqb x y && sameNumbers xs ys
 
 -- the first 2n-3 branches name nodes 2 to 2n-2 in order
 unfoldable pub namedInOrder : ℕ → List BranchRecord → Bool

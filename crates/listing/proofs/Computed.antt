@@ -34,11 +34,12 @@ use Rattle.listing.specs.Listing as listing-Listing
 -- what is printed for a file of this text
 unfoldable pub computed : String → List ℕ
 unfolding flatMap matrix-Shape.row matrix-Shape.inRange matrix-Shape.lastNode matrix-Choice.numbers matrix-Choice.firstLeast
-    matrix-Every.every matrix-Questions.oneTo matrix-Questions.withinLimits matrix-Questions.allInRange matrix-Questions.rowsInRange
-    matrix-Questions.askMatrix matrix-Questions.nodesExist matrix-Questions.htuInRange matrix-Questions.htusInRange
-    matrix-Questions.askNodes difference-Rows.apart difference-Rows.lower difference-Rows.higher difference-Rows.median
-    difference-Rows.difference difference-Rows.medians difference-Rows.intervalDifference difference-Rows.overwritten
-    matrix-file-Bytes.isDigit matrix-file-Bytes.isLetter matrix-file-Bytes.sameText matrix-file-Bytes.partsAt matrix-file-Bytes.joinedBy
+    matrix-Every.every matrix-Every.sameNumbers matrix-Questions.oneTo matrix-Questions.withinLimits matrix-Questions.allInRange
+    matrix-Questions.rowsInRange matrix-Questions.askMatrix matrix-Questions.nodesExist matrix-Questions.htuInRange
+    matrix-Questions.htusInRange matrix-Questions.askNodes difference-Rows.apart difference-Rows.lower difference-Rows.higher
+    difference-Rows.median difference-Rows.difference difference-Rows.medians difference-Rows.intervalDifference
+    difference-Rows.overwritten matrix-file-Bytes.isDigit matrix-file-Bytes.isLetter matrix-file-Bytes.partsAt
+    matrix-file-Bytes.partLength matrix-file-Bytes.firstPart matrix-file-Bytes.behindPart matrix-file-Bytes.joinedBy
     matrix-file-Decimal.digitsIn matrix-file-Decimal.digitsOf matrix-file-Decimal.decimal matrix-file-Decimal.noLeadingZero
     matrix-file-Decimal.numberForm matrix-file-Decimal.numberFrom matrix-file-Decimal.numberOf matrix-file-Decimal.codeForm
     matrix-file-Decimal.codeOf matrix-file-Job.inName matrix-file-Job.nameForm matrix-file-Job.differsFromAll matrix-file-Job.allDiffer
@@ -58,18 +59,17 @@ unfolding flatMap matrix-Shape.row matrix-Shape.inRange matrix-Shape.lastNode ma
     branching-Growing.growingTree branching-Growing.branching branching-Hanging.noBranches branching-Hanging.linked
     branching-Hanging.hung branching-Hanging.nextHtu branching-Branches.sumOver branching-Branches.treeLength
     branching-Branches.branchOf branching-Branches.branchRecords branching-Branches.branchesRead branching-Branches.ancestorsOf
-    branching-Branches.sameNumbers branching-Branches.namedInOrder branching-Branches.lentBranching wagner-Nodes.rowOf
-    wagner-Nodes.leastOf wagner-Nodes.nodeDifference wagner-Nodes.intervalBy wagner-Nodes.nodeInterval wagner-Nodes.advancement
-    wagner-Nodes.lengthUnder wagner-Placing.medianRow wagner-Placing.fromInterval wagner-Placing.nearestInterval wagner-Placing.link
-    wagner-Placing.hang wagner-Placing.placeOn wagner-Placing.place wagner-Build.byAdvancement wagner-Build.addedLength
-    wagner-Build.buildOn wagner-Build.build wagner-Build.wagner wagner-Build.wagnerLength wagner-Build.wagnerBranches fitting-Sets.only
-    fitting-Sets.join fitting-Sets.nearest fitting-Sets.insert fitting-Sets.inOrder fitting-Sets.middle fitting-Trees.above
-    fitting-Trees.treeAt fitting-Trees.treesBelow fitting-Character.valueAt fitting-Character.up fitting-Character.chosen
-    fitting-Character.ranges fitting-Assignments.character fitting-Assignments.branchLength fitting-Assignments.total
-    fitting-Fit.chosenState fitting-Fit.range fitting-Fit.fittedLength fitting-Fit.fittedTotal fitting-Fit.markedPlus listing-Lines.line
-    listing-Lines.hyphen listing-Lines.htuName listing-Lines.nodeName listing-Blocks.totalLine listing-Blocks.mark
-    listing-Blocks.primLine listing-Blocks.wagnerLine listing-Blocks.fittedLine listing-Blocks.rangeLine listing-Blocks.fittedLines
-    listing-Blocks.rangeLines listing-Listing.primBlock listing-Listing.wagnerBlock listing-Listing.fittedBlock
-    listing-Listing.rangeBlock listing-Listing.listing listing-Listing.refusalLine listing-Listing.printed listing-Listing.listingOf
-    listing-Listing.output
+    branching-Branches.namedInOrder branching-Branches.lentBranching wagner-Nodes.rowOf wagner-Nodes.leastOf wagner-Nodes.nodeDifference
+    wagner-Nodes.intervalBy wagner-Nodes.nodeInterval wagner-Nodes.advancement wagner-Nodes.lengthUnder wagner-Placing.medianRow
+    wagner-Placing.fromInterval wagner-Placing.nearestInterval wagner-Placing.link wagner-Placing.hang wagner-Placing.placeOn
+    wagner-Placing.place wagner-Build.byAdvancement wagner-Build.addedLength wagner-Build.buildOn wagner-Build.build wagner-Build.wagner
+    wagner-Build.wagnerLength wagner-Build.wagnerBranches fitting-Sets.only fitting-Sets.join fitting-Sets.nearest fitting-Sets.insert
+    fitting-Sets.inOrder fitting-Sets.middle fitting-Trees.above fitting-Trees.treeAt fitting-Trees.treesBelow fitting-Character.valueAt
+    fitting-Character.up fitting-Character.chosen fitting-Character.ranges fitting-Assignments.character
+    fitting-Assignments.branchLength fitting-Assignments.total fitting-Fit.chosenState fitting-Fit.range fitting-Fit.fittedLength
+    fitting-Fit.fittedTotal fitting-Fit.markedPlus listing-Lines.line listing-Lines.hyphen listing-Lines.htuName listing-Lines.nodeName
+    listing-Blocks.totalLine listing-Blocks.mark listing-Blocks.primLine listing-Blocks.wagnerLine listing-Blocks.fittedLine
+    listing-Blocks.rangeLine listing-Blocks.fittedLines listing-Blocks.rangeLines listing-Listing.primBlock listing-Listing.wagnerBlock
+    listing-Listing.fittedBlock listing-Listing.rangeBlock listing-Listing.listing listing-Listing.refusalLine listing-Listing.printed
+    listing-Listing.listingOf listing-Listing.output
 computed text = listing-Listing.output (matrix-file-Text.bytes text)

@@ -1,16 +1,16 @@
 -- Laws of `every`, and what a loop over a list knows at place j: the rest from j on decides.
 use mathlib.Core.Path.{_≡_, refl, sym, ap, _∙_}
-use mathlib.Core.Bool.{Bool, true, false, not, _&&_}
-use mathlib.Core.Logic.{_↔_, ⊎-elim}
-use mathlib.Core.List.{List, [], _∷_, _++_, List·Memᴰ, List·Memᴰ·head, List·Memᴰ·tail, List·Memᴰ·not-nil, List·Memᴰ·cases-cons}
+use mathlib.Core.Bool.{Bool, true, false, not, _&&_, false≢true}
+use mathlib.Core.Logic.{_↔_, ⊎-elim, Iff·trans, Iff·symm}
+use mathlib.Core.List.{List, [], _∷_, _++_, List·Memᴰ, List·Memᴰ·head, List·Memᴰ·tail, List·Memᴰ·not-nil, List·Memᴰ·cases-cons, nil≢cons, cons-eq-cons}
 use Prim.Native.Nat.{ℕ, zero, suc, _+_, _≤_, _<_}
 use native.Mathlib.Numerals.{add-one}
 use native.Mathlib.Omega.{arith}
 use borrow.Author.Tests.{not-true, not-false}
 use lib.ListN.{length, getD, drop, drop-of-length-le}
 use lib.Seq.{drop-cons}
-use Rattle.matrix.specs.Every.{every}
-use Rattle.matrix.proofs.Both.{and-left, and-right, and-both}
+use Rattle.matrix.specs.Every.{every, sameNumbers}
+use Rattle.matrix.proofs.Both.{and-left, and-right, and-both, eqb-iff, and-iff}
 
 module _ {A : Type 0} (test : A → Bool) where
   -- of a list that passes, the first element passes
@@ -85,3 +85,11 @@ module _ {A : Type 0} (test : A → Bool) (d : A) where
     pub every-passes : length xs ≤ j → true ≡ every test xs
     unfolding every
     every-passes h = sym (inv ∙ ap (every test) (drop-of-length-le xs h))
+
+-- two lists pass the test exactly if they are equal
+pub sameNumbers-iff : (xs ys : List ℕ) → (sameNumbers xs ys ≡ true) ↔ (xs ≡ ys)
+unfolding sameNumbers
+sameNumbers-iff [] [] = (λ e. refl, λ e. refl)
+sameNumbers-iff [] (y ∷ ys) = (λ e. absurd (false≢true e), λ e. absurd (nil≢cons e))
+sameNumbers-iff (x ∷ xs) [] = (λ e. absurd (false≢true e), λ e. absurd (nil≢cons (sym e)))
+sameNumbers-iff (x ∷ xs) (y ∷ ys) = Iff·trans (and-iff (eqb-iff x y) (sameNumbers-iff xs ys)) (Iff·symm cons-eq-cons)

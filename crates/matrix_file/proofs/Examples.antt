@@ -12,7 +12,8 @@ use Rattle.matrix.specs.Refusals.{refusalNumber}
 use Rattle.matrix.specs.Every.{every}
 use Rattle.matrix.specs.declared.refusal.Refusal.the-variants.{ListSize}
 use Rattle.matrix_file.specs.declared.answer.Read.the-variants.{Refused}
-use Rattle.matrix_file.specs.Bytes.{isDigit, isLetter, sameText, partsAt, joinedBy}
+use Rattle.matrix.specs.Every.{sameNumbers as sameText}
+use Rattle.matrix_file.specs.Bytes.{isDigit, isLetter, partsAt, joinedBy}
 use Rattle.matrix_file.specs.Decimal.{digitsIn, digitsOf, decimal, noLeadingZero, numberForm, numberFrom, numberOf, codeForm, codeOf}
 use Rattle.matrix_file.specs.Job.{Job, inName, nameForm, differsFromAll, firstText, rowText, ended, fileOf, padded}
 use Rattle.matrix_file.specs.Reading.{rowLine, linesOf, fieldsOf, firstFields, taxaIn, charactersIn, nameIn, codesIn, rowsOn, jobIn}

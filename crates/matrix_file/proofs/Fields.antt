@@ -6,7 +6,8 @@ use Prim.Native.Nat.{ℕ, _≤_}
 use native.Mathlib.Decide.{ℕ-discrete}
 use native.Mathlib.Omega.{arith}
 use lib.ListN.{length, drop}
-use Rattle.matrix_file.specs.Bytes.{tab, wordW, sameText, partsAt, firstPart, behindPart}
+use Rattle.matrix.specs.Every.{sameNumbers as sameText}
+use Rattle.matrix_file.specs.Bytes.{tab, wordW, partsAt, firstPart, behindPart}
 use Rattle.matrix_file.specs.Decimal.{numberForm}
 use Rattle.matrix_file.specs.Reading.{fieldsOf, nameIn, firstForm}
 use Rattle.matrix.proofs.Both.{and-left, and-right}

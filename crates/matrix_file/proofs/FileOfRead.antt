@@ -3,21 +3,21 @@ use mathlib.Core.Path.{_≡_, sym, ap, ap₂, _∙_, subst}
 use mathlib.Core.List.{List, [], _∷_}
 use mathlib.Core.Bool.{true, _&&_, false≢true}
 use Prim.Native.Nat.{ℕ, _≤_}
+use borrow.Author.Tests.{leb-true}
 use lib.Dec.{leb}
 use lib.ListN.{length, length-map, getD, take}
-use borrow.Author.Tests.{leb-true}
 use Rattle.matrix.specs.Questions.{ask, withinLimits}
 use Rattle.matrix.specs.declared.refusal.Refusal.the-variants.{FileTooLong, FirstLine, BeyondLimits}
 use Rattle.matrix.specs.declared.refusal.Asked.the-variants.{Passed}
-use Rattle.matrix_file.specs.Bytes.{tab, lineFeed, wordW, sameText, joinedBy}
+use Rattle.matrix.specs.Every.{sameNumbers as sameText}
+use Rattle.matrix_file.specs.Bytes.{tab, lineFeed, wordW, joinedBy}
 use Rattle.matrix_file.specs.Decimal.{digitsOf, numberForm, numberOf}
 use Rattle.matrix_file.specs.Job.{Job, JobWithinLimits, firstText, ended, fileOf}
-use Rattle.matrix_file.specs.Reading.{mostBytes, linesOf, fieldsOf, firstFields, taxaIn, charactersIn, nameIn, codesIn, rowsOn, jobIn}
-use Rattle.matrix_file.specs.Reading.{firstForm, firstLineForm, askRows, askFile, filePassed, accepted, readAnswer}
+use Rattle.matrix_file.specs.Reading.{mostBytes, linesOf, fieldsOf, firstFields, taxaIn, charactersIn, nameIn, codesIn, rowsOn, jobIn, firstForm, firstLineForm, askRows, askFile, filePassed, accepted, readAnswer}
 use Rattle.matrix.proofs.Both.{and-left, and-right}
 use Rattle.matrix_file.proofs.Parts.{parts-some, joined-parts, joined-ended}
 use Rattle.matrix_file.proofs.Digits.{digits-of-number}
-use Rattle.matrix_file.proofs.Names.{same-text}
+use Rattle.matrix.proofs.Every.{sameNumbers-iff}
 use Rattle.matrix.proofs.Passing.{ask-passed}
 use Rattle.matrix_file.proofs.Asked.{line-passed, answer-accepted}
 use Rattle.matrix_file.proofs.PassedRows.{RowsRead, rows-read}
@@ -31,7 +31,7 @@ first-form-read (word ∷ []) e = absurd (false≢true e)
 first-form-read (word ∷ n ∷ []) e = absurd (false≢true e)
 first-form-read (word ∷ n ∷ m ∷ []) e =
     let numbers = and-right (sameText word wordW) (numberForm n && numberForm m) e in
-    ap₂ (λ first others. first ∷ others) (sym (same-text word wordW (and-left (sameText word wordW) _ e)))
+    ap₂ (λ first others. first ∷ others) (sym (sameNumbers-iff word wordW .0 (and-left (sameText word wordW) _ e)))
     (ap₂ (λ first second. first ∷ second ∷ []) (digits-of-number n (and-left (numberForm n) _ numbers))
     (digits-of-number m (and-right (numberForm n) (numberForm m) numbers)))
 first-form-read (word ∷ n ∷ m ∷ more ∷ fields) e = absurd (false≢true e)

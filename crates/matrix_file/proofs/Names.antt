@@ -1,24 +1,15 @@
 -- Names that all differ, and names that each differ from every earlier one.
 use mathlib.Core.Path.{_≡_, refl, sym, ap, ap₂, _∙_}
 use mathlib.Core.List.{List, [], _∷_}
-use mathlib.Core.Bool.{Bool, true, false, _&&_, not, true≢false, false≢true}
+use mathlib.Core.Bool.{Bool, true, not, true≢false, _&&_}
 use Prim.Native.Nat.{ℕ, zero, suc, _<_}
 use native.Mathlib.Omega.{arith}
-use lib.Dec.{eqb}
+use borrow.Author.Tests.{not-true}
 use lib.ListN.{length, getD}
-use borrow.Author.Tests.{eqb-true, eqb-false, eq-eqb, ne-eqb, not-true}
-use Rattle.matrix.specs.Every.{every}
-use Rattle.matrix_file.specs.Bytes.{sameText}
+use Rattle.matrix.specs.Every.{every, sameNumbers as sameText}
 use Rattle.matrix_file.specs.Job.{differsFromAll, allDiffer}
-use Rattle.matrix.proofs.Both.{and-left, and-right, and-both}
-
--- whether two numbers are equal does not depend on their order
-eqb-sym : (a b : ℕ) → eqb a b ≡ eqb b a
-eqb-sym a b = by (eqb a b) refl
-  where
-    by : (t : Bool) → eqb a b ≡ t → eqb a b ≡ eqb b a
-    by true e = e ∙ sym (eq-eqb b a (sym (eqb-true a b e)))
-    by false e = e ∙ sym (ne-eqb b a (λ same. eqb-false a b e (sym same)))
+use Rattle.matrix.proofs.Every.{sameNumbers-iff}
+use Rattle.matrix.proofs.Both.{and-left, and-right, and-both, eqb-sym}
 
 -- whether two texts are the same does not depend on their order
 same-sym : (a b : List ℕ) → sameText a b ≡ sameText b a
@@ -27,20 +18,6 @@ same-sym [] [] = refl
 same-sym [] (y ∷ ys) = refl
 same-sym (x ∷ xs) [] = refl
 same-sym (x ∷ xs) (y ∷ ys) = ap₂ _&&_ (eqb-sym x y) (same-sym xs ys)
-
--- the same text passes the test, and what passes it is the same text
-pub same-refl : (a : List ℕ) → sameText a a ≡ true
-unfolding sameText
-same-refl [] = refl
-same-refl (x ∷ xs) = and-both (eq-eqb x x refl) (same-refl xs)
-
-pub same-text : (a b : List ℕ) → sameText a b ≡ true → a ≡ b
-unfolding sameText
-same-text [] [] e = refl
-same-text [] (y ∷ ys) e = absurd (false≢true e)
-same-text (x ∷ xs) [] e = absurd (false≢true e)
-same-text (x ∷ xs) (y ∷ ys) e =
-    ap₂ _∷_ (eqb-true x y (and-left (eqb x y) _ e)) (same-text xs ys (and-right (eqb x y) _ e))
 
 -- each of some names differs from every earlier one
 abbrev pub apartFrom : List (List ℕ) → List (List ℕ) → Bool
@@ -80,7 +57,7 @@ differs-at : (name : List ℕ) (names : List (List ℕ)) → differsFromAll name
 unfolding differsFromAll
 differs-at name [] e j h same = omega arith
 differs-at name (next ∷ names) e zero h same =
-    true≢false (sym (same-refl name) ∙ ap (sameText name) same ∙ not-true (sameText name next) (and-left (not (sameText name next)) _ e))
+    true≢false (sym (sameNumbers-iff name name .1 refl) ∙ ap (sameText name) same ∙ not-true (sameText name next) (and-left (not (sameText name next)) _ e))
 differs-at name (next ∷ names) e (suc j) h same =
     differs-at name names (and-right (not (sameText name next)) _ e) j (omega arith) same
 

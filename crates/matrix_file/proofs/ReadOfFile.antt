@@ -8,7 +8,8 @@ use lib.ListN.{length, length-append, take}
 use lib.Seq.{take-at}
 use borrow.Author.Tests.{le-leb}
 use Rattle.matrix.specs.Every.{every}
-use Rattle.matrix_file.specs.Bytes.{lineFeed, wordW, sameText}
+use Rattle.matrix.specs.Every.{sameNumbers as sameText}
+use Rattle.matrix_file.specs.Bytes.{lineFeed, wordW}
 use Rattle.matrix_file.specs.Decimal.{digitsOf}
 use Rattle.matrix_file.specs.Job.{Job, JobWithinLimits, firstText, rowText, rowTexts, ended, fileOf}
 use Rattle.matrix_file.specs.Reading.{mostBytes, linesOf, fieldsOf, firstFields, taxaIn, charactersIn, nameIn, codesIn, rowsOn, jobIn}

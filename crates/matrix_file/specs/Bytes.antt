@@ -30,13 +30,6 @@ isDigit byte = leb 48 byte && leb byte 57
 unfoldable pub isLetter : ℕ → Bool
 isLetter byte = (leb 65 byte && leb byte 90) || (leb 97 byte && leb byte 122)
 
--- two texts are the same, byte for byte
-unfoldable pub sameText : List ℕ → List ℕ → Bool
-sameText [] [] = true
-sameText [] (b ∷ bs) = false
-sameText (a ∷ rest) [] = false
-sameText (a ∷ rest) (b ∷ bs) = eqb a b && sameText rest bs
-
 -- a byte put in front of the first part (of a text's parts there is always one)
 abbrev pub beforeFirst : ℕ → List (List ℕ) → List (List ℕ)
 beforeFirst byte [] = (byte ∷ []) ∷ []

@@ -9,7 +9,8 @@ use lib.IntN.{ℤ}
 use lib.ListN.{length, drop, replicate}
 use Rattle.matrix.specs.Questions.{withinLimits, allInRange}
 use Rattle.matrix.specs.Every.{every}
-use Rattle.matrix_file.specs.Bytes.{tab, lineFeed, underscore, wordW, isDigit, isLetter, sameText, joinedBy}
+use Rattle.matrix.specs.Every.{sameNumbers as sameText}
+use Rattle.matrix_file.specs.Bytes.{tab, lineFeed, underscore, wordW, isDigit, isLetter, joinedBy}
 use Rattle.matrix_file.specs.Decimal.{digitsOf, decimal}
 
 -- n taxa, m characters; names and rows of codes stand by row, row 1 first

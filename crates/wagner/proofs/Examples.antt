@@ -7,14 +7,14 @@ use lib.IntN.{ℤ, pos, negsuc}
 use lib.ListN.{take}
 use Rattle.matrix.specs.Choice.{numbers, firstLeast}
 use Rattle.matrix.specs.Shape.{lastNode}
-use Rattle.matrix.specs.Every.{every}
+use Rattle.matrix.specs.Every.{every, sameNumbers}
 use Rattle.difference.specs.Rows.{apart, lower, higher, median, medians, difference}
 use Rattle.branching.specs.Ancestors.{ancestor, descendants}
 use Rattle.branching.specs.Nodes.{hasAncestor, inTree, keep, nodesIn, nodesOut, otherNodes, taxaPlaced}
 use Rattle.branching.specs.Growing.{descendantCount, descendantsWanted, climbs, rowOneAlone, nodesOnly, htusIn, ancestorsIn}
 use Rattle.branching.specs.Growing.{descendantsRight, allClimb, grown, growingTree, branching}
 use Rattle.branching.specs.Hanging.{noBranches, linked, hung, nextHtu}
-use Rattle.branching.specs.Branches.{BranchRecord, sumOver, treeLength, branchOf, branchRecords, branchesRead, ancestorsOf, sameNumbers}
+use Rattle.branching.specs.Branches.{BranchRecord, sumOver, treeLength, branchOf, branchRecords, branchesRead, ancestorsOf}
 use Rattle.branching.specs.Branches.{namedInOrder, lentBranching}
 use Rattle.wagner.specs.Nodes.{rowOf, leastOf, nodeDifference, intervalBy, nodeInterval, advancement, lengthUnder}
 use Rattle.wagner.specs.Placing.{Placement, Placed, medianRow, fromInterval, nearestInterval, link, hang, placeOn, place}

@@ -10,8 +10,8 @@ use borrow.Author.Needs.{needs}
 use lib.Dec.{eqb}
 use lib.ListN.{length, getD, drop, drop-of-length-le}
 use lib.Seq.{drop-cons}
-use Rattle.matrix_file.specs.Bytes.{sameText}
-use Rattle.matrix_file.proofs.Names.{same-text}
+use Rattle.matrix.specs.Every.{sameNumbers as sameText}
+use Rattle.matrix.proofs.Every.{sameNumbers-iff}
 use Rattle.matrix_file.proofs.bytes.same_text.Statement.{statement}
 use Rattle.matrix_file.proofs.bytes.same_text.Tie as tie
 
@@ -20,7 +20,7 @@ lengths-differ : (a b : List ℕ) → (length a ≡ length b → ⊥) → false 
 lengths-differ a b h = by (sameText a b) refl
   where
     by : (t : Bool) → sameText a b ≡ t → false ≡ sameText a b
-    by true e = absurd (h (ap length (same-text a b e)))
+    by true e = absurd (h (ap length (sameNumbers-iff a b .0 e)))
     by false e = sym e
 
 -- what a loop over two texts knows at place i: the rests from i on decide

@@ -6,7 +6,8 @@ use Prim.Native.Nat.{ℕ, zero, suc, _-_, _≤_, _<_}
 use native.Mathlib.Omega.{arith}
 use borrow.Author.Needs.{needs}
 use lib.ListN.{getD, drop}
-use Rattle.matrix_file.specs.Bytes.{tab, firstPart, sameText}
+use Rattle.matrix.specs.Every.{sameNumbers as sameText}
+use Rattle.matrix_file.specs.Bytes.{tab, firstPart}
 use Rattle.matrix_file.specs.Job.{differsFromAll}
 use Rattle.matrix_file.specs.Walk.{namesPassed}
 use Rattle.matrix_file.proofs.judging.differs_from_all.Statement.{statement}
