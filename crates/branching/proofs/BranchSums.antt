@@ -9,13 +9,14 @@ use lib.Dec.{leb, eqb}
 use lib.ListN.{length, set, length-set}
 use lib.Seq.{getD-set-same, getD-set-other}
 use borrow.Author.Tests.{ne-eqb}
-use Rattle.matrix.proofs.Choice.{numbers-within}
+use Rattle.lists.proofs.Numbers.{numbers-within}
 use Rattle.branching.specs.Ancestors.{ancestor}
 use Rattle.branching.specs.Nodes.{hasAncestor, inTree, nodesIn, otherNodes}
 use Rattle.branching.specs.Growing.{descendantCount}
 use Rattle.branching.specs.Hanging.{hung}
-use Rattle.branching.specs.Branches.{sumOver, treeLength}
-use Rattle.branching.proofs.Sums.{length-keep, sum-keep, sum-same, sum-changed, counted, pick}
+use Rattle.lists.specs.Sums.{sumOver}
+use Rattle.branching.specs.Branches.{treeLength}
+use Rattle.lists.proofs.Sums.{length-keep, sum-keep, sum-same, sum-changed, counted, pick}
 use Rattle.branching.proofs.Descendants.{descendants-keep}
 
 -- a node whose ancestor is changed has the new one

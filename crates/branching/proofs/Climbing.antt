@@ -8,11 +8,11 @@ use native.Mathlib.Omega.{arith}
 use lib.Dec.{eqb}
 use lib.ListN.{length}
 use borrow.Author.Tests.{eqb-true, eq-eqb}
-use Rattle.matrix.proofs.Both.{eqb-iff, or-iff}
+use Rattle.lists.proofs.Both.{eqb-iff, or-iff}
 use Rattle.branching.specs.Ancestors.{ancestor}
-use Rattle.branching.specs.Nodes.{keep}
+use Rattle.lists.specs.Filters.{keep}
 use Rattle.branching.specs.Growing.{climbs, ReachesRoot, root, up}
-use Rattle.branching.proofs.Keep.{keep-grows, mem-keep, mem-length, length-keep-le}
+use Rattle.lists.proofs.Keep.{keep-grows, mem-keep, mem-length, length-keep-le}
 
 module _ (tree : List ℕ) where
   -- the test with one step more, by cases of node v and its immediate ancestor

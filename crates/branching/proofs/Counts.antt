@@ -5,14 +5,15 @@ use mathlib.Core.List.{List, List·Memᴰ}
 use mathlib.Core.Bool.{true, not}
 use Prim.Native.Nat.{ℕ, suc, _*_, _-_, _≤_, _<_}
 use native.Mathlib.Omega.{arith}
-use Rattle.matrix.specs.Choice.{numbers}
-use Rattle.matrix.proofs.Choice.{length-numbers, numbers-within, numbers-among}
+use Rattle.lists.specs.Numbers.{numbers}
+use Rattle.lists.proofs.Numbers.{length-numbers, numbers-within, numbers-among}
 use Rattle.branching.specs.Ancestors.{ancestor}
-use Rattle.branching.specs.Nodes.{inTree, keep, nodesIn, nodesOut, otherNodes, taxaPlaced}
+use Rattle.lists.specs.Filters.{keep}
+use Rattle.branching.specs.Nodes.{inTree, nodesIn, nodesOut, otherNodes, taxaPlaced}
 use Rattle.branching.specs.Growing.{descendantsWanted, Grown, Unplaced}
 use Rattle.branching.proofs.Nodes.{false-inTree, not-inTree, taxaPlaced-le, nodesIn-node, inTree-iff}
-use Rattle.branching.proofs.Sums.{length-keep, sum-changed, counted}
-use Rattle.branching.proofs.Keep.{keep-mem, mem-keep, keep-split, keep-grows, length-mem, length-keep-le}
+use Rattle.lists.proofs.Sums.{length-keep, sum-changed, counted}
+use Rattle.lists.proofs.Keep.{keep-mem, mem-keep, keep-split, keep-grows, length-mem, length-keep-le}
 use Rattle.branching.proofs.Descendants.{has-descendant}
 
 -- if all taxa are placed, each is in the tree

@@ -1,26 +1,25 @@
 -- The descendants of a node: which they are, how many it has, and how many it has to have.
 use mathlib.Core.Path.{_≡_, refl, ap, _∙_}
 use mathlib.Core.Logic.{_↔_, ⊎-elim, _≢_}
-use mathlib.Core.List.{List, [], _∷_, List·Memᴰ}
-use mathlib.Core.Bool.{Bool, cond}
+use mathlib.Core.List.{List, List·Memᴰ}
+use mathlib.Core.Bool.{Bool}
 use Prim.Native.Nat.{ℕ, _≤_, _<_}
 use native.Mathlib.Omega.{arith}
 use lib.Dec.{eqb}
 use lib.ListN.{length}
 use borrow.Author.Tests.{eqb-true, eq-eqb, ne-eqb, le-leb, lt-leb}
 use Rattle.branching.specs.Ancestors.{ancestor, descendants}
-use Rattle.branching.specs.Nodes.{keep, otherNodes}
+use Rattle.lists.specs.Filters.{keep}
+use Rattle.branching.specs.Nodes.{otherNodes}
 use Rattle.branching.specs.Growing.{descendantCount, descendantsWanted, InTree}
-use Rattle.branching.specs.Branches.{sumOver}
-use Rattle.branching.proofs.Keep.{keep-mem, mem-keep, keep-none, length-mem}
-use Rattle.branching.proofs.Sums.{pick, sum-keep}
+use Rattle.lists.specs.Sums.{sumOver}
+use Rattle.lists.proofs.Keep.{keep-mem, mem-keep, keep-none, length-mem}
+use Rattle.lists.proofs.Sums.{pick, sum-keep}
 
 -- the descendants of node v are those kept by the test that their ancestor is v
 pub descendants-keep : (tree : List ℕ) (us : List ℕ) (v : ℕ) → descendants tree us v ≡ keep (λ u. eqb (ancestor tree u) v) us
-unfolding descendants keep
-descendants-keep tree [] v = refl
-descendants-keep tree (u ∷ us) v =
-    ap (λ (rest : List ℕ). cond (eqb (ancestor tree u) v) (u ∷ rest) rest) (descendants-keep tree us v)
+unfolding descendants
+descendants-keep tree us v = refl
 
 -- a node is a descendant of v exactly if it is one of the list and v is its immediate ancestor
 pub mem-descendants : (tree us : List ℕ) (v u : ℕ) → List·Memᴰ u (descendants tree us v) ↔ (List·Memᴰ u us × (ancestor tree u ≡ v))

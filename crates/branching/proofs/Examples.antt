@@ -3,11 +3,12 @@ use mathlib.Core.Path.{_≡_, refl}
 use mathlib.Core.List.{List, [], _∷_}
 use mathlib.Core.Bool.{Bool, true, false}
 use Prim.Native.Nat.{ℕ}
-use Rattle.matrix.specs.Choice.{numbers}
+use Rattle.lists.specs.Numbers.{numbers}
 use Rattle.matrix.specs.Shape.{lastNode}
-use Rattle.matrix.specs.Every.{every, sameNumbers}
+use Rattle.lists.specs.Tests.{every, sameNumbers}
 use Rattle.branching.specs.Ancestors.{ancestor, descendants}
-use Rattle.branching.specs.Nodes.{hasAncestor, inTree, keep, nodesIn, otherNodes, taxaPlaced}
+use Rattle.lists.specs.Filters.{keep}
+use Rattle.branching.specs.Nodes.{hasAncestor, inTree, nodesIn, otherNodes, taxaPlaced}
 use Rattle.branching.specs.Growing.{descendantCount, descendantsWanted, climbs, rowOneAlone, nodesOnly, htusIn, ancestorsIn}
 use Rattle.branching.specs.Growing.{descendantsRight, allClimb, grown, growingTree, branching}
 use Rattle.branching.specs.Branches.{BranchRecord, branchesRead, ancestorsOf, namedInOrder, lentBranching}

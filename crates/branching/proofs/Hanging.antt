@@ -14,7 +14,7 @@ use Rattle.branching.specs.Growing.{descendantCount, descendantsWanted, 
 use Rattle.branching.specs.Hanging.{hung}
 use Rattle.branching.proofs.Nodes.{inTree-same, inTree-iff}
 use Rattle.branching.proofs.Counts.{taxaPlaced-lt, taxaPlaced-more}
-use Rattle.branching.proofs.Sums.{counted}
+use Rattle.lists.proofs.Sums.{counted}
 use Rattle.branching.proofs.Descendants.{count-out, wanted-taxon, wanted-htu}
 use Rattle.branching.proofs.BranchSums.{count-sum, Joint, hung-taxon, hung-lower, hung-htu, hung-other, sum-hung}
 

@@ -13,7 +13,7 @@ use Rattle.branching.specs.Growing.{Unplaced}
 use Rattle.branching.specs.Hanging.{linked, hung}
 use Rattle.branching.specs.Branches.{treeLength}
 use Rattle.branching.proofs.Nodes.{node-nodesIn}
-use Rattle.branching.proofs.Sums.{sum-same, sum-none, pick}
+use Rattle.lists.proofs.Sums.{sum-same, sum-none, pick}
 use Rattle.branching.proofs.BranchSums.{sumOfBranches, sum-set, treeLength-sum, Joint, sum-hung}
 
 -- two differences that agree on the branches of a tree give it one length

@@ -1,7 +1,5 @@
 -- The laws of trees, and the tests for growing trees and branchings computed on examples.
 pub mod Examples
-pub mod Keep
-pub mod Sums
 pub mod Descendants
 pub mod BranchSums
 pub mod Climbing

@@ -14,7 +14,7 @@ use Rattle.branching.specs.Growing.{descendantCount, descendantsWanted, 
 use Rattle.branching.specs.Hanging.{linked}
 use Rattle.branching.proofs.Nodes.{inTree-same}
 use Rattle.branching.proofs.Test.{alone-placed}
-use Rattle.branching.proofs.Sums.{counted}
+use Rattle.lists.proofs.Sums.{counted}
 use Rattle.branching.proofs.Counts.{taxaPlaced-more}
 use Rattle.branching.proofs.BranchSums.{ancestor-set-same, ancestor-set-other, sum-set, count-sum}
 use Rattle.branching.proofs.Descendants.{count-none, wanted-taxon}

@@ -9,14 +9,14 @@ use native.Mathlib.Decide.{decLe}
 use lib.Dec.{leb, eqb}
 use lib.ListN.{length, getD, replicate, List·getD-eq-default}
 use borrow.Author.Tests.{ne-eqb, leb-false, lt-leb, not-true}
-use Rattle.matrix.specs.Choice.{numbers}
-use Rattle.matrix.proofs.Choice.{length-numbers, numbers-within, numbers-among}
-use Rattle.matrix.proofs.Both.{leb-iff, eqb-iff, or-iff}
+use Rattle.lists.specs.Numbers.{numbers}
+use Rattle.lists.proofs.Numbers.{length-numbers, numbers-within, numbers-among}
+use Rattle.lists.proofs.Both.{leb-iff, eqb-iff, or-iff}
 use Rattle.branching.specs.Ancestors.{ancestor}
 use Rattle.branching.specs.Nodes.{hasAncestor, inTree, nodesIn, otherNodes, taxaPlaced}
 use Rattle.branching.specs.Growing.{InTree}
 use Rattle.branching.specs.Hanging.{noBranches}
-use Rattle.branching.proofs.Keep.{keep-mem, mem-keep, length-keep-le}
+use Rattle.lists.proofs.Keep.{keep-mem, mem-keep, length-keep-le}
 
 -- a list of one number throughout has it at every place, and beyond its end if it stands in there
 same-everywhere : (count v a : ℕ) → getD (replicate count a) v a ≡ a

@@ -9,13 +9,14 @@ use native.Mathlib.Omega.{arith}
 use native.Mathlib.Decide.{decLe}
 use lib.ListN.{length}
 use lib.Seq.{take-all}
-use Rattle.matrix.proofs.Every.{sameNumbers-iff}
-use Rattle.matrix.proofs.Both.{and-iff}
-use Rattle.matrix.proofs.Choice.{length-map-numbers, map-numbers, map-beyond}
+use Rattle.lists.proofs.Every.{sameNumbers-iff}
+use Rattle.lists.proofs.Both.{and-iff}
+use Rattle.lists.proofs.Numbers.{length-map-numbers, map-numbers, map-beyond}
 use Rattle.branching.specs.Ancestors.{ancestor}
 use Rattle.branching.specs.Nodes.{otherNodes}
 use Rattle.branching.specs.Growing.{Branching}
-use Rattle.branching.specs.Branches.{BranchRecord, sumOver, treeLength, branchOf, branchRecords, branchesRead, ancestorsOf, namedInOrder, lentBranching}
+use Rattle.branching.specs.Branches.{BranchRecord, treeLength, branchOf, branchRecords, branchesRead, ancestorsOf, namedInOrder, lentBranching}
+use Rattle.lists.specs.Sums.{sumOver}
 use Rattle.branching.proofs.Test.{branching-iff}
 use Rattle.branching.proofs.Whole.{growing-outside, growing-same, branching-length}
 

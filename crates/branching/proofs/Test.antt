@@ -9,21 +9,22 @@ use native.Mathlib.Decide.{decLe, ℕ-discrete}
 use lib.Dec.{leb, eqb}
 use lib.ListN.{length}
 use borrow.Author.Tests.{eqb-true, eq-eqb}
-use Rattle.matrix.specs.Choice.{numbers}
+use Rattle.lists.specs.Numbers.{numbers}
 use Rattle.matrix.specs.Shape.{lastNode}
-use Rattle.matrix.specs.Every.{every}
-use Rattle.matrix.proofs.Both.{leb-iff, eqb-iff, and-iff, or-iff, implies-iff}
-use Rattle.matrix.proofs.Every.{every-iff}
-use Rattle.matrix.proofs.Choice.{length-numbers, numbers-within, numbers-among}
+use Rattle.lists.specs.Tests.{every}
+use Rattle.lists.proofs.Both.{leb-iff, eqb-iff, and-iff, or-iff, implies-iff}
+use Rattle.lists.proofs.Every.{every-iff}
+use Rattle.lists.proofs.Numbers.{length-numbers, numbers-within, numbers-among}
 use Rattle.branching.specs.Ancestors.{ancestor}
-use Rattle.branching.specs.Nodes.{hasAncestor, inTree, keep, nodesIn, otherNodes, taxaPlaced}
+use Rattle.lists.specs.Filters.{keep}
+use Rattle.branching.specs.Nodes.{hasAncestor, inTree, nodesIn, otherNodes, taxaPlaced}
 use Rattle.branching.specs.Growing.{descendantCount, descendantsWanted, climbs, rowOneAlone, nodesOnly, htusIn, ancestorsIn}
 use Rattle.branching.specs.Growing.{descendantsRight, allClimb, grown, growingTree, branching, InTree, ReachesRoot, root, Grown}
 use Rattle.branching.specs.Growing.{GrowingTree, alone, several, Branching}
 use Rattle.branching.proofs.Climbing.{climbs-reaches, reaches-climbs, never-climbs}
 use Rattle.branching.proofs.Nodes.{ancestor-place, hasAncestor-iff, no-ancestor-iff, inTree-iff, taxaPlaced-le, nodesIn-node}
 use Rattle.branching.proofs.Nodes.{node-nodesIn}
-use Rattle.branching.proofs.Keep.{keep-none}
+use Rattle.lists.proofs.Keep.{keep-none}
 
 -- only nodes 2 to `last` have an ancestor
 abbrev pub NodesTo : List ℕ → ℕ → Type 0

@@ -8,18 +8,20 @@ use native.Mathlib.Omega.{arith}
 use native.Mathlib.Decide.{decLe}
 use lib.Dec.{eqb}
 use lib.ListN.{length}
-use Rattle.matrix.specs.Choice.{numbers}
+use Rattle.lists.specs.Numbers.{numbers}
 use Rattle.matrix.specs.Shape.{lastNode}
-use Rattle.matrix.proofs.Choice.{numbers-within}
+use Rattle.lists.proofs.Numbers.{numbers-within}
 use Rattle.branching.specs.Ancestors.{ancestor}
-use Rattle.branching.specs.Nodes.{inTree, keep, nodesIn, otherNodes, taxaPlaced}
+use Rattle.lists.specs.Filters.{keep}
+use Rattle.branching.specs.Nodes.{inTree, nodesIn, otherNodes, taxaPlaced}
 use Rattle.branching.specs.Growing.{descendantCount, descendantsWanted, climbs, InTree, ReachesRoot, root, up, Grown, GrowingTree}
 use Rattle.branching.specs.Growing.{alone, several, Branching}
-use Rattle.branching.specs.Branches.{sumOver, treeLength}
+use Rattle.lists.specs.Sums.{sumOver}
+use Rattle.branching.specs.Branches.{treeLength}
 use Rattle.branching.proofs.Nodes.{inTree-same, taxaPlaced-le, inTree-iff}
 use Rattle.branching.proofs.Counts.{all-placed, grown-within}
 use Rattle.branching.proofs.Test.{reaches-within}
-use Rattle.branching.proofs.Keep.{keep-all}
+use Rattle.lists.proofs.Keep.{keep-all}
 use Rattle.branching.proofs.Descendants.{wanted-taxon, wanted-htu, descendants-keep}
 
 -- every node of a branching but node 1 has an immediate ancestor

@@ -1,10 +1,10 @@
 -- A tree is a list of immediate ancestors by node number: place v holds the ancestor of node v, and 0 where node v has none or is not
 -- in the tree. Place 0 is that of no node, and holds 0.
-use mathlib.Core.List.{List, [], _∷_}
-use mathlib.Core.Bool.{cond}
+use mathlib.Core.List.{List}
 use Prim.Native.Nat.{ℕ}
 use lib.Dec.{eqb}
 use lib.ListN.{getD}
+use Rattle.lists.specs.Filters.{keep}
 
 -- the immediate ancestor of node v
 unfoldable pub ancestor : List ℕ → ℕ → ℕ
@@ -12,7 +12,4 @@ ancestor tree v = getD tree v 0
 
 -- of a list of nodes, those whose immediate ancestor is v
 unfoldable pub descendants : List ℕ → List ℕ → ℕ → List ℕ
-descendants tree [] v = []
-descendants tree (u ∷ us) v =
-    let rest = descendants tree us v in
-    cond (eqb (ancestor tree u) v) (u ∷ rest) rest
+descendants tree nodes v = keep (λ u. eqb (ancestor tree u) v) nodes

@@ -1,18 +1,13 @@
 -- The length of a tree, and branch records: the form in which a branching is lent and a finished tree handed back.
-use mathlib.Core.List.{List, [], _∷_, map}
-use mathlib.Core.Bool.{Bool, true, false, _&&_}
-use Prim.Native.Nat.{ℕ, _+_, _*_, _-_}
-use lib.Dec.{eqb}
+use mathlib.Core.List.{List, _∷_, map}
+use mathlib.Core.Bool.{Bool, _&&_}
+use Prim.Native.Nat.{ℕ, _*_, _-_}
 use lib.ListN.{take}
-use Rattle.matrix.specs.Every.{sameNumbers}
+use Rattle.lists.specs.Sums.{sumOver}
+use Rattle.lists.specs.Tests.{sameNumbers}
 use Rattle.branching.specs.Ancestors.{ancestor}
 use Rattle.branching.specs.Nodes.{nodesIn, otherNodes}
 use Rattle.branching.specs.Growing.{branching}
-
--- the sum of a quantity over a list of numbers: nodes, or characters
-unfoldable pub sumOver : (ℕ → ℕ) → List ℕ → ℕ
-sumOver f [] = 0
-sumOver f (v ∷ vs) = f v + sumOver f vs
 
 -- the length of a tree: the sum, over its nodes but node 1, of the difference d of node and immediate ancestor
 unfoldable pub treeLength : (ℕ → ℕ → ℕ) → ℕ → List ℕ → ℕ

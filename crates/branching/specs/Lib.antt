@@ -4,3 +4,4 @@ pub mod Nodes
 pub mod Growing
 pub mod Hanging
 pub mod Branches
+pub mod Asking

@@ -1,10 +1,11 @@
 -- The nodes of a tree. Taxa are nodes 1 to n by row; HTUs are nodes n+1, n+2, .. as they are made; the last is 2n-2.
-use mathlib.Core.List.{List, [], _∷_}
-use mathlib.Core.Bool.{Bool, cond, not, _||_}
+use mathlib.Core.List.{List}
+use mathlib.Core.Bool.{Bool, not, _||_}
 use Prim.Native.Nat.{ℕ, _*_, _-_}
 use lib.Dec.{leb, eqb}
 use lib.ListN.{length}
-use Rattle.matrix.specs.Choice.{numbers}
+use Rattle.lists.specs.Numbers.{numbers}
+use Rattle.lists.specs.Filters.{keep}
 use Rattle.branching.specs.Ancestors.{ancestor}
 
 -- node v has an immediate ancestor
@@ -14,13 +15,6 @@ hasAncestor tree v = leb 1 (ancestor tree v)
 -- node v is in the tree: it is node 1, or it has an immediate ancestor
 unfoldable pub inTree : List ℕ → ℕ → Bool
 inTree tree v = eqb v 1 || hasAncestor tree v
-
--- of a list of nodes, those of which a test holds
-unfoldable pub keep : (ℕ → Bool) → List ℕ → List ℕ
-keep test [] = []
-keep test (v ∷ vs) =
-    let rest = keep test vs in
-    cond (test v) (v ∷ rest) rest
 
 -- of a list of nodes, those in the tree
 unfoldable pub nodesIn : List ℕ → List ℕ → List ℕ

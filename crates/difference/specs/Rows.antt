@@ -33,9 +33,13 @@ medians (x ∷ xs) [] zs = []
 medians (x ∷ xs) (y ∷ ys) [] = []
 medians (x ∷ xs) (y ∷ ys) (z ∷ zs) = median x y z ∷ medians xs ys zs
 
--- the interval difference of b from the interval between c and d: half of d(b,c) + d(b,d) - d(c,d)
-unfoldable pub intervalDifference : List ℤ → List ℤ → List ℤ → ℕ
-intervalDifference b c d = (difference b c + difference b d - difference c d) / 2
+-- the interval difference of b from the interval between c and d, by any difference: half of by(b,c) + by(b,d) - by(c,d)
+unfoldable pub intervalBy : (List ℤ → List ℤ → ℕ) → List ℤ → List ℤ → List ℤ → ℕ
+intervalBy by b c d = (by b c + by b d - by c d) / 2
+
+-- the interval difference by the difference of rows
+abbrev pub intervalDifference : List ℤ → List ℤ → List ℤ → ℕ
+intervalDifference b c d = intervalBy difference b c d
 
 -- a list with others written over its front, as far as it goes
 unfoldable pub overwritten : List ℤ → List ℤ → List ℤ

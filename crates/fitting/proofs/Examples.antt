@@ -5,11 +5,12 @@ use mathlib.Core.List.{List, [], _∷_, map, flatMap}
 use mathlib.Core.Bool.{true, false}
 use Prim.Native.Nat.{ℕ, suc, _-_}
 use lib.IntN.{ℤ, pos, negsuc}
-use Rattle.matrix.specs.Choice.{numbers}
+use Rattle.lists.specs.Numbers.{numbers}
 use Rattle.difference.specs.Rows.{apart, lower, higher}
 use Rattle.branching.specs.Ancestors.{ancestor, descendants}
 use Rattle.branching.specs.Nodes.{otherNodes}
-use Rattle.branching.specs.Branches.{sumOver}
+use Rattle.lists.specs.Sums.{sumOver}
+use Rattle.lists.specs.Filters.{keep}
 use Rattle.fitting.specs.Sets.{only, join, nearest, insert, inOrder, middle}
 use Rattle.fitting.specs.Trees.{tip, fork, above, treeAt, treesBelow}
 use Rattle.fitting.specs.Character.{valueAt, up, chosen, ranges}
@@ -42,7 +43,7 @@ pub record Printed : Type 0 where
 
 -- the fit of a matrix as a listing shows it
 unfoldable pub printed : List ℕ → List (List ℤ) → ℕ → ℕ → Printed
-unfolding treesBelow treeAt above otherNodes numbers descendants ancestor fittedTotal fittedLength total branchLength sumOver apart lower
+unfolding treesBelow treeAt above otherNodes numbers descendants keep ancestor fittedTotal fittedLength total branchLength sumOver apart lower
     higher chosenState range valueAt chosen ranges up join nearest middle inOrder insert only character flatMap
 printed ancestors rows n m = record {
   lengths = map (λ v. fittedLength ancestors rows n m v) (otherNodes n);
@@ -69,7 +70,7 @@ ancestorsABCD = 0 ∷ 0 ∷ 6 ∷ 6 ∷ 5 ∷ 1 ∷ 5 ∷ []
 
 -- below A stands #1, below #1 stand D and #2, below #2 stand B and C
 pub tree-ABCD : treesBelow ancestorsABCD 4 ≡ fork 5 (tip 4) (fork 6 (tip 2) (tip 3)) ∷ []
-unfolding treesBelow treeAt above otherNodes numbers descendants ancestor
+unfolding treesBelow treeAt above otherNodes numbers descendants keep ancestor
 tree-ABCD = refl
 
 -- document 01's `T`, `t` and `H` lines

@@ -6,11 +6,12 @@ use Prim.Native.Nat.{ℕ, _≤_}
 use native.Mathlib.Omega.{arith}
 use lib.IntN.{ℤ, pos}
 use lib.Signed.{_≤ℤ_}
-use Rattle.matrix.specs.Choice.{numbers}
+use Rattle.lists.specs.Numbers.{numbers}
 use Rattle.matrix.specs.Shape.{lastNode}
-use Rattle.matrix.specs.Every.{every}
+use Rattle.lists.specs.Tests.{every}
 use Rattle.branching.specs.Ancestors.{ancestor, descendants}
-use Rattle.branching.specs.Nodes.{otherNodes, hasAncestor, inTree, keep, nodesIn, taxaPlaced}
+use Rattle.lists.specs.Filters.{keep}
+use Rattle.branching.specs.Nodes.{otherNodes, hasAncestor, inTree, nodesIn, taxaPlaced}
 use Rattle.branching.specs.Growing.{Branching, descendantCount, descendantsWanted, climbs, rowOneAlone, nodesOnly, htusIn, ancestorsIn}
 use Rattle.branching.specs.Growing.{descendantsRight, allClimb, grown, growingTree, branching}
 use Rattle.branching.proofs.Test.{branching-iff}

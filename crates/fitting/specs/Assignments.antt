@@ -5,11 +5,11 @@ use mathlib.Core.List.{List, []}
 use Prim.Native.Nat.{ℕ, _-_, _≤_}
 use lib.IntN.{ℤ, pos}
 use lib.ListN.{getD}
-use Rattle.matrix.specs.Choice.{numbers}
+use Rattle.lists.specs.Numbers.{numbers}
 use Rattle.difference.specs.Rows.{apart}
 use Rattle.branching.specs.Ancestors.{ancestor}
 use Rattle.branching.specs.Nodes.{otherNodes}
-use Rattle.branching.specs.Branches.{sumOver}
+use Rattle.lists.specs.Sums.{sumOver}
 
 -- a character of the matrix: the code of taxon v in character j
 unfoldable pub character : List (List ℤ) → ℕ → ℕ → ℤ

@@ -1,11 +1,14 @@
 -- The listing with every definition open, so that the checker computes it.
-use mathlib.Core.Path.{_≡_, refl}
-use mathlib.Core.List.{List, [], _∷_, flatMap}
+use mathlib.Core.List.{List, flatMap}
 use Prim.Native.Nat.{ℕ}
 use Prim.Native.String.{String}
 use Rattle.matrix.specs.Shape as matrix-Shape
-use Rattle.matrix.specs.Choice as matrix-Choice
-use Rattle.matrix.specs.Every as matrix-Every
+use Rattle.lists.specs.Tests as lists-Tests
+use Rattle.lists.specs.Filters as lists-Filters
+use Rattle.lists.specs.Sums as lists-Sums
+use Rattle.lists.specs.Numbers as lists-Numbers
+use Rattle.lists.specs.Least as lists-Least
+use Rattle.matrix.specs.NodeRows as matrix-NodeRows
 use Rattle.matrix.specs.Questions as matrix-Questions
 use Rattle.difference.specs.Rows as difference-Rows
 use Rattle.matrix_file.specs.Bytes as matrix-file-Bytes
@@ -33,11 +36,11 @@ use Rattle.listing.specs.Listing as listing-Listing
 
 -- what is printed for a file of this text
 unfoldable pub computed : String → List ℕ
-unfolding flatMap matrix-Shape.row matrix-Shape.inRange matrix-Shape.lastNode matrix-Choice.numbers matrix-Choice.firstLeast
-    matrix-Every.every matrix-Every.sameNumbers matrix-Questions.oneTo matrix-Questions.withinLimits matrix-Questions.allInRange
+unfolding flatMap matrix-Shape.row matrix-Shape.inRange matrix-Shape.lastNode lists-Numbers.numbers lists-Least.firstLeast
+    lists-Tests.every lists-Tests.sameNumbers matrix-Questions.oneTo matrix-Questions.withinLimits matrix-Questions.allInRange
     matrix-Questions.rowsInRange matrix-Questions.askMatrix matrix-Questions.nodesExist matrix-Questions.htuInRange
     matrix-Questions.htusInRange matrix-Questions.askNodes difference-Rows.apart difference-Rows.lower difference-Rows.higher
-    difference-Rows.median difference-Rows.difference difference-Rows.medians difference-Rows.intervalDifference
+    difference-Rows.median difference-Rows.difference difference-Rows.medians
     difference-Rows.overwritten matrix-file-Bytes.isDigit matrix-file-Bytes.isLetter matrix-file-Bytes.partsAt
     matrix-file-Bytes.partLength matrix-file-Bytes.firstPart matrix-file-Bytes.behindPart matrix-file-Bytes.joinedBy
     matrix-file-Decimal.digitsIn matrix-file-Decimal.digitsOf matrix-file-Decimal.decimal matrix-file-Decimal.noLeadingZero
@@ -49,18 +52,18 @@ unfolding flatMap matrix-Shape.row matrix-Shape.inRange matrix-Shape.lastNode ma
     matrix-file-Reading.charactersIn matrix-file-Reading.nameIn matrix-file-Reading.codesIn matrix-file-Reading.rowsOn
     matrix-file-Reading.jobIn matrix-file-Reading.firstForm matrix-file-Reading.firstLineForm matrix-file-Reading.askCodes
     matrix-file-Reading.askRow matrix-file-Reading.nothingMore matrix-file-Reading.askRows matrix-file-Reading.askFile
-    matrix-file-Reading.readAnswer matrix-file-Text.bytes prim-Network.taxa prim-Network.total prim-Network.among prim-Network.without
+    matrix-file-Reading.readAnswer matrix-file-Text.bytes prim-Network.taxa prim-Network.total lists-Tests.among lists-Filters.without
     prim-Network.unplaced prim-Network.nearest prim-Network.distance prim-Network.link prim-Network.next prim-Network.grow
     prim-Network.network prim-Network.taxonDifference branching-Ancestors.ancestor branching-Ancestors.descendants
-    branching-Nodes.hasAncestor branching-Nodes.inTree branching-Nodes.keep branching-Nodes.nodesIn branching-Nodes.nodesOut
+    branching-Nodes.hasAncestor branching-Nodes.inTree lists-Filters.keep branching-Nodes.nodesIn branching-Nodes.nodesOut
     branching-Nodes.otherNodes branching-Nodes.taxaPlaced branching-Growing.descendantCount branching-Growing.descendantsWanted
     branching-Growing.climbs branching-Growing.rowOneAlone branching-Growing.nodesOnly branching-Growing.htusIn
     branching-Growing.ancestorsIn branching-Growing.descendantsRight branching-Growing.allClimb branching-Growing.grown
     branching-Growing.growingTree branching-Growing.branching branching-Hanging.noBranches branching-Hanging.linked
-    branching-Hanging.hung branching-Hanging.nextHtu branching-Branches.sumOver branching-Branches.treeLength
+    branching-Hanging.hung branching-Hanging.nextHtu lists-Sums.sumOver branching-Branches.treeLength
     branching-Branches.branchOf branching-Branches.branchRecords branching-Branches.branchesRead branching-Branches.ancestorsOf
-    branching-Branches.namedInOrder branching-Branches.lentBranching wagner-Nodes.rowOf wagner-Nodes.leastOf wagner-Nodes.nodeDifference
-    wagner-Nodes.intervalBy wagner-Nodes.nodeInterval wagner-Nodes.advancement wagner-Nodes.lengthUnder wagner-Placing.medianRow
+    branching-Branches.namedInOrder branching-Branches.lentBranching matrix-NodeRows.rowOf lists-Least.leastOf wagner-Nodes.nodeDifference
+    difference-Rows.intervalBy wagner-Nodes.nodeInterval wagner-Nodes.advancement wagner-Nodes.lengthUnder wagner-Placing.medianRow
     wagner-Placing.fromInterval wagner-Placing.nearestInterval wagner-Placing.link wagner-Placing.hang wagner-Placing.placeOn
     wagner-Placing.place wagner-Build.byAdvancement wagner-Build.addedLength wagner-Build.buildOn wagner-Build.build wagner-Build.wagner
     wagner-Build.wagnerLength wagner-Build.wagnerBranches fitting-Sets.only fitting-Sets.join fitting-Sets.nearest fitting-Sets.insert

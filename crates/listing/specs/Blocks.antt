@@ -1,10 +1,10 @@
 -- The blocks of the listing, each with the line of its total.
-use mathlib.Core.List.{List, [], _∷_, _++_, map, flatMap}
+use mathlib.Core.List.{List, [], _∷_, map, flatMap}
 use mathlib.Core.Bool.{Bool, true, false}
 use Prim.Native.Nat.{ℕ, _+_, _-_}
 use Prim.Native.String.{String}
 use lib.IntN.{ℤ}
-use Rattle.matrix.specs.Choice.{numbers}
+use Rattle.lists.specs.Numbers.{numbers}
 use Rattle.matrix_file.specs.Decimal.{digitsOf, decimal}
 use Rattle.matrix_file.specs.Text.{bytes}
 use Rattle.prim.specs.Network.{Link}

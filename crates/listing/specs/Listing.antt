@@ -1,7 +1,6 @@
 -- The listing of a job, and of a file's bytes.
 use mathlib.Core.List.{List, [], _∷_, _++_, map, flatMap}
 use Prim.Native.Nat.{ℕ}
-use lib.IntN.{ℤ}
 use Rattle.matrix.specs.Refusals.{refusalNumber}
 use Rattle.matrix.specs.declared.refusal.Refusal.{Refusal}
 use Rattle.matrix_file.specs.Decimal.{digitsOf}
@@ -9,7 +8,7 @@ use Rattle.matrix_file.specs.Text.{bytes}
 use Rattle.matrix_file.specs.Job.{Job}
 use Rattle.matrix_file.specs.Reading.{ReadAnswer, accepted, refused, readAnswer}
 use Rattle.difference.specs.Rows.{difference}
-use Rattle.prim.specs.Network.{Link, network, total}
+use Rattle.prim.specs.Network.{network, total}
 use Rattle.wagner.specs.Nodes.{nodeDifference}
 use Rattle.wagner.specs.Build.{Built, wagner, wagnerLength}
 use Rattle.fitting.specs.Fit.{fittedTotal}

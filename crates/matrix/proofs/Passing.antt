@@ -9,7 +9,7 @@ use borrow.Author.Tests.{leb-true, le-leb, eqb-true, eq-eqb}
 use lib.Dec.{leb, eqb}
 use lib.IntN.{ℤ}
 use lib.ListN.{length, getD}
-use Rattle.matrix.specs.Choice.{numbers}
+use Rattle.lists.specs.Numbers.{numbers}
 use Rattle.matrix.specs.Shape.{matrixSize, row}
 use Rattle.matrix.specs.Questions.{ask, andThen, oneTo, withinLimits, allInRange, rowsInRange, askMatrix, LentMatrix, nodesExist}
 use Rattle.matrix.specs.Questions.{htusInRange, askNodes}
@@ -17,8 +17,8 @@ use Rattle.matrix.specs.declared.refusal.Refusal.{Refusal}
 use Rattle.matrix.specs.declared.refusal.Refusal.the-variants.{BeyondLimits, CodeRange, ListSize, NotThere}
 use Rattle.matrix.specs.declared.refusal.Asked.{Asked}
 use Rattle.matrix.specs.declared.refusal.Asked.the-variants.{Passed, Refused}
-use Rattle.matrix.proofs.Every.{every-at, every-from}
-use Rattle.matrix.proofs.Choice.{length-numbers, getD-numbers}
+use Rattle.lists.proofs.Every.{every-at, every-from}
+use Rattle.lists.proofs.Numbers.{length-numbers, getD-numbers}
 
 -- a refusal is no pass
 refused-not-passed : (r : Refusal) → Refused r ≡ Passed → ⊥

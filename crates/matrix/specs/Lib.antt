@@ -2,5 +2,4 @@
 pub mod Shape
 pub mod Refusals
 pub mod Questions
-pub mod Choice
-pub mod Every
+pub mod NodeRows

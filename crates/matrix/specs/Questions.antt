@@ -6,8 +6,8 @@ use Prim.Native.Nat.{ℕ, _≤_}
 use lib.Dec.{leb, eqb}
 use lib.IntN.{ℤ}
 use lib.ListN.{length}
-use Rattle.matrix.specs.Choice.{numbers}
-use Rattle.matrix.specs.Every.{every}
+use Rattle.lists.specs.Numbers.{numbers}
+use Rattle.lists.specs.Tests.{every}
 use Rattle.matrix.specs.Shape.{matrixSize, row, inRange, lastNode}
 use Rattle.matrix.specs.declared.refusal.Refusal.{Refusal}
 use Rattle.matrix.specs.declared.refusal.Refusal.the-variants.{BeyondLimits, CodeRange, ListSize, NotThere}

@@ -3,7 +3,6 @@ use crate::COLUMNS;
 ghost use mathlib.Core.Path.{_≡_};
 ghost use Rattle.matrix.specs.Shape.{rowStart, row};
 ghost use Prim.Native.Nat.{min};
-ghost use lib.ListN.{length};
 
 // Where the row of node v begins, or the end of the list where it has no such row.
 pub fn row_start(len: usize, v: usize) -> usize

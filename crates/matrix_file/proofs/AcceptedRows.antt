@@ -6,7 +6,7 @@ use Prim.Native.Nat.{ℕ, zero, suc, _≤_}
 use native.Mathlib.Omega.{arith}
 use borrow.Author.Tests.{le-leb}
 use lib.ListN.{length, take, drop, length-append}
-use Rattle.matrix.specs.Every.{every}
+use Rattle.lists.specs.Tests.{every}
 use Rattle.matrix.specs.Shape.{inRange}
 use Rattle.matrix.specs.Questions.{withinLimits, oneTo}
 use Rattle.matrix.specs.declared.refusal.Refusal.the-variants.{LineMissing, CodeForm, CodeRange}
@@ -19,7 +19,7 @@ use Rattle.matrix_file.specs.Reading.{firstLineForm, askCodes, askRow, a
 use Rattle.matrix_file.specs.Reading.{accepted, answerOf, readAnswer}
 use Rattle.matrix_file.specs.Report.{answered, reported}
 use Rattle.matrix_file.specs.Walk.{rowForm, RowsFormed}
-use Rattle.matrix.proofs.Both.{and-left, and-right, and-both}
+use Rattle.lists.proofs.Both.{and-left, and-right, and-both}
 use Rattle.matrix.proofs.Passing.{ask-passed, oneTo-true}
 use Rattle.matrix_file.proofs.Asked.{line-passed, not-refused}
 use Rattle.matrix_file.proofs.FirstPart.{parts-several}

@@ -9,11 +9,11 @@ use lib.IntN.{ℤ, pos, negsuc, negℤ}
 use lib.ListN.{length, getD, drop}
 use borrow.Author.Tests.{le-leb, leb-true, ne-eqb, eq-eqb, eqb-true}
 use Rattle.matrix.specs.Shape.{inRange}
-use Rattle.matrix.specs.Every.{every}
+use Rattle.lists.specs.Tests.{every}
 use Rattle.matrix_file.specs.Bytes.{minus, isDigit}
 use Rattle.matrix_file.specs.Decimal.{digitsOf, decimal, numberForm, numberOf, codeForm, codeOf}
-use Rattle.matrix.proofs.Both.{and-left, and-right, and-both}
-use Rattle.matrix.proofs.Every.{every-head}
+use Rattle.lists.proofs.Both.{and-left, and-right, and-both}
+use Rattle.lists.proofs.Every.{every-head}
 use Rattle.matrix_file.proofs.Digits.{digit-low, first-digit, digits-are-digits, digits-form, number-of-digits, digits-of-number}
 
 -- a text that begins with another byte than a minus is read as a number

@@ -10,11 +10,11 @@ use lib.Dec.{leb, ltb, eqb}
 use lib.ListN.{length, getD, drop, length-append}
 use lib.Seq.{drop-cons}
 use borrow.Author.Tests.{ltb-true, ltb-false, lt-ltb, le-ltb, le-leb, leb-true, ne-eqb, eqb-false, not-true}
-use Rattle.matrix.specs.Every.{every}
+use Rattle.lists.specs.Tests.{every}
 use Rattle.matrix_file.specs.Bytes.{isDigit}
 use Rattle.matrix_file.specs.Decimal.{zeroDigit, digitFor, digitsIn, digitsOf, noLeadingZero, numberForm, numberFrom, numberOf}
-use Rattle.matrix.proofs.Both.{and-left, and-right, and-both}
-use Rattle.matrix.proofs.Every.{every-head, every-tail, every-append}
+use Rattle.lists.proofs.Both.{and-left, and-right, and-both}
+use Rattle.lists.proofs.Every.{every-head, every-tail, every-append}
 
 -- a number below ten has one digit
 digits-short : (steps n : ℕ) → n < 10 → digitsIn steps n ≡ digitFor n ∷ []

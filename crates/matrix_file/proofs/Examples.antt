@@ -7,12 +7,11 @@ use lib.IntN.{ℤ, pos, negsuc}
 use lib.ListN.{replicate}
 use Rattle.matrix.specs.Shape.{inRange}
 use Rattle.matrix.specs.Questions.{oneTo, withinLimits}
-use Rattle.matrix.specs.Choice.{numbers}
+use Rattle.lists.specs.Numbers.{numbers}
 use Rattle.matrix.specs.Refusals.{refusalNumber}
-use Rattle.matrix.specs.Every.{every}
+use Rattle.lists.specs.Tests.{every, sameNumbers as sameText}
 use Rattle.matrix.specs.declared.refusal.Refusal.the-variants.{ListSize}
 use Rattle.matrix_file.specs.declared.answer.Read.the-variants.{Refused}
-use Rattle.matrix.specs.Every.{sameNumbers as sameText}
 use Rattle.matrix_file.specs.Bytes.{isDigit, isLetter, partsAt, joinedBy}
 use Rattle.matrix_file.specs.Decimal.{digitsIn, digitsOf, decimal, noLeadingZero, numberForm, numberFrom, numberOf, codeForm, codeOf}
 use Rattle.matrix_file.specs.Job.{Job, inName, nameForm, differsFromAll, firstText, rowText, ended, fileOf, padded}

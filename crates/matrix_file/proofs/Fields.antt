@@ -6,11 +6,11 @@ use Prim.Native.Nat.{ℕ, _≤_}
 use native.Mathlib.Decide.{ℕ-discrete}
 use native.Mathlib.Omega.{arith}
 use lib.ListN.{length, drop}
-use Rattle.matrix.specs.Every.{sameNumbers as sameText}
+use Rattle.lists.specs.Tests.{sameNumbers as sameText}
 use Rattle.matrix_file.specs.Bytes.{tab, wordW, partsAt, firstPart, behindPart}
 use Rattle.matrix_file.specs.Decimal.{numberForm}
 use Rattle.matrix_file.specs.Reading.{fieldsOf, nameIn, firstForm}
-use Rattle.matrix.proofs.Both.{and-left, and-right}
+use Rattle.lists.proofs.Both.{and-left, and-right}
 use Rattle.matrix_file.proofs.FirstPart.{first-of-parts, parts-several, parts-single}
 
 -- a line's name is its first part

@@ -10,12 +10,12 @@ use lib.ListN.{length, length-append}
 use borrow.Author.Tests.{leb-true, eqb-true}
 use Rattle.matrix.specs.Shape.{inRange}
 use Rattle.matrix.specs.Questions.{allInRange}
-use Rattle.matrix.specs.Every.{every}
+use Rattle.lists.specs.Tests.{every}
 use Rattle.matrix_file.specs.Bytes.{tab, isLetter, joinedBy}
 use Rattle.matrix_file.specs.Decimal.{decimal}
 use Rattle.matrix_file.specs.Job.{Job, inName, nameForm, hasCodes, JobWithinLimits, firstText, rowText, ended, fileOf}
 use Rattle.matrix_file.specs.Reading.{mostBytes}
-use Rattle.matrix.proofs.Both.{and-left, and-right}
+use Rattle.lists.proofs.Both.{and-left, and-right}
 use Rattle.matrix_file.proofs.Digits.{digits-length}
 use Rattle.matrix_file.proofs.Rows.{RowWithin, RowsWithin, rows-first, rows-others, job-rows, limits-high}
 

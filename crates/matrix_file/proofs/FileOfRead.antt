@@ -9,15 +9,15 @@ use lib.ListN.{length, length-map, getD, take}
 use Rattle.matrix.specs.Questions.{ask, withinLimits}
 use Rattle.matrix.specs.declared.refusal.Refusal.the-variants.{FileTooLong, FirstLine, BeyondLimits}
 use Rattle.matrix.specs.declared.refusal.Asked.the-variants.{Passed}
-use Rattle.matrix.specs.Every.{sameNumbers as sameText}
+use Rattle.lists.specs.Tests.{sameNumbers as sameText}
 use Rattle.matrix_file.specs.Bytes.{tab, lineFeed, wordW, joinedBy}
 use Rattle.matrix_file.specs.Decimal.{digitsOf, numberForm, numberOf}
 use Rattle.matrix_file.specs.Job.{Job, JobWithinLimits, firstText, ended, fileOf}
 use Rattle.matrix_file.specs.Reading.{mostBytes, linesOf, fieldsOf, firstFields, taxaIn, charactersIn, nameIn, codesIn, rowsOn, jobIn, firstForm, firstLineForm, askRows, askFile, filePassed, accepted, readAnswer}
-use Rattle.matrix.proofs.Both.{and-left, and-right}
+use Rattle.lists.proofs.Both.{and-left, and-right}
 use Rattle.matrix_file.proofs.Parts.{parts-some, joined-parts, joined-ended}
 use Rattle.matrix_file.proofs.Digits.{digits-of-number}
-use Rattle.matrix.proofs.Every.{sameNumbers-iff}
+use Rattle.lists.proofs.Every.{sameNumbers-iff}
 use Rattle.matrix.proofs.Passing.{ask-passed}
 use Rattle.matrix_file.proofs.Asked.{line-passed, answer-accepted}
 use Rattle.matrix_file.proofs.PassedRows.{RowsRead, rows-read}

@@ -9,14 +9,14 @@ use borrow.Author.Tests.{leb-true, leb-false}
 use lib.Dec.{leb}
 use lib.ListN.{length, getD, take, drop, length-take, length-drop, length-map, List·getD-map}
 use lib.Seq.{drop-cons, take-suc, getD-take}
-use Rattle.matrix.specs.Every.{every}
+use Rattle.lists.specs.Tests.{every}
 use Rattle.matrix_file.specs.Bytes.{lineFeed, firstPart}
 use Rattle.matrix_file.specs.Decimal.{codeForm}
 use Rattle.matrix_file.specs.Job.{nameForm}
 use Rattle.matrix_file.specs.Reading.{linesOf, fieldsOf, nameIn}
 use Rattle.matrix_file.specs.Walk.{rowForm, RowsFormed}
-use Rattle.matrix.proofs.Both.{and-left, and-right}
-use Rattle.matrix.proofs.Every.{every-at}
+use Rattle.lists.proofs.Both.{and-left, and-right}
+use Rattle.lists.proofs.Every.{every-at}
 use Rattle.matrix_file.proofs.PartsFrom.{partsFrom, from-past, from-start, from-next}
 
 -- a list whose rest from j on begins with x: x stands at j, and the others behind it

@@ -6,10 +6,10 @@ use Prim.Native.Nat.{ℕ, zero, suc, _<_}
 use native.Mathlib.Omega.{arith}
 use borrow.Author.Tests.{not-true}
 use lib.ListN.{length, getD}
-use Rattle.matrix.specs.Every.{every, sameNumbers as sameText}
+use Rattle.lists.specs.Tests.{every, sameNumbers as sameText}
 use Rattle.matrix_file.specs.Job.{differsFromAll, allDiffer}
-use Rattle.matrix.proofs.Every.{sameNumbers-iff}
-use Rattle.matrix.proofs.Both.{and-left, and-right, and-both, eqb-sym}
+use Rattle.lists.proofs.Every.{sameNumbers-iff}
+use Rattle.lists.proofs.Both.{and-left, and-right, and-both, eqb-sym}
 
 -- whether two texts are the same does not depend on their order
 same-sym : (a b : List ℕ) → sameText a b ≡ sameText b a

@@ -12,11 +12,11 @@ use lib.IntN.{ℤ}
 use lib.ListN.{length, getD, take, drop, set, replicate, length-append, length-take, length-drop, length-replicate, take-append-drop}
 use lib.Seq.{drop-cons, take-suc, append-snoc, set-at, take-at, drop-at, length-take-le, drop-append-le, take-append-add, drop-append-add}
 use lib.Seq.{drop-length, drop-drop, take-length}
-use Rattle.matrix.specs.Every.{every}
+use Rattle.lists.specs.Tests.{every}
 use Rattle.matrix.specs.Shape.{columns}
 use Rattle.matrix_file.specs.Job.{nameSize, padded, paddedNames, namesWritten}
 use Rattle.matrix_file.specs.Written.{overFront, matrixWritten}
-use Rattle.matrix.proofs.Every.{every-head, every-tail}
+use Rattle.lists.proofs.Every.{every-head, every-tail}
 
 module _ {A : Type 0} where
   -- one element more of the front is written

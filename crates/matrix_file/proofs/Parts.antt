@@ -5,10 +5,10 @@ use mathlib.Core.Bool.{Bool, true, false, not}
 use Prim.Native.Nat.{ℕ}
 use lib.Dec.{eqb}
 use borrow.Author.Tests.{eq-eqb, eqb-true, not-true}
-use Rattle.matrix.specs.Every.{every}
+use Rattle.lists.specs.Tests.{every}
 use Rattle.matrix_file.specs.Bytes.{lineFeed, beforeFirst, partsAt, joinedBy}
 use Rattle.matrix_file.specs.Job.{ended}
-use Rattle.matrix.proofs.Every.{every-head, every-tail}
+use Rattle.lists.proofs.Every.{every-head, every-tail}
 
 -- no byte of a text is the separator
 abbrev pub lacks : ℕ → List ℕ → Bool

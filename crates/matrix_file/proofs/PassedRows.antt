@@ -7,7 +7,7 @@ use native.Mathlib.Omega.{arith}
 use lib.Dec.{eqb}
 use lib.ListN.{length, length-map, take, drop}
 use borrow.Author.Tests.{eq-eqb, eqb-true}
-use Rattle.matrix.specs.Every.{every}
+use Rattle.lists.specs.Tests.{every}
 use Rattle.matrix.specs.Shape.{inRange}
 use Rattle.matrix.specs.Questions.{allInRange}
 use Rattle.matrix.specs.declared.refusal.Refusal.the-variants.{LineMissing, NameForm, NameTaken, FieldCount, CodeForm, CodeRange}
@@ -17,7 +17,7 @@ use Rattle.matrix_file.specs.Bytes.{tab, joinedBy}
 use Rattle.matrix_file.specs.Decimal.{decimal, codeForm, codeOf}
 use Rattle.matrix_file.specs.Job.{nameForm, differsFromAll, hasCodes, rowText}
 use Rattle.matrix_file.specs.Reading.{rowLine, fieldsOf, nameIn, codesIn, askCodes, askRow, nothingMore, askRows, filePassed}
-use Rattle.matrix.proofs.Both.{and-both}
+use Rattle.lists.proofs.Both.{and-both}
 use Rattle.matrix_file.proofs.Parts.{parts-some, joined-parts}
 use Rattle.matrix_file.proofs.Codes.{decimal-of-code}
 use Rattle.matrix_file.proofs.Rows.{RowWithin, RowsWithin, rows-none, rows-more}

@@ -7,13 +7,13 @@ use native.Mathlib.Omega.{arith}
 use lib.Dec.{leb, ltb, eqb}
 use lib.IntN.{ℤ, pos, negsuc}
 use borrow.Author.Tests.{lt-ltb, ltb-true, leb-true, eqb-true, ne-eqb}
-use Rattle.matrix.specs.Every.{every}
+use Rattle.lists.specs.Tests.{every}
 use Rattle.matrix_file.specs.Bytes.{tab, lineFeed, minus, underscore, isDigit, isLetter, joinedBy}
 use Rattle.matrix_file.specs.Decimal.{digitsOf, decimal}
 use Rattle.matrix_file.specs.Job.{inName, nameForm}
 use Rattle.matrix_file.specs.Reading.{fieldsOf}
-use Rattle.matrix.proofs.Both.{and-left, and-right, or-cases}
-use Rattle.matrix.proofs.Every.{every-head, every-tail, every-cons, every-append, every-weaker}
+use Rattle.lists.proofs.Both.{and-left, and-right, or-cases}
+use Rattle.lists.proofs.Every.{every-head, every-tail, every-cons, every-append, every-weaker}
 use Rattle.matrix_file.proofs.Parts.{lacks, parts-joined}
 use Rattle.matrix_file.proofs.Digits.{digit-low, digits-are-digits}
 

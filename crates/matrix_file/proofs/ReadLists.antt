@@ -11,18 +11,18 @@ use lib.Dec.{eqb}
 use lib.IntN.{ℤ}
 use lib.ListN.{length, getD, take, drop, length-take, length-drop, List·getD-append}
 use lib.Seq.{take-at, drop-at, take-append-seam, drop-append-add, getD-append-add, getD-drop, getD-take}
-use Rattle.matrix.specs.Every.{every}
+use Rattle.lists.specs.Tests.{every}
 use Rattle.matrix.specs.declared.refusal.Refusal.the-variants.{ListSize}
 use Rattle.matrix.specs.Shape.{columns, matrixSize, row}
 use Rattle.matrix.specs.Questions.{allInRange, LentMatrix, oneTo, withinLimits}
 use Rattle.matrix_file.specs.declared.answer.Read.{Read}
 use Rattle.matrix_file.specs.declared.answer.Read.the-variants.{Accepted, Refused}
 use Rattle.matrix_file.specs.Job.{JobWithinLimits, hasCodes, nameForm, nameSize, padded, paddedNames, namesWritten}
-use Rattle.matrix_file.specs.Reading.{readAnswer, jobIn, accepted}
+use Rattle.matrix_file.specs.Reading.{readAnswer, jobIn}
 use Rattle.matrix_file.specs.Report.{reported, fullSize, readReport, afterRead, ReadDone}
 use Rattle.matrix_file.specs.Written.{overFront, matrixWritten}
-use Rattle.matrix.proofs.Both.{and-left, and-right}
-use Rattle.matrix.proofs.Every.{every-head, every-tail, every-at, every-weaker}
+use Rattle.lists.proofs.Both.{and-left, and-right}
+use Rattle.lists.proofs.Every.{every-head, every-tail, every-at, every-weaker}
 use Rattle.matrix.proofs.Passing.{oneTo-true}
 use Rattle.matrix_file.proofs.FileLength.{name-length}
 use Rattle.matrix_file.proofs.FileOfRead.{file-of-read}

@@ -7,15 +7,14 @@ use native.Mathlib.Omega.{arith}
 use lib.ListN.{length, length-append, take}
 use lib.Seq.{take-at}
 use borrow.Author.Tests.{le-leb}
-use Rattle.matrix.specs.Every.{every}
-use Rattle.matrix.specs.Every.{sameNumbers as sameText}
+use Rattle.lists.specs.Tests.{every, sameNumbers as sameText}
 use Rattle.matrix_file.specs.Bytes.{lineFeed, wordW}
 use Rattle.matrix_file.specs.Decimal.{digitsOf}
 use Rattle.matrix_file.specs.Job.{Job, JobWithinLimits, firstText, rowText, rowTexts, ended, fileOf}
 use Rattle.matrix_file.specs.Reading.{mostBytes, linesOf, fieldsOf, firstFields, taxaIn, charactersIn, nameIn, codesIn, rowsOn, jobIn}
 use Rattle.matrix_file.specs.Reading.{firstForm, firstLineForm, askFile, filePassed, accepted, answerOf, readAnswer}
-use Rattle.matrix.proofs.Both.{and-both}
-use Rattle.matrix.proofs.Every.{every-cons}
+use Rattle.lists.proofs.Both.{and-both}
+use Rattle.lists.proofs.Every.{every-cons}
 use Rattle.matrix_file.proofs.Parts.{lacks, parts-ended}
 use Rattle.matrix_file.proofs.Digits.{number-of-digits, digits-form}
 use Rattle.matrix_file.proofs.Plain.{plain, digits-plain, line-fields, line-lacks}

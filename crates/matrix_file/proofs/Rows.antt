@@ -7,11 +7,11 @@ use native.Mathlib.Omega.{arith}
 use lib.IntN.{ℤ}
 use lib.ListN.{length}
 use Rattle.matrix.specs.Questions.{allInRange, oneTo, withinLimits}
-use Rattle.matrix.specs.Every.{every}
+use Rattle.lists.specs.Tests.{every}
 use Rattle.matrix_file.specs.Job.{Job, nameForm, differsFromAll, allDiffer, hasCodes, JobWithinLimits}
 use Rattle.matrix.proofs.Passing.{oneTo-true}
-use Rattle.matrix.proofs.Both.{and-left, and-right, and-both}
-use Rattle.matrix.proofs.Every.{every-head, every-tail, every-cons}
+use Rattle.lists.proofs.Both.{and-left, and-right, and-both}
+use Rattle.lists.proofs.Every.{every-head, every-tail, every-cons}
 use Rattle.matrix_file.proofs.Names.{apartFrom, apart-more, apart-fewer, apart-none}
 
 -- names that are well formed and differ from each other and from every earlier name, with a row of m codes for each

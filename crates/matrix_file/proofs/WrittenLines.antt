@@ -9,7 +9,7 @@ use borrow.Rule.Slice.PartMut.{putMid}
 use lib.IntN.{ℤ}
 use lib.ListN.{length, take, drop, length-take, length-drop, length-map}
 use lib.Seq.{take-all}
-use Rattle.matrix.specs.Every.{every}
+use Rattle.lists.specs.Tests.{every}
 use Rattle.matrix.specs.Shape.{columns}
 use Rattle.matrix_file.specs.Bytes.{tab, lineFeed, firstPart, behindPart}
 use Rattle.matrix_file.specs.Decimal.{codeForm, codeOf}
@@ -17,8 +17,8 @@ use Rattle.matrix_file.specs.Job.{nameSize, padded, namesWritten}
 use Rattle.matrix_file.specs.Reading.{linesOf, fieldsOf, nameIn, codesIn}
 use Rattle.matrix_file.specs.Walk.{rowForm, RowsFormed}
 use Rattle.matrix_file.specs.Written.{overFront, matrixWritten}
-use Rattle.matrix.proofs.Both.{and-left, and-right, and-both}
-use Rattle.matrix.proofs.Every.{every-weaker}
+use Rattle.lists.proofs.Both.{and-left, and-right, and-both}
+use Rattle.lists.proofs.Every.{every-weaker}
 use Rattle.matrix_file.proofs.FileLength.{name-length}
 use Rattle.matrix_file.proofs.FirstPart.{part-to-end}
 use Rattle.matrix_file.proofs.Fields.{name-first, codes-behind}

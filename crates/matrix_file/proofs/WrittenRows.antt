@@ -10,13 +10,13 @@ use borrow.Author.Tests.{eq-eqb, eqb-true}
 use Rattle.matrix.specs.Shape.{inRange}
 use Rattle.matrix.specs.Questions.{allInRange}
 use Rattle.matrix.specs.declared.refusal.Asked.the-variants.{Passed}
-use Rattle.matrix.specs.Every.{every}
+use Rattle.lists.specs.Tests.{every}
 use Rattle.matrix_file.specs.Bytes.{lineFeed}
 use Rattle.matrix_file.specs.Decimal.{decimal, codeOf}
 use Rattle.matrix_file.specs.Job.{nameForm, hasCodes, rowText}
 use Rattle.matrix_file.specs.Reading.{fieldsOf, nameIn, codesIn, askCodes, askRow, askRows, nothingMore, filePassed}
-use Rattle.matrix.proofs.Both.{and-left, and-right}
-use Rattle.matrix.proofs.Every.{every-head, every-tail, every-cons}
+use Rattle.lists.proofs.Both.{and-left, and-right}
+use Rattle.lists.proofs.Every.{every-head, every-tail, every-cons}
 use Rattle.matrix_file.proofs.Parts.{lacks}
 use Rattle.matrix_file.proofs.Codes.{decimal-form, code-of-decimal}
 use Rattle.matrix_file.proofs.Plain.{plain, name-plain, decimals-plain, line-fields, line-lacks}

@@ -8,8 +8,7 @@ use lib.Dec.{leb, eqb}
 use lib.IntN.{ℤ}
 use lib.ListN.{length, drop, replicate}
 use Rattle.matrix.specs.Questions.{withinLimits, allInRange}
-use Rattle.matrix.specs.Every.{every}
-use Rattle.matrix.specs.Every.{sameNumbers as sameText}
+use Rattle.lists.specs.Tests.{every, sameNumbers as sameText}
 use Rattle.matrix_file.specs.Bytes.{tab, lineFeed, underscore, wordW, isDigit, isLetter, joinedBy}
 use Rattle.matrix_file.specs.Decimal.{digitsOf, decimal}
 

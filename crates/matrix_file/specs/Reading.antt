@@ -12,7 +12,7 @@ use Rattle.matrix.specs.declared.refusal.Refusal.the-variants.{FileTooLong, Fil
 use Rattle.matrix.specs.declared.refusal.Refusal.the-variants.{NameTaken, FieldCount, CodeForm, CodeRange, FileGoesOn}
 use Rattle.matrix.specs.declared.refusal.Asked.{Asked}
 use Rattle.matrix.specs.declared.refusal.Asked.the-variants.{Passed, Refused}
-use Rattle.matrix.specs.Every.{sameNumbers as sameText}
+use Rattle.lists.specs.Tests.{sameNumbers as sameText}
 use Rattle.matrix_file.specs.Bytes.{tab, lineFeed, wordW, partsAt}
 use Rattle.matrix_file.specs.Decimal.{numberForm, numberOf, codeForm, codeOf}
 use Rattle.matrix_file.specs.Job.{Job, nameForm, differsFromAll}

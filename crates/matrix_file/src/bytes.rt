@@ -4,7 +4,7 @@ ghost use Prim.Native.Nat.{_+_};
 ghost use mathlib.Core.Bool.{_&&_};
 ghost use lib.Dec.{leb, eqb};
 ghost use lib.ListN.{length, drop};
-ghost use Rattle.matrix.specs.Every.{sameNumbers as sameText};
+ghost use Rattle.lists.specs.Tests.{sameNumbers as sameText};
 ghost use Rattle.matrix_file.specs.Bytes.{isDigit, isLetter, partsAt, partLength, firstPart, behindPart};
 ghost use Rattle.matrix_file.specs.Job.{inName};
 

@@ -26,7 +26,7 @@ ghost use mathlib.Core.List.{[]};
 ghost use lib.ListN.{length, getD};
 ghost use Rattle.matrix_file.specs.Decimal.{numberOf};
 ghost use Prim.Native.Nat.{_≤_};
-ghost use Rattle.matrix.specs.Every.{every};
+ghost use Rattle.lists.specs.Tests.{every};
 ghost use Rattle.matrix_file.specs.Job.{inName, nameForm, differsFromAll};
 ghost use Rattle.matrix_file.specs.Reading.{rowLine, fieldsOf, linesOf, askCodes, askRow, askRows, firstForm, readAnswer};
 ghost use Rattle.matrix_file.specs.Report.{answered, reported};

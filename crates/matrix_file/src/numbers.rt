@@ -5,7 +5,7 @@ ghost use mathlib.Core.Path.{_≡_};
 ghost use mathlib.Core.Bool.{true};
 ghost use Prim.Native.Nat.{_<_};
 ghost use lib.IntN.{pos, negℤ};
-ghost use Rattle.matrix.specs.Every.{every};
+ghost use Rattle.lists.specs.Tests.{every};
 ghost use Rattle.matrix_file.specs.Bytes.{isDigit};
 ghost use Rattle.matrix_file.specs.Decimal.{numberForm, NumberSaid, codeForm, codeOf};
 

@@ -12,7 +12,7 @@ ghost use mathlib.Core.Bool.{true};
 ghost use mathlib.Core.List.{map};
 ghost use Prim.Native.Nat.{_*_, _≤_};
 ghost use lib.ListN.{length, getD, take};
-ghost use Rattle.matrix.specs.Every.{every};
+ghost use Rattle.lists.specs.Tests.{every};
 ghost use Rattle.matrix_file.specs.Decimal.{codeForm, codeOf};
 ghost use Rattle.matrix_file.specs.Job.{padded, namesWritten};
 ghost use Rattle.matrix_file.specs.Reading.{fieldsOf, linesOf, nameIn, codesIn};

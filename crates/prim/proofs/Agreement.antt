@@ -3,8 +3,8 @@ use mathlib.Core.Path.{_≡_, refl, sym, ap, _∙_}
 use mathlib.Core.List.{List, [], _∷_, _++_, List·Memᴰ, List·Memᴰ·not-nil}
 use Prim.Native.Nat.{ℕ, zero, suc, _-_}
 use native.Mathlib.Omega.{arith}
-use Rattle.matrix.specs.Choice.{firstLeast}
-use Rattle.matrix.proofs.Choice.{firstLeast-mem, firstLeast-congr}
+use Rattle.lists.specs.Least.{firstLeast}
+use Rattle.lists.proofs.Least.{firstLeast-mem, firstLeast-congr}
 use Rattle.prim.specs.Network.{Link, unplaced, nearest, distance, link, next, grow, network}
 use Rattle.prim.specs.Rival.{IsTaxon}
 use Rattle.prim.proofs.Unplaced.{not-unplaced, placed-taxon, added-taxon}

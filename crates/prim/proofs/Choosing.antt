@@ -5,9 +5,11 @@ use mathlib.Core.List.{List, [], _∷_, _++_, List·Memᴰ}
 use mathlib.Core.Logic.{_≢_}
 use Prim.Native.Nat.{ℕ, zero, suc, _+_, _-_, _≤_, _<_, max}
 use native.Mathlib.Omega.{arith}
-use Rattle.matrix.specs.Choice.{firstLeast, numbers}
-use Rattle.matrix.proofs.Choice.{firstLeast-mem, numbers-snoc, mem-numbers}
-use Rattle.prim.specs.Network.{Link, unplaced, without, distance, link, next}
+use Rattle.lists.specs.Least.{firstLeast}
+use Rattle.lists.specs.Numbers.{numbers}
+use Rattle.lists.proofs.Least.{firstLeast-mem}
+use Rattle.lists.proofs.Numbers.{numbers-snoc, mem-numbers}
+use Rattle.prim.specs.Network.{Link, unplaced, distance, link, next}
 use Rattle.prim.specs.Growing.{keptAt, unplacedBelow, Keeps, placing, NextBelow, Nearer}
 use Rattle.prim.specs.declared.network.Kept.{Kept}
 use Rattle.prim.proofs.Unplaced.{decideMem, mem-unplaced, of-without, without-snoc-among, without-snoc-not-among}

@@ -5,7 +5,10 @@ use Prim.Native.Nat.{ℕ, _-_}
 use lib.IntN.{ℤ, pos, negsuc}
 use lib.ListN.{length, replicate}
 use Rattle.difference.specs.Rows
-use Rattle.matrix.specs.Choice
+use Rattle.lists.specs.Filters
+use Rattle.lists.specs.Least
+use Rattle.lists.specs.Numbers
+use Rattle.lists.specs.Tests
 use Rattle.matrix.specs.Shape
 use Rattle.prim.specs.Network.{Link, network, total, taxonDifference}
 use Rattle.prim.specs.Network
@@ -53,6 +56,6 @@ pub record Examples : Type 0 where
 
 pub examples : Examples
 unfolding Network.network Network.grow Network.next Network.link Network.distance Network.nearest Network.unplaced
-    Network.without Network.among Network.taxa Network.total Network.taxonDifference
-    Choice.firstLeast Choice.numbers Shape.row Rows.difference Rows.apart
+    Filters.without Filters.keep Tests.among Network.taxa Network.total Network.taxonDifference
+    Least.firstLeast Numbers.numbers Shape.row Rows.difference Rows.apart
 examples = record { document = refl; sum = refl; one = refl; two = refl; lowest = refl; earliest = refl }

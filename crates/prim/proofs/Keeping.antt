@@ -9,9 +9,9 @@ use native.Mathlib.Omega.{arith}
 use native.Mathlib.Decide.{ℕ-discrete, decLe}
 use lib.ListN.{length, set}
 use lib.Seq.{getD-set-same, getD-set-other}
-use Rattle.matrix.specs.Choice.{firstLeast}
-use Rattle.matrix.proofs.Choice.{firstLeast-snoc-less, firstLeast-snoc-stays}
-use Rattle.prim.specs.Network.{unplaced, nearest, distance, link}
+use Rattle.lists.specs.Least.{firstLeast}
+use Rattle.lists.proofs.Least.{firstLeast-snoc-less, firstLeast-snoc-stays}
+use Rattle.prim.specs.Network.{unplaced, nearest, distance}
 use Rattle.prim.specs.Growing.{keptAt, keptOf, Keeps, Compared, Places}
 use Rattle.prim.specs.declared.network.Kept.{Kept}
 use Rattle.prim.proofs.Unplaced.{mem-unplaced}

@@ -9,8 +9,8 @@ use native.Mathlib.Nat.{le-trans}
 use native.Mathlib.Omega.{arith}
 use lib.ListN.{length}
 use lib.Seq.{append-snoc}
-use Rattle.matrix.specs.Choice.{firstLeast}
-use Rattle.matrix.proofs.Choice.{firstLeast-mem, firstLeast-least, firstLeast-snoc-less, firstLeast-snoc-stays}
+use Rattle.lists.specs.Least.{firstLeast}
+use Rattle.lists.proofs.Least.{firstLeast-mem, firstLeast-least, firstLeast-snoc-less, firstLeast-snoc-stays}
 use Rattle.prim.specs.Network.{Link, taxa, unplaced, nearest, distance, link, next, grow, network}
 use Rattle.prim.proofs.Unplaced.{decideMem, mem-unplaced, length-unplaced, length-unplaced-next}
 

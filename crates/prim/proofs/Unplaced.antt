@@ -1,6 +1,6 @@
 -- Laws of the unplaced taxa: which they are, and that placing one of them leaves one fewer.
 use mathlib.Core.Path.{_≡_, refl, sym, ap, _∙_}
-use mathlib.Core.Bool.{Bool, true, false, cond, _||_, false≢true}
+use mathlib.Core.Bool.{Bool, true, false, cond, _||_, false≢true, not}
 use mathlib.Core.List.{List, [], _∷_, _++_, append-nil}
 use mathlib.Core.List.{List·Memᴰ, List·Memᴰ·head, List·Memᴰ·tail, List·Memᴰ·not-nil, List·Memᴰ·cases-cons, List·Memᴰ·append-cases}
 use mathlib.Core.List.{List·Memᴰ·eq-of-singleton, Memᴰ·append-left, Memᴰ·append-right, Memᴰ·cast}
@@ -11,9 +11,11 @@ use native.Mathlib.Omega.{arith}
 use borrow.Author.Tests.{eqb-true, eq-eqb}
 use lib.Dec.{eqb}
 use lib.ListN.{length}
-use Rattle.matrix.specs.Choice.{numbers}
-use Rattle.matrix.proofs.Choice.{mem-numbers, length-numbers}
-use Rattle.prim.specs.Network.{among, without, unplaced}
+use Rattle.lists.specs.Filters.{keep, without}
+use Rattle.lists.specs.Numbers.{numbers}
+use Rattle.lists.proofs.Numbers.{mem-numbers, length-numbers}
+use Rattle.lists.specs.Tests.{among}
+use Rattle.prim.specs.Network.{unplaced}
 use Rattle.prim.specs.Rival.{IsTaxon}
 
 -- the test finds only taxa of the list
@@ -58,30 +60,30 @@ decideMem v xs = at (among v xs) refl
 
 -- a taxon of the others is left out
 pub without-among : (others : List ℕ) (x : ℕ) (xs : List ℕ) → List·Memᴰ x others → without others (x ∷ xs) ≡ without others xs
-unfolding without
+unfolding without keep
 without-among others x xs m = rw (mem-among x others m)
 
 -- any other is kept
 pub without-not-among : (others : List ℕ) (x : ℕ) (xs : List ℕ) → ¬ List·Memᴰ x others → without others (x ∷ xs) ≡ x ∷ without others xs
-unfolding without
+unfolding without keep
 without-not-among others x xs out = rw (not-among x others out)
 
 -- two lists one after the other are gone through one after the other
 without-append : (others xs ys : List ℕ) → without others (xs ++ ys) ≡ without others xs ++ without others ys
-unfolding without
+unfolding without keep
 without-append others [] ys = refl
 without-append others (x ∷ xs) ys = at (without-append others xs ys) (among x others)
   where
     at : without others (xs ++ ys) ≡ without others xs ++ without others ys
         → (b : Bool)
-        → cond b (without others (xs ++ ys)) (x ∷ without others (xs ++ ys))
-        ≡ cond b (without others xs) (x ∷ without others xs) ++ without others ys
+        → cond (not b) (x ∷ without others (xs ++ ys)) (without others (xs ++ ys))
+        ≡ cond (not b) (x ∷ without others xs) (without others xs) ++ without others ys
     at later true = later
     at later false = ap {B = List ℕ} (λ (l : List ℕ). x ∷ l) later
 
 -- one more taxon at the end is left out if it is among the others
 pub without-snoc-among : (others xs : List ℕ) (x : ℕ) → List·Memᴰ x others → without others (xs ++ (x ∷ [])) ≡ without others xs
-unfolding without
+unfolding without keep
 without-snoc-among others xs x m =
     without-append others xs (x ∷ [])
     ∙ ap (λ (l : List ℕ). without others xs ++ l) (without-among others x [] m)
@@ -90,19 +92,19 @@ without-snoc-among others xs x m =
 -- and is kept at the end if it is not
 pub without-snoc-not-among : (others xs : List ℕ) (x : ℕ) → ¬ List·Memᴰ x others
     → without others (xs ++ (x ∷ [])) ≡ without others xs ++ (x ∷ [])
-unfolding without
+unfolding without keep
 without-snoc-not-among others xs x out =
     without-append others xs (x ∷ []) ∙ ap (λ (l : List ℕ). without others xs ++ l) (without-not-among others x [] out)
 
 -- nothing is left out where there are no others
 pub without-nothing : (xs : List ℕ) → without [] xs ≡ xs
-unfolding without among
+unfolding without keep among
 without-nothing [] = refl
 without-nothing (x ∷ xs) = ap {B = List ℕ} (λ (l : List ℕ). x ∷ l) (without-nothing xs)
 
 -- what is left of a list is in it, and not among the others
 pub of-without : (others xs : List ℕ) (v : ℕ) → List·Memᴰ v (without others xs) → List·Memᴰ v xs × ¬ List·Memᴰ v others
-unfolding without
+unfolding without keep
 of-without others [] v m = absurd (List·Memᴰ·not-nil m)
 of-without others (x ∷ xs) v m = at (λ k. of-without others xs v k) (decideMem x others)
   where
@@ -121,7 +123,7 @@ of-without others (x ∷ xs) v m = at (λ k. of-without others xs v k) (decideMe
 
 -- a taxon of the list that is not among the others is left
 pub mem-without : (others xs : List ℕ) (v : ℕ) → List·Memᴰ v xs → ¬ List·Memᴰ v others → List·Memᴰ v (without others xs)
-unfolding without
+unfolding without keep
 mem-without others xs v (List·Memᴰ·head {x = x} {xs = ys} e) out =
     rw (without-not-among others x ys (λ k. out (Memᴰ·cast e k))) (List·Memᴰ·head e)
 mem-without others xs v (List·Memᴰ·tail {x = x} {xs = ys} m) out = at (mem-without others ys v m out) (decideMem x others)
@@ -159,7 +161,7 @@ not-added {x} others v out other m = at (of-added others v m)
 
 -- to leave out one more taxon changes nothing if it is not in the list
 without-added : (others : List ℕ) (v : ℕ) (xs : List ℕ) → ¬ List·Memᴰ v xs → without (others ++ (v ∷ [])) xs ≡ without others xs
-unfolding without
+unfolding without keep
 without-added others v [] out = refl
 without-added others v (x ∷ xs) out = at (without-added others v xs (λ m. out (List·Memᴰ·tail m))) (decideMem x others)
   where

@@ -6,8 +6,9 @@ use mathlib.Core.Bool.{true, false}
 use mathlib.Core.List.{List, [], _∷_, _++_, List·Memᴰ}
 use Prim.Native.Nat.{ℕ, zero, suc, _+_, _-_, _≤_, max}
 use lib.ListN.{length, getD}
-use Rattle.matrix.specs.Choice.{numbers}
-use Rattle.prim.specs.Network.{Link, unplaced, without, nearest, distance, link, next}
+use Rattle.lists.specs.Numbers.{numbers}
+use Rattle.prim.specs.Network.{Link, unplaced, nearest, distance, link, next}
+use Rattle.lists.specs.Filters.{without}
 use Rattle.prim.specs.declared.network.Kept.{Kept}
 
 -- what is kept of the taxa by number: taxon v's stands at place v

@@ -1,11 +1,11 @@
 -- The Prim Network (document 01, "The Prim Network"), over any difference d of two taxa. Taxa are the numbers 1 to n.
 -- Row 1 is placed first. `later` is the list of the taxa placed after it, in order of placing.
 use mathlib.Core.List.{List, [], _∷_, _++_}
-use mathlib.Core.Bool.{Bool, false, cond, _||_}
 use Prim.Native.Nat.{ℕ, zero, suc, _+_, _-_}
-use lib.Dec.{eqb}
 use lib.IntN.{ℤ}
-use Rattle.matrix.specs.Choice.{firstLeast, numbers}
+use Rattle.lists.specs.Least.{firstLeast}
+use Rattle.lists.specs.Numbers.{numbers}
+use Rattle.lists.specs.Filters.{without}
 use Rattle.matrix.specs.Shape.{row}
 use Rattle.difference.specs.Rows.{difference}
 use Rattle.prim.specs.declared.answer.Link.{Link as HandedBack}
@@ -23,18 +23,6 @@ taxa (l ∷ ls) = l .taxon ∷ taxa ls
 unfoldable pub total : List Link → ℕ
 total [] = 0
 total (l ∷ ls) = l .length + total ls
-
--- v is one of a list of taxa
-unfoldable pub among : ℕ → List ℕ → Bool
-among v [] = false
-among v (x ∷ xs) = eqb v x || among v xs
-
--- a list of taxa, without those of another list
-unfoldable pub without : List ℕ → List ℕ → List ℕ
-without others [] = []
-without others (v ∷ vs) =
-    let rest = without others vs in
-    cond (among v others) rest (v ∷ rest)
 
 -- the unplaced taxa of n, by rising row
 unfoldable pub unplaced : ℕ → List ℕ → List ℕ

@@ -4,10 +4,10 @@ use mathlib.Core.Bool.{true}
 use mathlib.Core.List.{List}
 use Prim.Native.Nat.{ℕ, _≤_}
 use lib.IntN.{ℤ}
+use Rattle.matrix.specs.NodeRows.{rowOf}
 use Rattle.matrix.specs.Questions.{withinLimits, oneTo}
-use Rattle.matrix.proofs.Both.{and-left, and-right}
+use Rattle.lists.proofs.Both.{and-left, and-right}
 use Rattle.matrix.proofs.Passing.{oneTo-true}
-use Rattle.matrix_file.specs.Reading.{accepted}
 use Rattle.difference.specs.Rows.{difference}
 use Rattle.difference.proofs.Laws.Rows.{difference-sym}
 use Rattle.prim.specs.Rival.{Shortest}
@@ -17,7 +17,7 @@ use Rattle.branching.specs.Branches.{namedInOrder, lentBranching, ancestorsOf}
 use Rattle.wagner.specs.Build.{wagner}
 use Rattle.wagner.proofs.Build.{wagner-branching}
 use Rattle.branching.proofs.Test.{branching-iff}
-use Rattle.wagner.specs.Nodes.{rowOf, nodeDifference}
+use Rattle.wagner.specs.Nodes.{nodeDifference}
 use Rattle.fitting.specs.Rival.{FitIsLeast}
 use Rattle.fitting.proofs.Laws.ThirdRival.{third-rival}
 use Rattle.rivals.specs.Accepted.{Accepted}

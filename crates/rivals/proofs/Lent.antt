@@ -8,8 +8,9 @@ use borrow.Author.Tests.{leb-true, eq-eqb}
 use lib.Dec.{leb}
 use lib.IntN.{ℤ}
 use lib.ListN.{length, getD}
-use Rattle.matrix.specs.Choice.{numbers}
-use Rattle.matrix.specs.Every.{every}
+use Rattle.matrix.specs.NodeRows.{rowsOf}
+use Rattle.lists.specs.Numbers.{numbers}
+use Rattle.lists.specs.Tests.{every}
 use Rattle.matrix.specs.Shape.{row}
 use Rattle.matrix.specs.Questions.{oneTo, allInRange, htuInRange, htusInRange, askMatrix}
 use Rattle.matrix.specs.declared.refusal.Asked.the-variants.{Passed}
@@ -18,12 +19,11 @@ use Rattle.matrix.proofs.Passing.{ask-passed, andThen-passed, oneTo-true, matri
 use Rattle.difference.specs.Rows.{difference}
 use Rattle.prim.specs.Network.{network, taxonDifference}
 use Rattle.prim.proofs.Agreement.{network-agrees}
-use Rattle.branching.specs.Ancestors.{ancestor}
 use Rattle.branching.specs.Nodes.{inTree, taxaPlaced}
 use Rattle.branching.proofs.Nodes.{not-inTree, taxaPlaced-le}
-use Rattle.matrix.proofs.Choice.{numbers-append, length-map-numbers, map-numbers, getD-numbers, length-numbers}
-use Rattle.matrix.proofs.Both.{or-cases}
-use Rattle.matrix.proofs.Every.{every-at, every-from}
+use Rattle.lists.proofs.Numbers.{numbers-append, length-map-numbers, map-numbers, getD-numbers, length-numbers}
+use Rattle.lists.proofs.Both.{or-cases}
+use Rattle.lists.proofs.Every.{every-at, every-from}
 use Rattle.matrix.proofs.Row.{row-length}
 use Rattle.matrix_file.specs.Job.{hasCodes}
 use Rattle.wagner.specs.Placing.{place}
@@ -32,8 +32,7 @@ use Rattle.rivals.specs.Accepted.{CodeRows, matrixLent}
 use Rattle.rivals.proofs.Demand.{no-rival}
 use Rattle.branching.specs.Growing.{growingTree, rowOneAlone, Unplaced}
 use Rattle.wagner.specs.Nodes.{nodeDifference}
-use Rattle.wagner.specs.Matrix.{rowsOf}
-use Rattle.wagner.specs.Asking.{htusOf, askPlacement}
+use Rattle.branching.specs.Asking.{htusOf, askPlacement}
 use Rattle.wagner.proofs.Matrix.{rowOf-rowsOf}
 
 -- the network that the call answers is the one that the claim and the listing speak of

@@ -6,6 +6,7 @@ use native.Mathlib.Omega.{arith}
 use lib.IntN.{ℤ}
 use lib.ListN.{length, getD}
 use lib.Seq.{ext-getD}
+use Rattle.matrix.specs.NodeRows.{rowsOf}
 use Rattle.matrix.specs.Shape.{matrixSize}
 use Rattle.matrix.proofs.Passing.{matrix-passes}
 use Rattle.matrix_file.specs.Reading.{readAnswer, jobIn}
@@ -14,7 +15,6 @@ use Rattle.matrix_file.specs.Written.{matrixWritten}
 use Rattle.matrix_file.specs.declared.answer.Read.{Read}
 use Rattle.matrix_file.specs.declared.answer.Read.the-variants as Read
 use Rattle.matrix_file.proofs.ReadLists.{read-count, read-row, read-lent, read-accepting}
-use Rattle.wagner.specs.Matrix.{rowsOf}
 use Rattle.wagner.proofs.Matrix.{length-rowsOf}
 use Rattle.rivals.specs.Accepted.{matrixLent}
 use Rattle.rivals.specs.Demand.{NoRivalDoesBetter}

@@ -7,19 +7,18 @@ use native.Mathlib.Omega.{arith}
 use borrow.Author.Tests.{eqb-true, eq-eqb}
 use lib.IntN.{ℤ}
 use lib.ListN.{length, getD}
-use Rattle.matrix.specs.Every.{every}
+use Rattle.matrix.specs.NodeRows.{rowOf, rowsOf}
+use Rattle.lists.specs.Tests.{every}
 use Rattle.matrix.specs.Shape.{row}
 use Rattle.matrix.specs.Questions.{withinLimits, allInRange, askMatrix, LentMatrix}
 use Rattle.matrix.specs.declared.refusal.Asked.the-variants.{Passed}
-use Rattle.matrix.proofs.Both.{and-both}
-use Rattle.matrix.proofs.Every.{every-at, every-from, every-append}
+use Rattle.lists.proofs.Both.{and-both}
+use Rattle.lists.proofs.Every.{every-at, every-from, every-append}
 use Rattle.matrix.proofs.Passing.{matrix-passes, true-oneTo}
 use Rattle.matrix.proofs.Row.{row-length}
 use Rattle.matrix_file.specs.Job.{Job, hasCodes}
 use Rattle.matrix_file.specs.Reading.{readAnswer, accepted}
 use Rattle.matrix_file.proofs.FileOfRead.{file-of-read}
-use Rattle.wagner.specs.Nodes.{rowOf}
-use Rattle.wagner.specs.Matrix.{rowsOf}
 use Rattle.wagner.proofs.Lengths.{OfLength}
 use Rattle.wagner.proofs.Matrix.{length-rowsOf, rowOf-rowsOf}
 use Rattle.rivals.specs.Accepted.{CodeRows, Accepted, fileRead, matrixLent}

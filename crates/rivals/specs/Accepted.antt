@@ -5,14 +5,14 @@ use mathlib.Core.List.{List}
 use Prim.Native.Nat.{ℕ, _-_}
 use lib.IntN.{ℤ}
 use lib.ListN.{length}
-use Rattle.matrix.specs.Every.{every}
+use Rattle.matrix.specs.NodeRows.{rowsOf}
+use Rattle.lists.specs.Tests.{every}
 use Rattle.matrix.specs.Questions.{allInRange, askMatrix}
 use Rattle.matrix.specs.declared.refusal.Asked.the-variants.{Passed}
 use Rattle.matrix_file.specs.Job.{Job, hasCodes}
 use Rattle.matrix_file.specs.Reading.{readAnswer, accepted}
 use Rattle.branching.specs.Nodes.{taxaPlaced}
 use Rattle.branching.specs.Growing.{growingTree, rowOneAlone}
-use Rattle.wagner.specs.Matrix.{rowsOf}
 
 -- an accepted matrix of n taxa and m characters, by its rows: a read accepts it, or, lent, it passes the questions 12, 4 and 10
 pub data Accepted : ℕ → ℕ → List (List ℤ) → Type 0 where

@@ -7,7 +7,7 @@ use native.Mathlib.Omega.{arith}
 use native.Mathlib.Nat.{zero-add}
 use lib.IntN.{ℤ}
 use lib.ListN.{length, length-set}
-use Rattle.matrix.specs.Choice.{numbers}
+use Rattle.lists.specs.Numbers.{numbers}
 use Rattle.difference.specs.Rows.{difference}
 use Rattle.branching.specs.Nodes.{taxaPlaced, nodesOut}
 use Rattle.branching.specs.Growing.{GrowingTree, alone, Branching, Unplaced}
@@ -20,7 +20,7 @@ use Rattle.branching.proofs.Records.{records-lent}
 use Rattle.wagner.specs.Nodes.{nodeDifference, advancement}
 use Rattle.wagner.specs.Placing.{Placed, nearestInterval, link, hang, placeOn, place}
 use Rattle.wagner.specs.Build.{byAdvancement, buildOn, build, wagner, wagnerBranches}
-use Rattle.wagner.proofs.Choice.{leastOf-mem}
+use Rattle.lists.proofs.Least.{leastOf-mem}
 use Rattle.wagner.proofs.Placing.{place-grows}
 
 -- a rule for the next taxon chooses one that is not placed, as long as there is one

@@ -9,13 +9,15 @@ use native.Mathlib.Omega.{arith}
 use native.Mathlib.Decide.{decLe}
 use lib.IntN.{ℤ}
 use lib.ListN.{length, length-append}
+use Rattle.lists.specs.Sums.{sumOver}
+use Rattle.matrix.specs.NodeRows.{rowOf}
 use Rattle.branching.specs.Ancestors.{ancestor}
 use Rattle.branching.specs.Growing.{GrowingTree, alone, several, Unplaced}
 use Rattle.branching.specs.Hanging.{noBranches}
 use Rattle.branching.proofs.Nodes.{noBranches-none, noBranches-places}
 use Rattle.branching.proofs.Test.{growing-placed}
 use Rattle.branching.proofs.Lengths.{alone-length}
-use Rattle.wagner.specs.Nodes.{rowOf, nodeDifference, lengthUnder}
+use Rattle.wagner.specs.Nodes.{nodeDifference, lengthUnder}
 use Rattle.wagner.specs.Placing.{Placed, medianRow, nearestInterval, link, hang, place}
 use Rattle.wagner.specs.Build.{Built, addedLength, buildOn, build}
 use Rattle.wagner.proofs.Placing.{place-first, place-later, nearest-node, place-grows}
@@ -90,7 +92,7 @@ module _ (d : List ℤ → List ℤ → ℕ) (next : ℕ → List ℕ → List (
   -- so many placements in turn
   pub buildOn-sound : (count k : ℕ) (tree : List ℕ) (rows : List (List ℤ)) → Growth n m k tree rows → count + k ≤ n
       → Sound d n m (count + k) tree rows (buildOn d next n count tree rows)
-  unfolding buildOn addedLength
+  unfolding buildOn addedLength sumOver
   buildOn-sound zero k tree rows g h = record { growth = rw zero-add g; kept = λ v l h. refl; total = omega arith }
   buildOn-sound (suc count) k tree rows g h =
       let b : ℕ = next n tree rows in

@@ -4,11 +4,11 @@ use mathlib.Core.List.{List}
 use Prim.Native.Nat.{ℕ, _+_, _*_, _-_, _≤_, _<_}
 use lib.IntN.{ℤ}
 use lib.ListN.{length}
+use Rattle.difference.specs.Rows.{intervalBy}
 use Rattle.difference.specs.Rows.{difference, intervalDifference}
 use Rattle.difference.proofs.Laws.Rows.{difference-sym, medians-length, interval-least, interval-equal}
 use Rattle.branching.specs.Growing.{Grown, Unplaced}
 use Rattle.branching.specs.Hanging.{noBranches}
-use Rattle.wagner.specs.Nodes.{intervalBy}
 use Rattle.wagner.specs.Build.{byAdvancement, addedLength, wagner, wagnerLength}
 use Rattle.wagner.specs.Placing.{place}
 use Rattle.wagner.specs.Rival.{PlacementIsLeast}
@@ -19,12 +19,12 @@ use Rattle.wagner.proofs.BuildLength.{Sound, build-sound, build-length}
 
 -- the interval difference by the difference of rows is the interval difference of the lower crate
 pub intervalBy-difference : (b c e : List ℤ) → intervalBy difference b c e ≡ intervalDifference b c e
-unfolding intervalBy intervalDifference
+unfolding intervalBy
 intervalBy-difference b c e = refl
 
 -- the laws of medians for the difference of rows of m codes
 pub difference-laws : (m : ℕ) → MedianLaws difference m
-unfolding intervalBy intervalDifference
+unfolding intervalBy
 difference-laws m =
     record {
       symmetric = difference-sym;

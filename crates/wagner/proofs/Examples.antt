@@ -5,18 +5,22 @@ use mathlib.Core.Bool.{Bool, true}
 use Prim.Native.Nat.{ℕ, _*_, _-_}
 use lib.IntN.{ℤ, pos, negsuc}
 use lib.ListN.{take}
-use Rattle.matrix.specs.Choice.{numbers, firstLeast}
+use Rattle.matrix.specs.NodeRows.{rowOf}
+use Rattle.difference.specs.Rows.{intervalBy, apart, lower, higher, median, medians, difference}
+use Rattle.lists.specs.Numbers.{numbers}
+use Rattle.lists.specs.Least.{firstLeast, leastOf}
 use Rattle.matrix.specs.Shape.{lastNode}
-use Rattle.matrix.specs.Every.{every, sameNumbers}
-use Rattle.difference.specs.Rows.{apart, lower, higher, median, medians, difference}
+use Rattle.lists.specs.Tests.{every, sameNumbers}
 use Rattle.branching.specs.Ancestors.{ancestor, descendants}
-use Rattle.branching.specs.Nodes.{hasAncestor, inTree, keep, nodesIn, nodesOut, otherNodes, taxaPlaced}
+use Rattle.lists.specs.Filters.{keep}
+use Rattle.branching.specs.Nodes.{hasAncestor, inTree, nodesIn, nodesOut, otherNodes, taxaPlaced}
 use Rattle.branching.specs.Growing.{descendantCount, descendantsWanted, climbs, rowOneAlone, nodesOnly, htusIn, ancestorsIn}
 use Rattle.branching.specs.Growing.{descendantsRight, allClimb, grown, growingTree, branching}
 use Rattle.branching.specs.Hanging.{noBranches, linked, hung, nextHtu}
-use Rattle.branching.specs.Branches.{BranchRecord, sumOver, treeLength, branchOf, branchRecords, branchesRead, ancestorsOf}
+use Rattle.branching.specs.Branches.{BranchRecord, treeLength, branchOf, branchRecords, branchesRead, ancestorsOf}
+use Rattle.lists.specs.Sums.{sumOver}
 use Rattle.branching.specs.Branches.{namedInOrder, lentBranching}
-use Rattle.wagner.specs.Nodes.{rowOf, leastOf, nodeDifference, intervalBy, nodeInterval, advancement, lengthUnder}
+use Rattle.wagner.specs.Nodes.{nodeDifference, nodeInterval, advancement, lengthUnder}
 use Rattle.wagner.specs.Placing.{Placement, Placed, medianRow, fromInterval, nearestInterval, link, hang, placeOn, place}
 use Rattle.wagner.specs.Build.{Built, byAdvancement, buildOn, build, wagner, wagnerLength, wagnerBranches}
 

@@ -7,13 +7,15 @@ use native.Mathlib.Omega.{arith}
 use lib.IntN.{ℤ}
 use lib.ListN.{length, List·getD-append}
 use lib.Seq.{getD-at}
+use Rattle.matrix.specs.NodeRows.{rowOf}
+use Rattle.difference.specs.Rows.{intervalBy}
 use Rattle.difference.specs.Rows.{medians}
 use Rattle.branching.specs.Ancestors.{ancestor}
 use Rattle.branching.specs.Growing.{Grown, GrowingTree, alone, several, Unplaced}
 use Rattle.branching.specs.Hanging.{hung, nextHtu}
 use Rattle.branching.proofs.Hanging.{hung-joint, htu-out}
 use Rattle.branching.proofs.Lengths.{treeLength-same, alone-length, linked-length, hung-length}
-use Rattle.wagner.specs.Nodes.{rowOf, nodeDifference, intervalBy, nodeInterval, lengthUnder}
+use Rattle.wagner.specs.Nodes.{nodeDifference, nodeInterval, lengthUnder}
 use Rattle.wagner.specs.Placing.{Placed, medianRow, fromInterval, nearestInterval, link, hang, place}
 use Rattle.wagner.proofs.Placing.{place-first, place-later, nearest-node, nearest-least}
 

@@ -1,6 +1,5 @@
 -- The laws of placements and of the build, and their definitions computed on examples.
 pub mod Examples
-pub mod Choice
 pub mod Placing
 pub mod Build
 pub mod Lengths

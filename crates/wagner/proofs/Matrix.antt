@@ -9,12 +9,12 @@ use native.Mathlib.Decide.{decLe}
 use lib.IntN.{ℤ, pos}
 use lib.ListN.{take-append-drop, length, getD, take, drop, length-append, length-drop, List·getD-append}
 use lib.Seq.{take-at, drop-at, length-take-le, getD-take, getD-drop, getD-append-add, getD-at, ext-getD}
+use Rattle.matrix.specs.NodeRows.{rowOf, rowsOf, withRow, withRows}
 use Rattle.matrix.specs.Shape.{rowStart, row, columns}
-use Rattle.matrix.proofs.Choice.{length-map-numbers, map-numbers}
+use Rattle.lists.proofs.Numbers.{length-map-numbers, map-numbers}
 use Rattle.matrix.proofs.Row.{length-row, row-same}
 use Rattle.branching.specs.Hanging.{noBranches}
-use Rattle.wagner.specs.Nodes.{rowOf}
-use Rattle.wagner.specs.Matrix.{rowsOf, withRow, withRows, matrixAfter}
+use Rattle.wagner.specs.Matrix.{matrixAfter}
 use Rattle.wagner.specs.Build.{Built}
 use Rattle.wagner.proofs.Lengths.{OfLength}
 use Rattle.wagner.proofs.BuildLength.{Sound}

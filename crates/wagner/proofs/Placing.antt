@@ -16,7 +16,7 @@ use Rattle.branching.proofs.Test.{growing-fact, growing-placed, growing-test}
 use Rattle.branching.proofs.Hanging.{hung-grown}
 use Rattle.branching.proofs.Linking.{linked-grown}
 use Rattle.wagner.specs.Placing.{fromInterval, nearestInterval, link, hang, placeOn, place}
-use Rattle.wagner.proofs.Choice.{leastOf-mem, leastOf-le, leastOf-none}
+use Rattle.lists.proofs.Least.{leastOf-mem, leastOf-le, leastOf-none}
 
 module _ (d : List ℤ → List ℤ → ℕ) (n : ℕ) (tree : List ℕ) (rows : List (List ℤ)) (b : ℕ) where
   -- on row 1 alone there is no interval

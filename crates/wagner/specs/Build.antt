@@ -1,13 +1,15 @@
 -- The whole build: from row 1 alone, taxon after taxon is placed until all n are in the tree.
 use mathlib.Core.List.{List, [], _∷_}
-use Prim.Native.Nat.{ℕ, zero, suc, _+_, _-_}
+use Prim.Native.Nat.{ℕ, zero, suc, _-_}
 use lib.IntN.{ℤ}
-use Rattle.matrix.specs.Choice.{numbers}
+use Rattle.lists.specs.Numbers.{numbers}
 use Rattle.difference.specs.Rows.{difference}
 use Rattle.branching.specs.Nodes.{nodesOut}
 use Rattle.branching.specs.Hanging.{noBranches}
 use Rattle.branching.specs.Branches.{BranchRecord, branchRecords}
-use Rattle.wagner.specs.Nodes.{leastOf, nodeDifference, advancement, lengthUnder}
+use Rattle.lists.specs.Sums.{sumOver}
+use Rattle.lists.specs.Least.{leastOf}
+use Rattle.wagner.specs.Nodes.{nodeDifference, advancement, lengthUnder}
 use Rattle.wagner.specs.Placing.{Placement, Placed, place}
 
 -- what comes out of a build: the tree, the rows of all nodes, and the placements in order
@@ -22,8 +24,7 @@ byAdvancement d n tree rows = leastOf (advancement d rows) (nodesOut tree (numbe
 
 -- the lengths that placements added, together
 unfoldable pub addedLength : List Placement → ℕ
-addedLength [] = 0
-addedLength (p ∷ ps) = p .added + addedLength ps
+addedLength placements = sumOver (λ (p : Placement). p .added) placements
 
 -- `next` says, of n, a growing tree and its rows, which taxon is placed next
 module _ (d : List ℤ → List ℤ → ℕ) (next : ℕ → List ℕ → List (List ℤ) → ℕ) where

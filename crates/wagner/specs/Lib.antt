@@ -3,5 +3,4 @@ pub mod Nodes
 pub mod Placing
 pub mod Build
 pub mod Rival
-pub mod Asking
 pub mod Matrix

@@ -1,33 +1,20 @@
 -- Differences of nodes by their rows. The rows stand by node number from 1: those of the taxa, and behind them those of the HTUs made.
 -- All is said over any difference d of two rows.
-use mathlib.Core.List.{List, [], _∷_}
-use Prim.Native.Nat.{ℕ, _+_, _-_, _/_}
+use mathlib.Core.List.{List}
+use Prim.Native.Nat.{ℕ}
 use lib.IntN.{ℤ}
-use lib.ListN.{getD}
-use Rattle.matrix.specs.Choice.{firstLeast}
+use Rattle.matrix.specs.NodeRows.{rowOf}
+use Rattle.difference.specs.Rows.{intervalBy}
 use Rattle.branching.specs.Branches.{treeLength}
-
--- the row of node v
-unfoldable pub rowOf : List (List ℤ) → ℕ → List ℤ
-rowOf rows v = getD rows (v - 1) []
-
--- of a list of nodes, the first with the least key, and 0 if there is none
-unfoldable pub leastOf : (ℕ → ℕ) → List ℕ → ℕ
-leastOf key [] = 0
-leastOf key (v ∷ vs) = firstLeast key v vs
 
 module _ (d : List ℤ → List ℤ → ℕ) where
   -- the difference of nodes u and v
   unfoldable pub nodeDifference : List (List ℤ) → ℕ → ℕ → ℕ
   nodeDifference rows u v = d (rowOf rows u) (rowOf rows v)
 
-  -- the interval difference of row b from the interval between rows c and e: half of d(b,c) + d(b,e) - d(c,e)
-  unfoldable pub intervalBy : List ℤ → List ℤ → List ℤ → ℕ
-  intervalBy b c e = (d b c + d b e - d c e) / 2
-
   -- the interval difference of node b from the interval between nodes c and e
   unfoldable pub nodeInterval : List (List ℤ) → ℕ → ℕ → ℕ → ℕ
-  nodeInterval rows b c e = intervalBy (rowOf rows b) (rowOf rows c) (rowOf rows e)
+  nodeInterval rows b c e = intervalBy d (rowOf rows b) (rowOf rows c) (rowOf rows e)
 
   -- the advancement of a taxon: its difference from row 1
   unfoldable pub advancement : List (List ℤ) → ℕ → ℕ

@@ -2,11 +2,13 @@
 use mathlib.Core.List.{List, [], _∷_, _++_}
 use Prim.Native.Nat.{ℕ, zero, suc}
 use lib.IntN.{ℤ}
+use Rattle.matrix.specs.NodeRows.{rowOf}
 use Rattle.difference.specs.Rows.{medians}
 use Rattle.branching.specs.Ancestors.{ancestor}
 use Rattle.branching.specs.Nodes.{nodesIn, otherNodes}
 use Rattle.branching.specs.Hanging.{linked, hung, nextHtu}
-use Rattle.wagner.specs.Nodes.{rowOf, leastOf, nodeDifference, nodeInterval}
+use Rattle.lists.specs.Least.{leastOf}
+use Rattle.wagner.specs.Nodes.{nodeDifference, nodeInterval}
 
 -- what a placement did: the taxon, the lower end of its interval (0: none), the upper end, the new HTU (0: none), the length added
 pub record Placement : Type 0 where

@@ -7,9 +7,9 @@ use native.Mathlib.Omega.{arith}
 use lib.IntN.{ℤ, pos}
 use lib.ListN.{length, getD, take, drop, set}
 use Rattle.matrix.specs.Shape.{inRange}
-use Rattle.matrix.specs.Every.{every}
+use Rattle.lists.specs.Tests.{every}
 use Rattle.matrix.specs.Questions.{allInRange}
-use Rattle.difference.specs.Rows.{apart, median, difference, medians, intervalDifference, overwritten}
+use Rattle.difference.specs.Rows.{apart, median, difference, medians, intervalDifference, overwritten, intervalBy}
 use Rattle.difference.proofs.Laws.Codes.{apart-sym, apart-self, apart-zero, apart-triangle, apart-inRange, median-swap}
 use Rattle.difference.proofs.Laws.Codes.{median-rotate, median-between, median-inRange}
 
@@ -173,7 +173,7 @@ module _ (b c d : List ℤ) (bc : length b ≡ length c) (cd : length c ≡ leng
 
   -- the interval difference is the difference from the medians
   pub interval-median : intervalDifference b c d ≡ difference b (medians b c d)
-  unfolding intervalDifference
+  unfolding intervalBy
   interval-median = omega (arith, sum-at-medians)
 
   -- d(b,c) + d(b,d) is d(c,d) and twice the interval difference: less d(c,d) it is never negative and always even

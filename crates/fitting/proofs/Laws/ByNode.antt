@@ -6,13 +6,13 @@ use mathlib.Core.List.{List, [], _∷_, List·Memᴰ, List·Memᴰ·not-nil, Lis
 use Prim.Native.Nat.{ℕ, zero, suc, _*_, _-_, _≤_, _<_}
 use native.Mathlib.Omega.{arith}
 use lib.IntN.{ℤ}
-use Rattle.matrix.specs.Choice.{numbers}
-use Rattle.matrix.proofs.Choice.{numbers-among, length-numbers}
+use Rattle.lists.specs.Numbers.{numbers}
+use Rattle.lists.proofs.Numbers.{numbers-among, length-numbers}
 use Rattle.branching.specs.Ancestors.{ancestor, descendants}
 use Rattle.branching.specs.Nodes.{otherNodes}
 use Rattle.branching.specs.Growing.{Grown}
 use Rattle.branching.proofs.Descendants.{mem-descendants}
-use Rattle.branching.proofs.Sums.{length-sum}
+use Rattle.lists.proofs.Sums.{length-sum}
 use Rattle.fitting.specs.Sets.{Span, only, join, nearest, middle}
 use Rattle.fitting.specs.Trees.{Tree, tip, fork, treeAt}
 use Rattle.fitting.specs.Character.{valueAt, up}

@@ -9,13 +9,13 @@ use native.Mathlib.Omega.{arith}
 use lib.Dec.{eqb, leb}
 use lib.IntN.{ℤ}
 use borrow.Author.Tests.{eqb-true, eq-eqb, leb-true, le-leb}
-use Rattle.matrix.specs.Choice.{numbers}
-use Rattle.matrix.proofs.Choice.{numbers-within, numbers-among}
+use Rattle.lists.specs.Numbers.{numbers}
+use Rattle.lists.proofs.Numbers.{numbers-within, numbers-among}
 use Rattle.difference.specs.Rows.{apart}
 use Rattle.branching.specs.Ancestors.{ancestor}
 use Rattle.branching.specs.Nodes.{otherNodes}
-use Rattle.branching.specs.Branches.{sumOver}
-use Rattle.branching.proofs.Sums.{sum-same, sum-swap, sum-le, sum-tight}
+use Rattle.lists.specs.Sums.{sumOver}
+use Rattle.lists.proofs.Sums.{sum-same, sum-swap, sum-le, sum-tight}
 use Rattle.fitting.specs.Sets.{only}
 use Rattle.fitting.specs.Trees.{Tree}
 use Rattle.fitting.specs.Character.{up, ranges}

@@ -6,7 +6,7 @@ use mathlib.Core.Bool.{Bool, true, false, _||_, true≢false}
 use Prim.Native.Nat.{ℕ}
 use lib.Dec.{eqb}
 use borrow.Author.Tests.{eqb-true, eq-eqb}
-use Rattle.matrix.proofs.Both.{or-left, or-right}
+use Rattle.lists.proofs.Both.{or-left, or-right}
 use Rattle.fitting.specs.Trees.{Tree, tip, fork}
 
 -- a test that is both true and false

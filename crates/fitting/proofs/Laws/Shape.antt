@@ -9,15 +9,15 @@ use lib.Dec.{eqb}
 use lib.IntN.{ℤ}
 use lib.ListN.{length}
 use borrow.Author.Tests.{eq-eqb}
-use Rattle.matrix.specs.Choice.{numbers}
-use Rattle.matrix.proofs.Choice.{numbers-within}
+use Rattle.lists.specs.Numbers.{numbers}
+use Rattle.lists.proofs.Numbers.{numbers-within}
 use Rattle.difference.specs.Rows.{apart}
 use Rattle.difference.proofs.Laws.Codes.{apart-sym}
 use Rattle.branching.specs.Ancestors.{ancestor, descendants}
 use Rattle.branching.specs.Nodes.{otherNodes}
-use Rattle.branching.specs.Branches.{sumOver}
+use Rattle.lists.specs.Sums.{sumOver}
 use Rattle.branching.specs.Growing.{Grown}
-use Rattle.branching.proofs.Sums.{pick, sum-outside, sum-one}
+use Rattle.lists.proofs.Sums.{pick, sum-outside, sum-one}
 use Rattle.branching.proofs.Descendants.{mem-descendants}
 use Rattle.fitting.specs.Trees.{Tree, tip, fork, above, treeAt, treesBelow}
 use Rattle.fitting.proofs.Laws.Ends.{either}

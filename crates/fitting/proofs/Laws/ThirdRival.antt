@@ -6,12 +6,13 @@ use Prim.Native.Nat.{ℕ, _≤_}
 use native.Mathlib.Omega.{arith}
 use native.Mathlib.Decide.{decLe}
 use lib.IntN.{ℤ}
-use Rattle.matrix.specs.Choice.{numbers}
+use Rattle.lists.specs.Numbers.{numbers}
 use Rattle.branching.specs.Ancestors.{descendants}
 use Rattle.branching.specs.Nodes.{otherNodes}
 use Rattle.branching.specs.Growing.{Branching}
-use Rattle.branching.specs.Branches.{sumOver}
+use Rattle.lists.specs.Sums.{sumOver}
 use Rattle.branching.proofs.Whole.{branching-grown}
+use Rattle.lists.specs.Filters.{keep}
 use Rattle.fitting.specs.Trees.{treesBelow}
 use Rattle.fitting.specs.Character.{valueAt}
 use Rattle.fitting.specs.Assignments.{total}
@@ -23,7 +24,7 @@ use Rattle.fitting.proofs.Laws.Matrix.{lengths-total, fit-is-least}
 -- row 1 alone: no branch, no HTU, and a total of 0
 alone : (m : ℕ) (ancestors : List ℕ) (rows : List (List ℤ)) → FitIsLeast ancestors rows 1 m
 alone m ancestors rows = record {
-  assigns = record { keeps = λ v j p q r s. unfold chosenState treesBelow otherNodes numbers descendants flatMap valueAt in refl };
+  assigns = record { keeps = λ v j p q r s. unfold chosenState treesBelow otherNodes numbers descendants keep flatMap valueAt in refl };
   lengths = lengths-total 1 m ancestors rows;
   least = λ states h. unfold fittedTotal total otherNodes numbers sumOver in omega arith;
   ranges = λ v j s p q r l. absurd (omega arith);

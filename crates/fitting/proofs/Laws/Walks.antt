@@ -8,14 +8,14 @@ use native.Mathlib.Omega.{arith}
 use lib.Dec.{eqb}
 use lib.ListN.{length}
 use borrow.Author.Tests.{eq-eqb, ne-eqb}
-use Rattle.matrix.specs.Choice.{numbers}
-use Rattle.matrix.proofs.Choice.{numbers-within}
-use Rattle.matrix.proofs.Both.{eqb-sym}
+use Rattle.lists.specs.Numbers.{numbers}
+use Rattle.lists.proofs.Numbers.{numbers-within}
+use Rattle.lists.proofs.Both.{eqb-sym}
 use Rattle.branching.specs.Ancestors.{ancestor, descendants}
 use Rattle.branching.specs.Nodes.{otherNodes}
-use Rattle.branching.specs.Branches.{sumOver}
+use Rattle.lists.specs.Sums.{sumOver}
 use Rattle.branching.specs.Growing.{Grown}
-use Rattle.branching.proofs.Sums.{pick, sum-same, sum-plus, sum-swap, sum-outside, sum-one}
+use Rattle.lists.proofs.Sums.{pick, sum-same, sum-plus, sum-swap, sum-outside, sum-one}
 use Rattle.branching.proofs.Descendants.{sum-descendants}
 use Rattle.fitting.specs.Trees.{Tree, tip, fork, above, treeAt}
 use Rattle.fitting.proofs.Laws.Ends.{either}

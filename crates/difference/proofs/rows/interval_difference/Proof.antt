@@ -6,7 +6,7 @@ use native.Mathlib.Omega.{arith}
 use borrow.Author.Needs.{needs}
 use lib.IntN.{ℤ}
 use lib.ListN.{take}
-use Rattle.difference.specs.Rows.{intervalDifference}
+use Rattle.difference.specs.Rows.{intervalDifference, intervalBy}
 use Rattle.difference.specs.Answers.{DifferenceOf}
 use Rattle.difference.proofs.rows.interval_difference.Statement.{statement}
 use Rattle.difference.proofs.rows.interval_difference.Tie as tie
@@ -26,7 +26,7 @@ difference-requires-3 c κs = search needs
 -- the sums of the three differences are those of the definition
 parts : (b c d : List ℤ) (bc bd cd : ℕ) → DifferenceOf b c bc → DifferenceOf b d bd → DifferenceOf c d cd
     → (bc + bd - cd) / 2 ≡ intervalDifference (take 128 b) (take 128 c) (take 128 d)
-unfolding intervalDifference
+unfolding intervalBy
 parts b c d bc bd cd p q r = rw (p .is, q .is, r .is)
 
 returns : tie.Need-returns

@@ -8,9 +8,9 @@ use lib.IntN.{pos}
 use lib.ListN.{length, drop}
 use mir.Facts.{toZ-ofZ}
 use Rattle.matrix.specs.Shape.{inRange}
-use Rattle.matrix.specs.Every.{every}
+use Rattle.lists.specs.Tests.{every}
 use Rattle.matrix.specs.Questions.{allInRange}
-use Rattle.matrix.proofs.Every.{every-fails, every-goes-on, every-passes}
+use Rattle.lists.proofs.Every.{every-fails, every-goes-on, every-passes}
 use Rattle.matrix.proofs.questions.all_in_range.Statement.{statement}
 use Rattle.matrix.proofs.questions.all_in_range.Tie as tie
 

@@ -4,8 +4,8 @@ use Prim.Native.Nat.{_-_, _≤_}
 use native.Mathlib.Omega.{arith}
 use borrow.Author.Needs.{needs}
 use lib.ListN.{length, drop}
-use Rattle.matrix.specs.Every.{every}
-use Rattle.matrix.proofs.Every.{every-fails, every-goes-on, every-passes}
+use Rattle.lists.specs.Tests.{every}
+use Rattle.lists.proofs.Every.{every-fails, every-goes-on, every-passes}
 use Rattle.matrix.specs.Questions.{htuInRange, htusInRange}
 use Rattle.matrix.proofs.questions.htus_in_range.Statement.{statement}
 use Rattle.matrix.proofs.questions.htus_in_range.Tie as tie

@@ -7,8 +7,8 @@ use native.Mathlib.Omega.{arith}
 use borrow.Author.Needs.{needs}
 use lib.ListN.{length, drop}
 use Rattle.matrix.specs.Shape.{lastNode}
-use Rattle.matrix.specs.Every.{every}
-use Rattle.matrix.proofs.Every.{every-fails, every-goes-on, every-passes}
+use Rattle.lists.specs.Tests.{every}
+use Rattle.lists.proofs.Every.{every-fails, every-goes-on, every-passes}
 use Rattle.matrix.specs.Questions.{oneTo, nodesExist}
 use Rattle.matrix.proofs.questions.nodes_exist.Statement.{statement}
 use Rattle.matrix.proofs.questions.nodes_exist.Tie as tie

@@ -7,12 +7,12 @@ use native.Mathlib.Omega.{arith}
 use borrow.Author.Needs.{needs}
 use lib.IntN.{ℤ}
 use lib.ListN.{getD, length, drop}
-use Rattle.matrix.specs.Every.{every}
-use Rattle.matrix.proofs.Every.{every-fails, every-goes-on, every-passes}
+use Rattle.lists.specs.Tests.{every}
+use Rattle.lists.proofs.Every.{every-fails, every-goes-on, every-passes}
 use Rattle.matrix.specs.Questions.{allInRange, rowsInRange}
 use Rattle.matrix.specs.Shape.{row}
-use Rattle.matrix.specs.Choice.{numbers}
-use Rattle.matrix.proofs.Choice.{length-numbers, getD-numbers}
+use Rattle.lists.specs.Numbers.{numbers}
+use Rattle.lists.proofs.Numbers.{length-numbers, getD-numbers}
 use Rattle.matrix.proofs.questions.rows_in_range.Statement.{statement}
 use Rattle.matrix.proofs.questions.rows_in_range.Tie as tie
 

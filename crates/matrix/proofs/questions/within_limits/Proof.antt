@@ -1,7 +1,7 @@
 -- `matrix::questions::within_limits` meets its contract: its tests are the definition's, in the same order. Assumes nothing.
 use borrow.Author.Needs.{needs}
 use Rattle.matrix.specs.Questions.{withinLimits}
-use Rattle.matrix.proofs.Both.{and-second, and-first}
+use Rattle.lists.proofs.Both.{and-second, and-first}
 use Rattle.matrix.proofs.questions.within_limits.Statement.{statement}
 use Rattle.matrix.proofs.questions.within_limits.Tie as tie
 

@@ -2,7 +2,7 @@
 use mathlib.Core.Path.{refl}
 use borrow.Author.Needs.{needs}
 use Rattle.matrix_file.specs.Job.{inName}
-use Rattle.matrix.proofs.Both.{or-first, or-second}
+use Rattle.lists.proofs.Both.{or-first, or-second}
 use Rattle.matrix_file.proofs.bytes.in_name.Statement.{statement}
 use Rattle.matrix_file.proofs.bytes.in_name.Tie as tie
 

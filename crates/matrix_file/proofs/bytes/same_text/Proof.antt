@@ -10,8 +10,8 @@ use borrow.Author.Needs.{needs}
 use lib.Dec.{eqb}
 use lib.ListN.{length, getD, drop, drop-of-length-le}
 use lib.Seq.{drop-cons}
-use Rattle.matrix.specs.Every.{sameNumbers as sameText}
-use Rattle.matrix.proofs.Every.{sameNumbers-iff}
+use Rattle.lists.specs.Tests.{sameNumbers as sameText}
+use Rattle.lists.proofs.Every.{sameNumbers-iff}
 use Rattle.matrix_file.proofs.bytes.same_text.Statement.{statement}
 use Rattle.matrix_file.proofs.bytes.same_text.Tie as tie
 

@@ -7,7 +7,7 @@ use borrow.Author.Needs.{needs}
 use Rattle.matrix_file.proofs.FileWalk.{too-long, empty, no-feed, bad-first, beyond, rows-decide}
 use Rattle.matrix.specs.Questions.{withinLimits, oneTo}
 use Rattle.matrix.proofs.Passing.{oneTo-true}
-use Rattle.matrix.proofs.Both.{and-left, and-right}
+use Rattle.lists.proofs.Both.{and-left, and-right}
 use Rattle.matrix_file.proofs.judging.ask_file.Statement.{statement}
 use Rattle.matrix_file.proofs.judging.ask_file.Tie as tie
 

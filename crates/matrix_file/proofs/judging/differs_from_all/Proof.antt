@@ -6,7 +6,7 @@ use Prim.Native.Nat.{ℕ, zero, suc, _-_, _≤_, _<_}
 use native.Mathlib.Omega.{arith}
 use borrow.Author.Needs.{needs}
 use lib.ListN.{getD, drop}
-use Rattle.matrix.specs.Every.{sameNumbers as sameText}
+use Rattle.lists.specs.Tests.{sameNumbers as sameText}
 use Rattle.matrix_file.specs.Bytes.{tab, firstPart}
 use Rattle.matrix_file.specs.Job.{differsFromAll}
 use Rattle.matrix_file.specs.Walk.{namesPassed}

@@ -7,7 +7,7 @@ use native.Mathlib.Omega.{arith}
 use borrow.Author.Tests.{not-true, not-false}
 use borrow.Author.Needs.{needs}
 use lib.ListN.{length}
-use Rattle.matrix.specs.Every.{sameNumbers as sameText}
+use Rattle.lists.specs.Tests.{sameNumbers as sameText}
 use Rattle.matrix_file.specs.Bytes.{tab, wordW, partsAt, firstPart, behindPart}
 use Rattle.matrix_file.specs.Decimal.{numberForm}
 use Rattle.matrix_file.specs.Reading.{fieldsOf, firstForm}

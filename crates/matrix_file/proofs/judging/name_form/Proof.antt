@@ -1,6 +1,6 @@
 -- `matrix_file::judging::name_form` meets its contract: each answer follows from the tests that led to it. Assumes nothing.
 use mathlib.Core.Path.{_≡_, refl, sym, ap, ap₂, _∙_}
-use mathlib.Core.Bool.{Bool, true, false, not, _&&_}
+use mathlib.Core.Bool.{Bool, true, false, _&&_}
 use mathlib.Core.List.{List, [], _∷_}
 use Prim.Native.Nat.{ℕ, _≤_, _<_}
 use native.Mathlib.Omega.{arith}
@@ -10,7 +10,7 @@ use lib.Dec.{leb}
 use lib.ListN.{length, getD, drop}
 use Rattle.matrix_file.specs.Bytes.{isLetter}
 use Rattle.matrix_file.specs.Job.{nameForm, inName}
-use Rattle.matrix.specs.Every.{every}
+use Rattle.lists.specs.Tests.{every}
 use Rattle.matrix_file.proofs.judging.name_form.Statement.{statement}
 use Rattle.matrix_file.proofs.judging.name_form.Tie as tie
 

@@ -5,8 +5,8 @@ use native.Mathlib.Omega.{arith}
 use borrow.Author.Needs.{needs}
 use lib.ListN.{length, drop}
 use Rattle.matrix_file.specs.Bytes.{isDigit}
-use Rattle.matrix.specs.Every.{every}
-use Rattle.matrix.proofs.Every.{every-fails, every-goes-on, every-passes}
+use Rattle.lists.specs.Tests.{every}
+use Rattle.lists.proofs.Every.{every-fails, every-goes-on, every-passes}
 use Rattle.matrix_file.proofs.numbers.all_digits.Statement.{statement}
 use Rattle.matrix_file.proofs.numbers.all_digits.Tie as tie
 

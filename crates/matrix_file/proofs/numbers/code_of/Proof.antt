@@ -10,7 +10,7 @@ use lib.ListN.{getD, drop}
 use mir.Facts.{toZ-ofZ}
 use Rattle.matrix_file.specs.Decimal.{numberForm, numberOf, codeForm}
 use Rattle.matrix_file.proofs.Codes.{code-form-plain, code-plain, code-form-minus, code-minus, code-form-some}
-use Rattle.matrix.proofs.Both.{and-left}
+use Rattle.lists.proofs.Both.{and-left}
 use Rattle.matrix_file.specs.Bytes.{minus}
 use Rattle.matrix_file.proofs.numbers.code_of.Statement.{statement}
 use Rattle.matrix_file.proofs.numbers.code_of.Tie as tie

@@ -12,7 +12,7 @@ use borrow.Author.Needs.{needs}
 use lib.ListN.{length, getD, drop, drop-of-length-le}
 use Rattle.matrix_file.specs.Decimal.{numberForm, numberOf, numberFrom, zeroDigit, NumberSaid}
 use Rattle.matrix_file.proofs.Digits.{form-short, form-digits, digit-low, digit-high, number-more-small, number-small, number-at}
-use Rattle.matrix.proofs.Every.{every-at}
+use Rattle.lists.proofs.Every.{every-at}
 use Rattle.matrix_file.specs.Bytes.{isDigit}
 use Rattle.matrix_file.proofs.numbers.number_of.Statement.{statement}
 use Rattle.matrix_file.proofs.numbers.number_of.Tie as tie

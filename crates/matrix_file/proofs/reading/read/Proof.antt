@@ -1,7 +1,6 @@
 -- `matrix_file::reading::read` meets its contract: a refusal is that of the questions and leaves both lists as they were; what is
 -- written is the job's. Assumes nothing.
 use mathlib.Core.Path.{_≡_, refl, sym, ap, _∙_}
-use mathlib.Core.Bool.{not}
 use mathlib.Core.List.{List, map}
 use Prim.Native.Nat.{ℕ, _*_, _≤_}
 use native.Mathlib.Omega.{arith}
@@ -17,7 +16,7 @@ use Rattle.matrix_file.specs.Reading.{readAnswer, jobIn, linesOf, codesI
 use Rattle.matrix_file.specs.Written.{matrixWritten}
 use Rattle.matrix_file.specs.Walk.{RowsFormed}
 use Rattle.matrix_file.proofs.Parts.{parts-some}
-use Rattle.matrix.specs.Every.{every}
+use Rattle.lists.specs.Tests.{every}
 use Rattle.matrix.specs.Shape.{matrixSize}
 use Rattle.matrix.specs.declared.refusal.Refusal.the-variants.{ListSize}
 use Rattle.matrix_file.specs.declared.answer.Read.{Read}

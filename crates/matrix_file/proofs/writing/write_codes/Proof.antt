@@ -17,8 +17,8 @@ use Rattle.matrix_file.specs.Bytes.{tab, firstPart}
 use Rattle.matrix_file.specs.Decimal.{codeForm, codeOf}
 use Rattle.matrix_file.specs.Reading.{fieldsOf}
 use Rattle.matrix_file.specs.Written.{overFront}
-use Rattle.matrix.specs.Every.{every}
-use Rattle.matrix.proofs.Every.{every-at}
+use Rattle.lists.specs.Tests.{every}
+use Rattle.lists.proofs.Every.{every-at}
 use Rattle.matrix_file.proofs.writing.write_codes.Statement.{statement}
 use Rattle.matrix_file.proofs.writing.write_codes.Tie as tie
 

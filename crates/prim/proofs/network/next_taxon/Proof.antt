@@ -4,8 +4,9 @@ use mathlib.Core.List.{List}
 use Prim.Native.Nat.{ℕ, _+_, _-_, _≤_, max}
 use native.Mathlib.Omega.{arith}
 use borrow.Author.Needs.{needs}
-use Rattle.matrix.specs.Choice.{numbers}
-use Rattle.prim.specs.Network.{without, next}
+use Rattle.lists.specs.Filters.{keep, without}
+use Rattle.lists.specs.Numbers.{numbers}
+use Rattle.prim.specs.Network.{next}
 use Rattle.prim.specs.Growing.{Keeps, NextBelow}
 use Rattle.prim.proofs.Choosing.{next-of-all}
 use Rattle.prim.proofs.network.next_taxon.Statement.{statement}
@@ -22,7 +23,7 @@ abbrev μ-loop : tie.MeasureT-loop
 μ-loop n taxa best₀ v₀ best v = 65 - v
 
 loop-holds : tie.Need-loop-holds Inv-loop μ-loop
-unfolding next without numbers
+unfolding next without keep numbers
 loop-holds c = (omega arith, omega arith, omega arith, λ d later keeps. refl)
 
 mul-nearer : tie.Need-mul-nearer Inv-loop μ-loop

@@ -1,6 +1,6 @@
--- Tests of lists: every element passes a test; two lists are the same.
+-- Tests of lists: every element passes a test; a number is one of a list; two lists are the same.
 use mathlib.Core.List.{List, [], _∷_}
-use mathlib.Core.Bool.{Bool, true, false, _&&_}
+use mathlib.Core.Bool.{Bool, true, false, _&&_, _||_}
 use Prim.Native.Nat.{ℕ}
 use lib.Dec.{eqb}
 
@@ -8,6 +8,11 @@ use lib.Dec.{eqb}
 unfoldable pub every : {A : Type 0} → (A → Bool) → List A → Bool
 every test [] = true
 every test (x ∷ xs) = test x && every test xs
+
+-- a number is one of a list
+unfoldable pub among : ℕ → List ℕ → Bool
+among v [] = false
+among v (x ∷ xs) = eqb v x || among v xs
 
 -- two lists hold the same numbers in the same order
 unfoldable pub sameNumbers : List ℕ → List ℕ → Bool

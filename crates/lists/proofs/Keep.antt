@@ -6,7 +6,7 @@ use mathlib.Core.Bool.{Bool, true, false, cond, not, false≢true}
 use Prim.Native.Nat.{ℕ, suc, _+_, _≤_, _<_}
 use native.Mathlib.Omega.{arith}
 use lib.ListN.{length}
-use Rattle.branching.specs.Nodes.{keep}
+use Rattle.lists.specs.Filters.{keep}
 
 -- one node more, if a test says so
 one-more : Bool → ℕ → List ℕ → List ℕ

@@ -5,14 +5,14 @@ use Prim.Native.Nat.{ℕ, _+_, _-_}
 use lib.Dec.{eqb}
 use lib.IntN.{ℤ}
 use lib.ListN.{length}
-use Rattle.matrix.specs.Choice.{numbers}
+use Rattle.lists.specs.Numbers.{numbers}
 use Rattle.matrix.specs.Questions.{ask, andThen, oneTo, htusInRange, askMatrix}
 use Rattle.matrix.specs.declared.refusal.Refusal.the-variants.{CodeRange, ListSize, NotThere, NotBranching}
 use Rattle.matrix.specs.declared.refusal.Asked.{Asked}
 use Rattle.matrix.specs.declared.refusal.Asked.the-variants.{Passed}
 use Rattle.branching.specs.Nodes.{inTree, taxaPlaced}
 use Rattle.branching.specs.Growing.{growingTree}
 use Rattle.branching.specs.Branches.{BranchRecord, lentBranching}
 
 -- the HTUs of a growing tree of n taxa, k of them placed: n+1 to n+k-2
 unfoldable pub htusOf : ℕ → List ℕ → List ℕ

@@ -9,10 +9,10 @@ use native.Mathlib.Decide.{ℕ-discrete}
 use lib.Dec.{eqb}
 use lib.ListN.{length}
 use borrow.Author.Tests.{eq-eqb, ne-eqb}
-use Rattle.matrix.specs.Choice.{numbers}
-use Rattle.matrix.proofs.Choice.{numbers-within}
-use Rattle.branching.specs.Nodes.{keep}
-use Rattle.branching.specs.Branches.{sumOver}
+use Rattle.lists.specs.Numbers.{numbers}
+use Rattle.lists.proofs.Numbers.{numbers-within}
+use Rattle.lists.specs.Filters.{keep}
+use Rattle.lists.specs.Sums.{sumOver}
 
 -- a number if a test holds, else 0
 abbrev pub pick : Bool → ℕ → ℕ

@@ -9,8 +9,8 @@ use native.Mathlib.Omega.{arith}
 use borrow.Author.Tests.{not-true, not-false}
 use lib.ListN.{length, getD, drop, drop-of-length-le}
 use lib.Seq.{drop-cons}
-use Rattle.matrix.specs.Every.{every, sameNumbers}
-use Rattle.matrix.proofs.Both.{and-left, and-right, and-both, eqb-iff, and-iff}
+use Rattle.lists.specs.Tests.{every, sameNumbers}
+use Rattle.lists.proofs.Both.{and-left, and-right, and-both, eqb-iff, and-iff}
 
 module _ {A : Type 0} (test : A → Bool) where
   -- of a list that passes, the first element passes

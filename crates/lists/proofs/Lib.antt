@@ -1,0 +1,7 @@
+-- Laws of the definitions of this crate.
+pub mod Both
+pub mod Every
+pub mod Keep
+pub mod Sums
+pub mod Numbers
+pub mod Least

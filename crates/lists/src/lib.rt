@@ -1,0 +1,1 @@
+// Definitions and laws of lists that every other crate uses; no function.

@@ -1,0 +1,24 @@
+-- The rows of the nodes, by node number, and a matrix with rows written into it.
+use mathlib.Core.List.{List, [], _∷_, _++_, map}
+use Prim.Native.Nat.{ℕ, suc, _+_, _-_}
+use lib.IntN.{ℤ}
+use lib.ListN.{length, getD, take, drop}
+use Rattle.lists.specs.Numbers.{numbers}
+use Rattle.matrix.specs.Shape.{rowStart, row}
+
+-- the row of node v
+unfoldable pub rowOf : List (List ℤ) → ℕ → List ℤ
+rowOf rows v = getD rows (v - 1) []
+
+-- the rows of nodes 1 to `count`, of m characters
+unfoldable pub rowsOf : List ℤ → ℕ → ℕ → List (List ℤ)
+rowsOf codes m count = map (row codes m) (numbers 1 count)
+
+-- the matrix with a row written over the first codes of the row of node v
+unfoldable pub withRow : List ℤ → ℕ → List ℤ → List ℤ
+withRow codes v r = take (rowStart v) codes ++ (r ++ drop (rowStart v + length r) codes)
+
+-- the matrix with rows written so for nodes v, v+1, ..
+unfoldable pub withRows : List ℤ → ℕ → List (List ℤ) → List ℤ
+withRows codes v [] = codes
+withRows codes v (r ∷ rs) = withRows (withRow codes v r) (suc v) rs
