@@ -11,7 +11,8 @@ use borrow.Author.Tests.{eqb-true, eq-eqb}
 use Rattle.lists.proofs.Both.{eqb-iff, or-iff}
 use Rattle.branching.specs.Ancestors.{ancestor}
 use Rattle.lists.specs.Filters.{keep}
-use Rattle.branching.specs.Growing.{climbs, ReachesRoot, root, up}
+use Rattle.branching.specs.Growing.{climbs}
+use Rattle.branching.specs.Facts.{ReachesRoot, root, up}
 use Rattle.lists.proofs.Keep.{keep-grows, mem-keep, mem-length, length-keep-le}
 
 module _ (tree : List ℕ) where

@@ -9,8 +9,9 @@ use Rattle.lists.specs.Numbers.{numbers}
 use Rattle.lists.proofs.Numbers.{length-numbers, numbers-within, numbers-among}
 use Rattle.branching.specs.Ancestors.{ancestor}
 use Rattle.lists.specs.Filters.{keep}
-use Rattle.branching.specs.Nodes.{inTree, nodesIn, nodesOut, otherNodes, taxaPlaced}
-use Rattle.branching.specs.Growing.{descendantsWanted, Grown, Unplaced}
+use Rattle.branching.specs.Nodes.{inTree, nodesIn, nodesOut, otherNodes, taxaPlaced, Unplaced}
+use Rattle.branching.specs.Growing.{descendantsWanted}
+use Rattle.branching.specs.Facts.{Grown}
 use Rattle.branching.proofs.Nodes.{false-inTree, not-inTree, taxaPlaced-le, nodesIn-node, inTree-iff}
 use Rattle.lists.proofs.Sums.{length-keep, sum-changed, counted}
 use Rattle.lists.proofs.Keep.{keep-mem, mem-keep, keep-split, keep-grows, length-mem, length-keep-le}

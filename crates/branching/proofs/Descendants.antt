@@ -11,7 +11,8 @@ use borrow.Author.Tests.{eqb-true, eq-eqb, ne-eqb, le-leb, lt-leb}
 use Rattle.branching.specs.Ancestors.{ancestor, descendants}
 use Rattle.lists.specs.Filters.{keep}
 use Rattle.branching.specs.Nodes.{otherNodes}
-use Rattle.branching.specs.Growing.{descendantCount, descendantsWanted, InTree}
+use Rattle.branching.specs.Growing.{descendantCount, descendantsWanted}
+use Rattle.branching.specs.Facts.{InTree}
 use Rattle.lists.specs.Sums.{sumOver}
 use Rattle.lists.proofs.Keep.{keep-mem, mem-keep, keep-none, length-mem}
 use Rattle.lists.proofs.Sums.{pick, sum-keep}

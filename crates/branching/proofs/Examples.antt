@@ -6,12 +6,13 @@ use Prim.Native.Nat.{ℕ}
 use Rattle.lists.specs.Numbers.{numbers}
 use Rattle.matrix.specs.Shape.{lastNode}
 use Rattle.lists.specs.Tests.{every, sameNumbers}
+use Rattle.branching.specs.declared.branch.Branch.{Branch}
 use Rattle.branching.specs.Ancestors.{ancestor, descendants}
 use Rattle.lists.specs.Filters.{keep}
 use Rattle.branching.specs.Nodes.{hasAncestor, inTree, nodesIn, otherNodes, taxaPlaced}
 use Rattle.branching.specs.Growing.{descendantCount, descendantsWanted, climbs, rowOneAlone, nodesOnly, htusIn, ancestorsIn}
 use Rattle.branching.specs.Growing.{descendantsRight, allClimb, grown, growingTree, branching}
-use Rattle.branching.specs.Branches.{BranchRecord, branchesRead, ancestorsOf, namedInOrder, lentBranching}
+use Rattle.branching.specs.Branches.{branchesRead, ancestorsOf, namedInOrder, lentBranching}
 
 -- whether a list of ancestors is a growing tree of four taxa
 growing : List ℕ → Bool
@@ -71,11 +72,11 @@ unfolding growing
 beyond = refl
 
 -- a branch record whose length is not read
-branch : ℕ → ℕ → BranchRecord
+branch : ℕ → ℕ → Branch
 branch v a = record { node = v; ancestor = a; length = 0 }
 
 -- whether branch records are a branching of three taxa
-lent : List BranchRecord → Bool
+lent : List Branch → Bool
 unfolding growing branch
 lent records = lentBranching 3 records
 

@@ -9,8 +9,9 @@ use lib.Dec.{eqb}
 use lib.ListN.{length}
 use borrow.Author.Tests.{ne-eqb, eq-eqb}
 use Rattle.branching.specs.Ancestors.{ancestor}
-use Rattle.branching.specs.Nodes.{inTree, taxaPlaced}
-use Rattle.branching.specs.Growing.{descendantCount, descendantsWanted, InTree, ReachesRoot, root, up, Grown, Unplaced}
+use Rattle.branching.specs.Nodes.{inTree, taxaPlaced, Unplaced}
+use Rattle.branching.specs.Growing.{descendantCount, descendantsWanted}
+use Rattle.branching.specs.Facts.{InTree, ReachesRoot, root, up, Grown}
 use Rattle.branching.specs.Hanging.{hung}
 use Rattle.branching.proofs.Nodes.{inTree-same, inTree-iff}
 use Rattle.branching.proofs.Counts.{taxaPlaced-lt, taxaPlaced-more}

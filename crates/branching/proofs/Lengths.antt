@@ -8,8 +8,7 @@ use lib.Dec.{leb}
 use lib.ListN.{length}
 use borrow.Author.Tests.{le-leb}
 use Rattle.branching.specs.Ancestors.{ancestor}
-use Rattle.branching.specs.Nodes.{nodesIn, otherNodes}
-use Rattle.branching.specs.Growing.{Unplaced}
+use Rattle.branching.specs.Nodes.{nodesIn, otherNodes, Unplaced}
 use Rattle.branching.specs.Hanging.{linked, hung}
 use Rattle.branching.specs.Branches.{treeLength}
 use Rattle.branching.proofs.Nodes.{node-nodesIn}

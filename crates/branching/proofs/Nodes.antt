@@ -14,7 +14,7 @@ use Rattle.lists.proofs.Numbers.{length-numbers, numbers-within, numbers-among}
 use Rattle.lists.proofs.Both.{leb-iff, eqb-iff, or-iff}
 use Rattle.branching.specs.Ancestors.{ancestor}
 use Rattle.branching.specs.Nodes.{hasAncestor, inTree, nodesIn, otherNodes, taxaPlaced}
-use Rattle.branching.specs.Growing.{InTree}
+use Rattle.branching.specs.Facts.{InTree}
 use Rattle.branching.specs.Hanging.{noBranches}
 use Rattle.lists.proofs.Keep.{keep-mem, mem-keep, length-keep-le}
 

@@ -12,20 +12,21 @@ use lib.Seq.{take-all}
 use Rattle.lists.proofs.Every.{sameNumbers-iff}
 use Rattle.lists.proofs.Both.{and-iff}
 use Rattle.lists.proofs.Numbers.{length-map-numbers, map-numbers, map-beyond}
+use Rattle.branching.specs.declared.branch.Branch.{Branch}
 use Rattle.branching.specs.Ancestors.{ancestor}
 use Rattle.branching.specs.Nodes.{otherNodes}
-use Rattle.branching.specs.Growing.{Branching}
-use Rattle.branching.specs.Branches.{BranchRecord, treeLength, branchOf, branchRecords, branchesRead, ancestorsOf, namedInOrder, lentBranching}
+use Rattle.branching.specs.Facts.{Branching}
+use Rattle.branching.specs.Branches.{treeLength, branchOf, branchRecords, branchesRead, ancestorsOf, namedInOrder, lentBranching}
 use Rattle.lists.specs.Sums.{sumOver}
 use Rattle.branching.proofs.Test.{branching-iff}
 use Rattle.branching.proofs.Whole.{growing-outside, growing-same, branching-length}
 
 -- the nodes that the branches name, as far as they are read
-abbrev pub nodesRead : ℕ → List BranchRecord → List ℕ
-nodesRead n records = map (λ (branch : BranchRecord). branch .node) (branchesRead n records)
+abbrev pub nodesRead : ℕ → List Branch → List ℕ
+nodesRead n records = map (λ (branch : Branch). branch .node) (branchesRead n records)
 
 -- a lent list is a branching exactly if it names nodes 2 to 2n-2 in order and its ancestors are a branching
-pub lent-iff : (n : ℕ) → 1 ≤ n → (records : List BranchRecord)
+pub lent-iff : (n : ℕ) → 1 ≤ n → (records : List Branch)
     → (lentBranching n records ≡ true) ↔ ((nodesRead n records ≡ otherNodes n) × Branching n (ancestorsOf n records))
 unfolding lentBranching namedInOrder
 lent-iff n taxa records =
@@ -43,8 +44,8 @@ module _ (d : ℕ → ℕ → ℕ) (n : ℕ) (tree : List ℕ) where
   pub records-named : nodesRead n (branchRecords d n tree) ≡ otherNodes n
   unfolding branchRecords branchOf
   records-named =
-      ap (map (λ (branch : BranchRecord). branch .node)) read-all
-      ∙ map-map (λ (branch : BranchRecord). branch .node) (branchOf d tree) (otherNodes n)
+      ap (map (λ (branch : Branch). branch .node)) read-all
+      ∙ map-map (λ (branch : Branch). branch .node) (branchOf d tree) (otherNodes n)
       ∙ map-id (otherNodes n)
 
   -- their ancestors are those of the tree
@@ -52,8 +53,8 @@ module _ (d : ℕ → ℕ → ℕ) (n : ℕ) (tree : List ℕ) where
   unfolding ancestorsOf branchRecords branchOf
   records-ancestors =
       ap (λ (rest : List ℕ). 0 ∷ (0 ∷ rest))
-      (ap (map (λ (branch : BranchRecord). branch .ancestor)) read-all
-      ∙ map-map (λ (branch : BranchRecord). branch .ancestor) (branchOf d tree) (otherNodes n))
+      (ap (map (λ (branch : Branch). branch .ancestor)) read-all
+      ∙ map-map (λ (branch : Branch). branch .ancestor) (branchOf d tree) (otherNodes n))
 
   module _ (b : Branching n tree) where
     -- read again, they give every node the ancestor that it has

@@ -19,8 +19,8 @@ use Rattle.branching.specs.Ancestors.{ancestor}
 use Rattle.lists.specs.Filters.{keep}
 use Rattle.branching.specs.Nodes.{hasAncestor, inTree, nodesIn, otherNodes, taxaPlaced}
 use Rattle.branching.specs.Growing.{descendantCount, descendantsWanted, climbs, rowOneAlone, nodesOnly, htusIn, ancestorsIn}
-use Rattle.branching.specs.Growing.{descendantsRight, allClimb, grown, growingTree, branching, InTree, ReachesRoot, root, Grown}
-use Rattle.branching.specs.Growing.{GrowingTree, alone, several, Branching}
+use Rattle.branching.specs.Growing.{descendantsRight, allClimb, grown, growingTree, branching}
+use Rattle.branching.specs.Facts.{InTree, ReachesRoot, root, Grown, GrowingTree, alone, several, Branching}
 use Rattle.branching.proofs.Climbing.{climbs-reaches, reaches-climbs, never-climbs}
 use Rattle.branching.proofs.Nodes.{ancestor-place, hasAncestor-iff, no-ancestor-iff, inTree-iff, taxaPlaced-le, nodesIn-node}
 use Rattle.branching.proofs.Nodes.{node-nodesIn}

@@ -14,8 +14,8 @@ use Rattle.lists.proofs.Numbers.{numbers-within}
 use Rattle.branching.specs.Ancestors.{ancestor}
 use Rattle.lists.specs.Filters.{keep}
 use Rattle.branching.specs.Nodes.{inTree, nodesIn, otherNodes, taxaPlaced}
-use Rattle.branching.specs.Growing.{descendantCount, descendantsWanted, climbs, InTree, ReachesRoot, root, up, Grown, GrowingTree}
-use Rattle.branching.specs.Growing.{alone, several, Branching}
+use Rattle.branching.specs.Growing.{descendantCount, descendantsWanted, climbs}
+use Rattle.branching.specs.Facts.{InTree, ReachesRoot, root, up, Grown, GrowingTree, alone, several, Branching}
 use Rattle.lists.specs.Sums.{sumOver}
 use Rattle.branching.specs.Branches.{treeLength}
 use Rattle.branching.proofs.Nodes.{inTree-same, taxaPlaced-le, inTree-iff}

@@ -10,9 +10,10 @@ use Rattle.matrix.specs.Questions.{ask, andThen, oneTo, htusInRange, askMatrix}
 use Rattle.matrix.specs.declared.refusal.Refusal.the-variants.{CodeRange, ListSize, NotThere, NotBranching}
 use Rattle.matrix.specs.declared.refusal.Asked.{Asked}
 use Rattle.matrix.specs.declared.refusal.Asked.the-variants.{Passed}
+use Rattle.branching.specs.declared.branch.Branch.{Branch}
 use Rattle.branching.specs.Nodes.{inTree, taxaPlaced}
 use Rattle.branching.specs.Growing.{growingTree}
-use Rattle.branching.specs.Branches.{BranchRecord, lentBranching}
+use Rattle.branching.specs.Branches.{lentBranching}
 
 -- the HTUs of a growing tree of n taxa, k of them placed: n+1 to n+k-2
 unfoldable pub htusOf : ℕ → List ℕ → List ℕ
@@ -33,7 +34,7 @@ branchesSize = 125
 
 -- the questions of a call on a lent branching that reads no HTU row, as a fitting: the size of the list of branches, those on the
 -- matrix, whether the branches are a branching
-unfoldable pub askBranching : List ℤ → ℕ → ℕ → List BranchRecord → Asked
+unfoldable pub askBranching : List ℤ → ℕ → ℕ → List Branch → Asked
 askBranching codes n m records =
     ask (eqb (length records) branchesSize) ListSize
     (andThen (askMatrix codes n m) (ask (lentBranching n records) NotBranching Passed))

@@ -5,6 +5,7 @@ use Prim.Native.Nat.{ℕ, _*_, _-_}
 use lib.ListN.{take}
 use Rattle.lists.specs.Sums.{sumOver}
 use Rattle.lists.specs.Tests.{sameNumbers}
+use Rattle.branching.specs.declared.branch.Branch.{Branch}
 use Rattle.branching.specs.Ancestors.{ancestor}
 use Rattle.branching.specs.Nodes.{nodesIn, otherNodes}
 use Rattle.branching.specs.Growing.{branching}
@@ -13,32 +14,26 @@ use Rattle.branching.specs.Growing.{branching}
 unfoldable pub treeLength : (ℕ → ℕ → ℕ) → ℕ → List ℕ → ℕ
 treeLength d n tree = sumOver (λ v. d v (ancestor tree v)) (nodesIn tree (otherNodes n))
 
--- a branch: a node, its immediate ancestor, and the branch's length
-pub record BranchRecord : Type 0 where
-  pub node : ℕ
-  pub ancestor : ℕ
-  pub length : ℕ
-
 -- the branch of node v, with its length under the difference d
-unfoldable pub branchOf : (ℕ → ℕ → ℕ) → List ℕ → ℕ → BranchRecord
+unfoldable pub branchOf : (ℕ → ℕ → ℕ) → List ℕ → ℕ → Branch
 branchOf d tree v = record { node = v; ancestor = ancestor tree v; length = d v (ancestor tree v) }
 
 -- the branches of a branching of n taxa, by node number from 2
-unfoldable pub branchRecords : (ℕ → ℕ → ℕ) → ℕ → List ℕ → List BranchRecord
+unfoldable pub branchRecords : (ℕ → ℕ → ℕ) → ℕ → List ℕ → List Branch
 branchRecords d n tree = map (branchOf d tree) (otherNodes n)
 
 -- of a list of branches, the first 2n-3, which alone are read
-unfoldable pub branchesRead : ℕ → List BranchRecord → List BranchRecord
+unfoldable pub branchesRead : ℕ → List Branch → List Branch
 branchesRead n records = take (2 * n - 3) records
 
 -- the tree that the first 2n-3 branches give, if they name nodes 2 to 2n-2 in order
-unfoldable pub ancestorsOf : ℕ → List BranchRecord → List ℕ
-ancestorsOf n records = 0 ∷ (0 ∷ map (λ (branch : BranchRecord). branch .ancestor) (branchesRead n records))
+unfoldable pub ancestorsOf : ℕ → List Branch → List ℕ
+ancestorsOf n records = 0 ∷ (0 ∷ map (λ (branch : Branch). branch .ancestor) (branchesRead n records))
 
 -- the first 2n-3 branches name nodes 2 to 2n-2 in order
-unfoldable pub namedInOrder : ℕ → List BranchRecord → Bool
-namedInOrder n records = sameNumbers (map (λ (branch : BranchRecord). branch .node) (branchesRead n records)) (otherNodes n)
+unfoldable pub namedInOrder : ℕ → List Branch → Bool
+namedInOrder n records = sameNumbers (map (λ (branch : Branch). branch .node) (branchesRead n records)) (otherNodes n)
 
 -- the lent branches are a branching of n taxa (else refusal 14)
-unfoldable pub lentBranching : ℕ → List BranchRecord → Bool
+unfoldable pub lentBranching : ℕ → List Branch → Bool
 lentBranching n records = namedInOrder n records && branching n (ancestorsOf n records)

@@ -2,6 +2,7 @@
 pub mod Ancestors
 pub mod Nodes
 pub mod Growing
+pub mod Facts
 pub mod Hanging
 pub mod Branches
 pub mod Asking

@@ -1,7 +1,8 @@
 -- The nodes of a tree. Taxa are nodes 1 to n by row; HTUs are nodes n+1, n+2, .. as they are made; the last is 2n-2.
+use mathlib.Core.Path.{_≡_}
 use mathlib.Core.List.{List}
 use mathlib.Core.Bool.{Bool, not, _||_}
-use Prim.Native.Nat.{ℕ, _*_, _-_}
+use Prim.Native.Nat.{ℕ, _*_, _-_, _≤_}
 use lib.Dec.{leb, eqb}
 use lib.ListN.{length}
 use Rattle.lists.specs.Numbers.{numbers}
@@ -31,3 +32,9 @@ otherNodes n = numbers 2 (2 * n - 3)
 -- how many of the taxa 1 to n are in the tree
 unfoldable pub taxaPlaced : ℕ → List ℕ → ℕ
 taxaPlaced n tree = length (nodesIn tree (numbers 1 n))
+
+-- b is a taxon that is not yet placed: not row 1, and without an immediate ancestor
+pub record Unplaced (n : ℕ) (tree : List ℕ) (b : ℕ) : Type 0 where
+  pub other : 2 ≤ b
+  pub taxon : b ≤ n
+  pub free : ancestor tree b ≡ 0

@@ -1,1 +1,2 @@
-// What a branching is.
+// Trees as lists of immediate ancestors; growing trees and branchings; branch records.
+pub mod branch;

@@ -12,7 +12,8 @@ use Rattle.lists.specs.Tests.{every}
 use Rattle.branching.specs.Ancestors.{ancestor, descendants}
 use Rattle.lists.specs.Filters.{keep}
 use Rattle.branching.specs.Nodes.{otherNodes, hasAncestor, inTree, nodesIn, taxaPlaced}
-use Rattle.branching.specs.Growing.{Branching, descendantCount, descendantsWanted, climbs, rowOneAlone, nodesOnly, htusIn, ancestorsIn}
+use Rattle.branching.specs.Facts.{Branching}
+use Rattle.branching.specs.Growing.{descendantCount, descendantsWanted, climbs, rowOneAlone, nodesOnly, htusIn, ancestorsIn}
 use Rattle.branching.specs.Growing.{descendantsRight, allClimb, grown, growingTree, branching}
 use Rattle.branching.proofs.Test.{branching-iff}
 use Rattle.fitting.specs.Assignments.{total, IsAssignment, Occurs}

@@ -19,7 +19,7 @@ use Rattle.matrix.proofs.Passing.{ask-passed, andThen-passed, oneTo-true, matri
 use Rattle.difference.specs.Rows.{difference}
 use Rattle.prim.specs.Network.{network, taxonDifference}
 use Rattle.prim.proofs.Agreement.{network-agrees}
-use Rattle.branching.specs.Nodes.{inTree, taxaPlaced}
+use Rattle.branching.specs.Nodes.{inTree, taxaPlaced, Unplaced}
 use Rattle.branching.proofs.Nodes.{not-inTree, taxaPlaced-le}
 use Rattle.lists.proofs.Numbers.{numbers-append, length-map-numbers, map-numbers, getD-numbers, length-numbers}
 use Rattle.lists.proofs.Both.{or-cases}
@@ -30,7 +30,7 @@ use Rattle.wagner.specs.Placing.{place}
 use Rattle.wagner.specs.Rival.{PlacementIsLeast}
 use Rattle.rivals.specs.Accepted.{CodeRows, matrixLent}
 use Rattle.rivals.proofs.Demand.{no-rival}
-use Rattle.branching.specs.Growing.{growingTree, rowOneAlone, Unplaced}
+use Rattle.branching.specs.Growing.{growingTree, rowOneAlone}
 use Rattle.wagner.specs.Nodes.{nodeDifference}
 use Rattle.branching.specs.Asking.{htusOf, askPlacement}
 use Rattle.wagner.proofs.Matrix.{rowOf-rowsOf}

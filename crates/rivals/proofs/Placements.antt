@@ -7,9 +7,10 @@ use native.Mathlib.Omega.{arith}
 use lib.IntN.{ℤ}
 use lib.ListN.{length, length-append}
 use Rattle.difference.specs.Rows.{difference}
-use Rattle.branching.specs.Growing.{rowOneAlone, GrowingTree, alone, several, Grown, Unplaced}
+use Rattle.branching.specs.Growing.{rowOneAlone}
+use Rattle.branching.specs.Facts.{GrowingTree, alone, several, Grown}
+use Rattle.branching.specs.Nodes.{Unplaced, taxaPlaced}
 use Rattle.branching.specs.Hanging.{noBranches}
-use Rattle.branching.specs.Nodes.{taxaPlaced}
 use Rattle.branching.proofs.Nodes.{noBranches-none, noBranches-places}
 use Rattle.branching.proofs.Test.{alone-iff, growing-fact, growing-placed}
 use Rattle.wagner.specs.Placing.{link, place}

@@ -6,11 +6,14 @@ use Prim.Native.Nat.{ℕ}
 use lib.IntN.{ℤ}
 use Rattle.difference.specs.Rows.{difference}
 use Rattle.prim.specs.Rival.{Shortest}
-use Rattle.branching.specs.Growing.{branching, Unplaced}
+use Rattle.wagner.specs.declared.placement.Placement.{Placement}
+use Rattle.branching.specs.declared.branch.Branch.{Branch}
+use Rattle.branching.specs.Growing.{branching}
+use Rattle.branching.specs.Nodes.{Unplaced}
 use Rattle.branching.specs.Hanging.{noBranches, linked}
-use Rattle.branching.specs.Branches.{BranchRecord, lentBranching, ancestorsOf}
+use Rattle.branching.specs.Branches.{lentBranching, ancestorsOf}
 use Rattle.wagner.specs.Nodes.{nodeDifference}
-use Rattle.wagner.specs.Placing.{Placement, Placed, link, place}
+use Rattle.wagner.specs.Placing.{Placed, link, place}
 use Rattle.wagner.specs.Build.{Built, wagner}
 use Rattle.wagner.specs.Rival.{PlacementIsLeast}
 use Rattle.fitting.specs.Rival.{FitIsLeast}
@@ -45,4 +48,4 @@ pub record NoRivalDoesBetter (n m : ℕ) (rows : List (List ℤ)) : Type 0 where
   -- on any branching our chosen states have the least total, and a range has exactly the states of assignments of least length
   pub fit : (tree : List ℕ) → branching n tree ≡ true → FitIsLeast tree rows n m
   -- a branching may be lent as branch records
-  pub lentFit : (records : List BranchRecord) → lentBranching n records ≡ true → FitIsLeast (ancestorsOf n records) rows n m
+  pub lentFit : (records : List Branch) → lentBranching n records ≡ true → FitIsLeast (ancestorsOf n records) rows n m

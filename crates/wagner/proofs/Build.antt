@@ -9,8 +9,8 @@ use lib.IntN.{ℤ}
 use lib.ListN.{length, length-set}
 use Rattle.lists.specs.Numbers.{numbers}
 use Rattle.difference.specs.Rows.{difference}
-use Rattle.branching.specs.Nodes.{taxaPlaced, nodesOut}
-use Rattle.branching.specs.Growing.{GrowingTree, alone, Branching, Unplaced}
+use Rattle.branching.specs.Nodes.{taxaPlaced, nodesOut, Unplaced}
+use Rattle.branching.specs.Facts.{GrowingTree, alone, Branching}
 use Rattle.branching.specs.Hanging.{noBranches, linked, hung}
 use Rattle.branching.specs.Branches.{lentBranching}
 use Rattle.branching.proofs.Nodes.{noBranches-none, noBranches-places}

@@ -12,7 +12,8 @@ use lib.ListN.{length, length-append}
 use Rattle.lists.specs.Sums.{sumOver}
 use Rattle.matrix.specs.NodeRows.{rowOf}
 use Rattle.branching.specs.Ancestors.{ancestor}
-use Rattle.branching.specs.Growing.{GrowingTree, alone, several, Unplaced}
+use Rattle.branching.specs.Facts.{GrowingTree, alone, several}
+use Rattle.branching.specs.Nodes.{Unplaced}
 use Rattle.branching.specs.Hanging.{noBranches}
 use Rattle.branching.proofs.Nodes.{noBranches-none, noBranches-places}
 use Rattle.branching.proofs.Test.{growing-placed}

@@ -4,10 +4,10 @@ use mathlib.Core.List.{List}
 use Prim.Native.Nat.{ℕ, _+_, _*_, _-_, _≤_, _<_}
 use lib.IntN.{ℤ}
 use lib.ListN.{length}
-use Rattle.difference.specs.Rows.{intervalBy}
-use Rattle.difference.specs.Rows.{difference, intervalDifference}
+use Rattle.difference.specs.Rows.{intervalBy, difference, intervalDifference}
 use Rattle.difference.proofs.Laws.Rows.{difference-sym, medians-length, interval-least, interval-equal}
-use Rattle.branching.specs.Growing.{Grown, Unplaced}
+use Rattle.branching.specs.Facts.{Grown}
+use Rattle.branching.specs.Nodes.{Unplaced}
 use Rattle.branching.specs.Hanging.{noBranches}
 use Rattle.wagner.specs.Build.{byAdvancement, addedLength, wagner, wagnerLength}
 use Rattle.wagner.specs.Placing.{place}

@@ -11,17 +11,19 @@ use Rattle.lists.specs.Numbers.{numbers}
 use Rattle.lists.specs.Least.{firstLeast, leastOf}
 use Rattle.matrix.specs.Shape.{lastNode}
 use Rattle.lists.specs.Tests.{every, sameNumbers}
+use Rattle.wagner.specs.declared.placement.Placement.{Placement}
+use Rattle.branching.specs.declared.branch.Branch.{Branch}
 use Rattle.branching.specs.Ancestors.{ancestor, descendants}
 use Rattle.lists.specs.Filters.{keep}
 use Rattle.branching.specs.Nodes.{hasAncestor, inTree, nodesIn, nodesOut, otherNodes, taxaPlaced}
 use Rattle.branching.specs.Growing.{descendantCount, descendantsWanted, climbs, rowOneAlone, nodesOnly, htusIn, ancestorsIn}
 use Rattle.branching.specs.Growing.{descendantsRight, allClimb, grown, growingTree, branching}
 use Rattle.branching.specs.Hanging.{noBranches, linked, hung, nextHtu}
-use Rattle.branching.specs.Branches.{BranchRecord, treeLength, branchOf, branchRecords, branchesRead, ancestorsOf}
+use Rattle.branching.specs.Branches.{treeLength, branchOf, branchRecords, branchesRead, ancestorsOf}
 use Rattle.lists.specs.Sums.{sumOver}
 use Rattle.branching.specs.Branches.{namedInOrder, lentBranching}
 use Rattle.wagner.specs.Nodes.{nodeDifference, nodeInterval, advancement, lengthUnder}
-use Rattle.wagner.specs.Placing.{Placement, Placed, medianRow, fromInterval, nearestInterval, link, hang, placeOn, place}
+use Rattle.wagner.specs.Placing.{Placed, medianRow, fromInterval, nearestInterval, link, hang, placeOn, place}
 use Rattle.wagner.specs.Build.{Built, byAdvancement, buildOn, build, wagner, wagnerLength, wagnerBranches}
 
 -- taxon, lower end, upper end, HTU, length added
@@ -126,11 +128,11 @@ unfolding handed
 handed-row = refl
 
 -- the branches of document 01's tree, with their lengths under the median codes; handed back, they are a branching
-branches : List BranchRecord
+branches : List Branch
 unfolding shown
 branches = wagnerBranches 4 (wagner 4 fourTaxa)
 
-abbrev branch : ℕ → ℕ → ℕ → BranchRecord
+abbrev branch : ℕ → ℕ → ℕ → Branch
 branch v a l = record { node = v; ancestor = a; length = l }
 
 branches-listed : branches ≡ branch 2 6 0 ∷ branch 3 6 3 ∷ branch 4 5 3 ∷ branch 5 1 1 ∷ branch 6 5 2 ∷ []

@@ -8,10 +8,10 @@ use lib.IntN.{ℤ}
 use lib.ListN.{length, List·getD-append}
 use lib.Seq.{getD-at}
 use Rattle.matrix.specs.NodeRows.{rowOf}
-use Rattle.difference.specs.Rows.{intervalBy}
-use Rattle.difference.specs.Rows.{medians}
+use Rattle.difference.specs.Rows.{intervalBy, medians}
 use Rattle.branching.specs.Ancestors.{ancestor}
-use Rattle.branching.specs.Growing.{Grown, GrowingTree, alone, several, Unplaced}
+use Rattle.branching.specs.Facts.{Grown, GrowingTree, alone, several}
+use Rattle.branching.specs.Nodes.{Unplaced}
 use Rattle.branching.specs.Hanging.{hung, nextHtu}
 use Rattle.branching.proofs.Hanging.{hung-joint, htu-out}
 use Rattle.branching.proofs.Lengths.{treeLength-same, alone-length, linked-length, hung-length}

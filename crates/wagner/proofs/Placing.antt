@@ -7,8 +7,9 @@ use native.Mathlib.Omega.{arith}
 use lib.IntN.{ℤ}
 use lib.ListN.{length}
 use Rattle.branching.specs.Ancestors.{ancestor}
-use Rattle.branching.specs.Nodes.{nodesIn, otherNodes, taxaPlaced}
-use Rattle.branching.specs.Growing.{growingTree, Grown, GrowingTree, alone, several, Unplaced}
+use Rattle.branching.specs.Nodes.{nodesIn, otherNodes, taxaPlaced, Unplaced}
+use Rattle.branching.specs.Growing.{growingTree}
+use Rattle.branching.specs.Facts.{Grown, GrowingTree, alone, several}
 use Rattle.branching.specs.Hanging.{nextHtu}
 use Rattle.branching.proofs.Nodes.{node-nodesIn}
 use Rattle.branching.proofs.Counts.{grown-node, grown-nodes}

@@ -5,7 +5,8 @@ use Prim.Native.Nat.{ℕ, _+_, _*_, _-_, _<_}
 use native.Mathlib.Omega.{arith}
 use lib.IntN.{ℤ}
 use lib.ListN.{length}
-use Rattle.branching.specs.Growing.{Grown, several, Unplaced}
+use Rattle.branching.specs.Facts.{Grown, several}
+use Rattle.branching.specs.Nodes.{Unplaced}
 use Rattle.branching.specs.Hanging.{nextHtu}
 use Rattle.wagner.specs.Placing.{hang, place}
 use Rattle.wagner.specs.Rival.{hungLength, PlacementIsLeast}

@@ -4,13 +4,15 @@ use Prim.Native.Nat.{ℕ, zero, suc, _-_}
 use lib.IntN.{ℤ}
 use Rattle.lists.specs.Numbers.{numbers}
 use Rattle.difference.specs.Rows.{difference}
+use Rattle.wagner.specs.declared.placement.Placement.{Placement}
+use Rattle.branching.specs.declared.branch.Branch.{Branch}
 use Rattle.branching.specs.Nodes.{nodesOut}
 use Rattle.branching.specs.Hanging.{noBranches}
-use Rattle.branching.specs.Branches.{BranchRecord, branchRecords}
+use Rattle.branching.specs.Branches.{branchRecords}
 use Rattle.lists.specs.Sums.{sumOver}
 use Rattle.lists.specs.Least.{leastOf}
 use Rattle.wagner.specs.Nodes.{nodeDifference, advancement, lengthUnder}
-use Rattle.wagner.specs.Placing.{Placement, Placed, place}
+use Rattle.wagner.specs.Placing.{Placed, place}
 
 -- what comes out of a build: the tree, the rows of all nodes, and the placements in order
 pub record Built : Type 0 where
@@ -49,5 +51,5 @@ unfoldable pub wagnerLength : ℕ → Built → ℕ
 wagnerLength n built = lengthUnder difference n (built .tree) (built .rows)
 
 -- the finished tree as branch records
-unfoldable pub wagnerBranches : ℕ → Built → List BranchRecord
+unfoldable pub wagnerBranches : ℕ → Built → List Branch
 wagnerBranches n built = branchRecords (nodeDifference difference (built .rows)) n (built .tree)

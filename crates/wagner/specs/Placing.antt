@@ -4,19 +4,12 @@ use Prim.Native.Nat.{ℕ, zero, suc}
 use lib.IntN.{ℤ}
 use Rattle.matrix.specs.NodeRows.{rowOf}
 use Rattle.difference.specs.Rows.{medians}
+use Rattle.wagner.specs.declared.placement.Placement.{Placement}
 use Rattle.branching.specs.Ancestors.{ancestor}
 use Rattle.branching.specs.Nodes.{nodesIn, otherNodes}
 use Rattle.branching.specs.Hanging.{linked, hung, nextHtu}
 use Rattle.lists.specs.Least.{leastOf}
 use Rattle.wagner.specs.Nodes.{nodeDifference, nodeInterval}
-
--- what a placement did: the taxon, the lower end of its interval (0: none), the upper end, the new HTU (0: none), the length added
-pub record Placement : Type 0 where
-  pub taxon : ℕ
-  pub lower : ℕ
-  pub upper : ℕ
-  pub htu : ℕ
-  pub added : ℕ
 
 -- what comes out of a placement: the tree one taxon larger, the rows of all nodes, and what was done
 pub record Placed : Type 0 where

@@ -1,1 +1,2 @@
-// The growing tree, one placement, and the whole build.
+// The Wagner tree: one placement, and the whole build.
+pub mod placement;

@@ -10,7 +10,8 @@ use lib.ListN.{length}
 use borrow.Author.Tests.{eqb-true}
 use Rattle.branching.specs.Ancestors.{ancestor, descendants}
 use Rattle.branching.specs.Nodes.{otherNodes}
-use Rattle.branching.specs.Growing.{descendantCount, climbs, Grown, several}
+use Rattle.branching.specs.Growing.{descendantCount, climbs}
+use Rattle.branching.specs.Facts.{Grown, several}
 use Rattle.branching.proofs.Climbing.{climbs-iff}
 use Rattle.branching.proofs.Whole.{growing-within, growing-outside, branching-nodes, branching-root, branching-taxon, branching-htu}
 use Rattle.branching.proofs.Whole.{branching-climbs}

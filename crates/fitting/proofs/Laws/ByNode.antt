@@ -10,7 +10,7 @@ use Rattle.lists.specs.Numbers.{numbers}
 use Rattle.lists.proofs.Numbers.{numbers-among, length-numbers}
 use Rattle.branching.specs.Ancestors.{ancestor, descendants}
 use Rattle.branching.specs.Nodes.{otherNodes}
-use Rattle.branching.specs.Growing.{Grown}
+use Rattle.branching.specs.Facts.{Grown}
 use Rattle.branching.proofs.Descendants.{mem-descendants}
 use Rattle.lists.proofs.Sums.{length-sum}
 use Rattle.fitting.specs.Sets.{Span, only, join, nearest, middle}

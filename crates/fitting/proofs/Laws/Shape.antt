@@ -16,7 +16,7 @@ use Rattle.difference.proofs.Laws.Codes.{apart-sym}
 use Rattle.branching.specs.Ancestors.{ancestor, descendants}
 use Rattle.branching.specs.Nodes.{otherNodes}
 use Rattle.lists.specs.Sums.{sumOver}
-use Rattle.branching.specs.Growing.{Grown}
+use Rattle.branching.specs.Facts.{Grown}
 use Rattle.lists.proofs.Sums.{pick, sum-outside, sum-one}
 use Rattle.branching.proofs.Descendants.{mem-descendants}
 use Rattle.fitting.specs.Trees.{Tree, tip, fork, above, treeAt, treesBelow}

@@ -9,7 +9,7 @@ use lib.IntN.{ℤ}
 use Rattle.lists.specs.Numbers.{numbers}
 use Rattle.branching.specs.Ancestors.{descendants}
 use Rattle.branching.specs.Nodes.{otherNodes}
-use Rattle.branching.specs.Growing.{Branching}
+use Rattle.branching.specs.Facts.{Branching}
 use Rattle.lists.specs.Sums.{sumOver}
 use Rattle.branching.proofs.Whole.{branching-grown}
 use Rattle.lists.specs.Filters.{keep}

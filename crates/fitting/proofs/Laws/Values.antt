@@ -12,7 +12,7 @@ use lib.ListN.{length, getD}
 use lib.Signed.{leZ}
 use Rattle.difference.specs.Rows.{lower}
 use Rattle.difference.proofs.Laws.Order.{lower-keeps, higher-keeps}
-use Rattle.branching.specs.Growing.{Grown}
+use Rattle.branching.specs.Facts.{Grown}
 use Rattle.fitting.specs.Sets.{Span, only, join, nearest, insert, inOrder, ends, middle}
 use Rattle.fitting.specs.Trees.{Tree, tip, fork}
 use Rattle.fitting.specs.Character.{up, chosen, ranges}

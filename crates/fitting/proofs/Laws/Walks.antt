@@ -14,7 +14,7 @@ use Rattle.lists.proofs.Both.{eqb-sym}
 use Rattle.branching.specs.Ancestors.{ancestor, descendants}
 use Rattle.branching.specs.Nodes.{otherNodes}
 use Rattle.lists.specs.Sums.{sumOver}
-use Rattle.branching.specs.Growing.{Grown}
+use Rattle.branching.specs.Facts.{Grown}
 use Rattle.lists.proofs.Sums.{pick, sum-same, sum-plus, sum-swap, sum-outside, sum-one}
 use Rattle.branching.proofs.Descendants.{sum-descendants}
 use Rattle.fitting.specs.Trees.{Tree, tip, fork, above, treeAt}
