@@ -5,3 +5,5 @@ pub mod Keep
 pub mod Sums
 pub mod Numbers
 pub mod Least
+pub mod Over
+pub mod Stripes

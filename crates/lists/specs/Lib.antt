@@ -4,3 +4,4 @@ pub mod Filters
 pub mod Sums
 pub mod Numbers
 pub mod Least
+pub mod Over

@@ -1,0 +1,103 @@
+-- Laws of items written at a fixed width: the list keeps its length, each item stands at its place, and all else stays.
+use mathlib.Core.Path.{_≡_, refl, sym, ap, _∙_}
+use mathlib.Core.List.{List, [], _∷_, _++_}
+use Prim.Native.Nat.{ℕ, zero, suc, _+_, _*_, _≤_, _<_}
+use native.Mathlib.Omega.{arith}
+use lib.ListN.{length, getD, take, drop, length-take, length-drop}
+use lib.Seq.{getD-take, getD-drop, ext-getD}
+use Rattle.lists.specs.Over.{over, stripes}
+use Rattle.lists.proofs.Over.{length-over, over-inside, over-before, over-behind}
+
+module _ {A : Type 0} where
+  -- no item is wider than its place
+  abbrev pub Narrow : ℕ → List (List A) → Type 0
+  Narrow width items = (k : ℕ) → length (getD items k []) ≤ width
+
+  module _ (width : ℕ) where
+    -- the list keeps its length
+    pub length-stripes : (place : ℕ) (items : List (List A)) (old : List A) → length (stripes width place items old) ≡ length old
+    unfolding stripes
+    length-stripes place [] old = refl
+    length-stripes place (item ∷ items) old = length-stripes (place + width) items (over place item old) ∙ length-over place item old
+
+    -- one item more is written behind the others
+    pub stripes-snoc : (place : ℕ) (items : List (List A)) (item old : List A)
+        → stripes width place (items ++ (item ∷ [])) old ≡ over (place + length items * width) item (stripes width place items old)
+    unfolding stripes
+    stripes-snoc place [] item old = ap (λ p. over p item old) (omega arith)
+    stripes-snoc place (first ∷ items) item old =
+        stripes-snoc (place + width) items item (over place first old)
+        ∙ ap (λ p. over p item (stripes width (place + width) items (over place first old))) (omega arith)
+
+    -- what stands before the first item stays
+    pub stripes-before : (none : A) (place : ℕ) (items : List (List A)) (old : List A) (i : ℕ) → i < place
+        → getD (stripes width place items old) i none ≡ getD old i none
+    unfolding stripes
+    stripes-before none place [] old i h = refl
+    stripes-before none place (item ∷ items) old i h =
+        stripes-before none (place + width) items (over place item old) i (omega arith) ∙ over-before none place item old i h
+
+    -- each item stands at its place
+    pub stripes-inside : (none : A) (place : ℕ) (items : List (List A)) (old : List A) → Narrow width items → (k i : ℕ)
+        → i < length (getD items k []) → place + k * width + i < length old
+        → getD (stripes width place items old) (place + k * width + i) none ≡ getD (getD items k []) i none
+    unfolding stripes
+    stripes-inside none place [] old narrow k i h room = absurd (omega arith)
+    stripes-inside none place (item ∷ items) old narrow zero i h room =
+        let here : place + 0 * width + i ≡ place + i = omega arith in
+        ap (λ p. getD (stripes width (place + width) items (over place item old)) p none) here
+        ∙ stripes-before none (place + width) items (over place item old) (place + i) (omega (arith, narrow 0))
+        ∙ over-inside none place item old i h (omega arith)
+    stripes-inside none place (item ∷ items) old narrow (suc k) i h room =
+        let there : place + suc k * width + i ≡ place + width + k * width + i = omega arith in
+        ap (λ p. getD (stripes width (place + width) items (over place item old)) p none) there
+        ∙ stripes-inside none (place + width) items (over place item old) (λ j. narrow (suc j)) k i h
+        (omega (arith, length-over place item old))
+
+    -- and behind an item, up to the next one, all stays; so it does where no item is written
+    pub stripes-else : (none : A) (place : ℕ) (items : List (List A)) (old : List A) → Narrow width items → (k i : ℕ)
+        → length (getD items k []) ≤ i → i < width
+        → getD (stripes width place items old) (place + k * width + i) none ≡ getD old (place + k * width + i) none
+    unfolding stripes
+    stripes-else none place [] old narrow k i h l = refl
+    stripes-else none place (item ∷ items) old narrow zero i h l =
+        stripes-before none (place + width) items (over place item old) (place + 0 * width + i) (omega arith)
+        ∙ over-behind none place item old (place + 0 * width + i) (omega arith)
+    stripes-else none place (item ∷ items) old narrow (suc k) i h l =
+        let there : place + suc k * width + i ≡ place + width + k * width + i = omega arith in
+        ap (λ p. getD (stripes width (place + width) items (over place item old)) p none) there
+        ∙ stripes-else none (place + width) items (over place item old) (λ j. narrow (suc j)) k i h l
+        ∙ over-behind none place item old (place + width + k * width + i) (omega (arith, narrow 0))
+        ∙ ap (λ p. getD old p none) (sym there)
+
+    -- so an item is read back from its place
+    pub stripes-item : (none : A) (place : ℕ) (items : List (List A)) (old : List A) → Narrow width items → (k : ℕ)
+        → place + k * width + length (getD items k []) ≤ length old
+        → take (length (getD items k [])) (drop (place + k * width) (stripes width place items old)) ≡ getD items k []
+    stripes-item none place items old narrow k room =
+        ext-getD none (take size part) item (omega (arith, length-take size part, length-drop start written, long)) same
+      where
+        item : List A
+        item = getD items k []
+
+        size : ℕ
+        size = length (getD items k [])
+
+        start : ℕ
+        start = place + k * width
+
+        written : List A
+        written = stripes width place items old
+
+        part : List A
+        part = drop start written
+
+        long : length written ≡ length old
+        long = length-stripes place items old
+
+        same : (i : ℕ) → i < length (take size part) → getD (take size part) i none ≡ getD item i none
+        same i h =
+            let below : i < size = omega (arith, length-take size part) in
+            getD-take size part i none below
+            ∙ getD-drop start written i none
+            ∙ stripes-inside none place items old narrow k i below (omega arith)
