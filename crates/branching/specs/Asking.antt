@@ -6,7 +6,8 @@ use lib.Dec.{eqb}
 use lib.IntN.{ℤ}
 use lib.ListN.{length}
 use Rattle.lists.specs.Numbers.{numbers}
-use Rattle.matrix.specs.Questions.{ask, andThen, oneTo, htusInRange, askMatrix}
+use Rattle.matrix.specs.Outcomes.{ask, andThen}
+use Rattle.matrix.specs.Questions.{oneTo, htusInRange, askMatrix}
 use Rattle.matrix.specs.declared.refusal.Refusal.the-variants.{CodeRange, ListSize, NotThere, NotBranching}
 use Rattle.matrix.specs.declared.refusal.Asked.{Asked}
 use Rattle.matrix.specs.declared.refusal.Asked.the-variants.{Passed}

@@ -5,28 +5,30 @@ use Prim.Native.Nat.{ℕ}
 use lib.Dec.{eqb}
 use lib.IntN.{ℤ}
 use lib.ListN.{length}
+use Rattle.lists.specs.Over.{over}
 use Rattle.matrix.specs.Shape.{columns, row}
-use Rattle.matrix.specs.Refusals.{refusalNumber, Said, value, refused, answered, askedSays}
-use Rattle.matrix.specs.Questions.{ask, askNodes}
+use Rattle.matrix.specs.Refusals.{refusalNumber}
+use Rattle.matrix.specs.Outcomes.{Outcome, value, refused, answered, askedSays, ask, afterwards}
+use Rattle.matrix.specs.Questions.{askNodes}
 use Rattle.matrix.specs.declared.refusal.Refusal.the-variants.{ListSize}
 use Rattle.matrix.specs.declared.refusal.Asked.{Asked}
-use Rattle.difference.specs.Rows.{difference, medians, intervalDifference, overwritten}
+use Rattle.difference.specs.Rows.{difference, medians, intervalDifference}
 use Rattle.difference.specs.declared.calls.Length.{Length}
 use Rattle.difference.specs.declared.calls.Length.the-variants.{Is, Refused}
 use Rattle.matrix.specs.declared.refusal.Asked.the-variants as Asked
 
 -- what a length handed back says
-abbrev pub lengthSays : Length → Said ℕ
+abbrev pub lengthSays : Length → Outcome ℕ
 lengthSays (Is length) = value length
 lengthSays (Refused refusal) = refused (refusalNumber refusal) 0
 
 -- the difference of nodes a and b
-unfoldable pub differenceAnswer : List ℤ → ℕ → ℕ → ℕ → ℕ → Said ℕ
+unfoldable pub differenceAnswer : List ℤ → ℕ → ℕ → ℕ → ℕ → Outcome ℕ
 differenceAnswer codes n m a b =
     answered (askNodes codes n m (a ∷ b ∷ [])) (difference (row codes m a) (row codes m b))
 
 -- the interval difference of node b from the interval between nodes c and d
-unfoldable pub intervalAnswer : List ℤ → ℕ → ℕ → ℕ → ℕ → ℕ → Said ℕ
+unfoldable pub intervalAnswer : List ℤ → ℕ → ℕ → ℕ → ℕ → ℕ → Outcome ℕ
 intervalAnswer codes n m b c d =
     answered (askNodes codes n m (b ∷ c ∷ d ∷ [])) (intervalDifference (row codes m b) (row codes m c) (row codes m d))
 
@@ -34,12 +36,7 @@ intervalAnswer codes n m b c d =
 unfoldable pub askMedians : List ℤ → ℕ → ℕ → ℕ → ℕ → ℕ → List ℤ → Asked
 askMedians codes n m a b c out = ask (eqb (length out) columns) ListSize (askNodes codes n m (a ∷ b ∷ c ∷ []))
 
--- a lent list after a call: as written if the questions passed, as before if not
-abbrev pub kept : Asked → List ℤ → List ℤ → List ℤ
-kept Asked.Passed written old = written
-kept (Asked.Refused refusal) written old = old
-
 -- the call for medians answers its questions; the lent row then has the medians over its first m codes, or is as before
 pub record MediansAnswer (codes : List ℤ) (n m a b c : ℕ) (old new : List ℤ) (r : Asked) : Type 0 where
   pub says : askedSays r ≡ askedSays (askMedians codes n m a b c old)
-  pub lent : new ≡ kept (askMedians codes n m a b c old) (overwritten (medians (row codes m a) (row codes m b) (row codes m c)) old) old
+  pub lent : new ≡ afterwards (askedSays (askMedians codes n m a b c old)) (over 0 (medians (row codes m a) (row codes m b) (row codes m c)) old) old

@@ -41,8 +41,6 @@ intervalBy by b c d = (by b c + by b d - by c d) / 2
 abbrev pub intervalDifference : List ℤ → List ℤ → List ℤ → ℕ
 intervalDifference b c d = intervalBy difference b c d
 
--- a list with others written over its front, as far as it goes
-unfoldable pub overwritten : List ℤ → List ℤ → List ℤ
-overwritten [] old = old
-overwritten (x ∷ xs) [] = []
-overwritten (x ∷ xs) (o ∷ old) = x ∷ overwritten xs old
+-- the difference of nodes u and v, by any difference of rows and by the rows of the nodes
+unfoldable pub nodeDifference : (List ℤ → List ℤ → ℕ) → (ℕ → List ℤ) → ℕ → ℕ → ℕ
+nodeDifference by rowAt u v = by (rowAt u) (rowAt v)

@@ -5,7 +5,8 @@ ghost use mathlib.Core.Path.{_≡_};
 ghost use Prim.Native.Nat.{min};
 ghost use lib.ListN.{take};
 ghost use Rattle.difference.specs.Answers.{DifferenceOf};
-ghost use Rattle.difference.specs.Rows.{medians, intervalDifference, overwritten};
+ghost use Rattle.lists.specs.Over.{over};
+ghost use Rattle.difference.specs.Rows.{medians, intervalDifference};
 
 // The lesser of two counts.
 fn least(a: usize, b: usize) -> usize
@@ -45,7 +46,7 @@ pub fn interval_difference(b: &[i32], c: &[i32], d: &[i32]) -> u64
 
 // Writes the medians of three rows over the front of a list, as far as all four go.
 pub fn write_medians(out: &mut [i32], xs: &[i32], ys: &[i32], zs: &[i32])
-    ensures { λ _. ⌜ now (out .exit) ≡ overwritten (medians (now (xs .entry)) (now (ys .entry)) (now (zs .entry))) (now (out .entry)) ⌝ }
+    ensures { λ _. ⌜ now (out .exit) ≡ over 0 (medians (now (xs .entry)) (now (ys .entry)) (now (zs .entry))) (now (out .entry)) ⌝ }
 {
     let count = least(out.len(), least(xs.len(), least(ys.len(), zs.len())));
     let mut j = 0;

@@ -41,7 +41,7 @@ unfolding flatMap matrix-Shape.row matrix-Shape.inRange matrix-Shape.lastNode li
     matrix-Questions.rowsInRange matrix-Questions.askMatrix matrix-Questions.nodesExist matrix-Questions.htuInRange
     matrix-Questions.htusInRange matrix-Questions.askNodes difference-Rows.apart difference-Rows.lower difference-Rows.higher
     difference-Rows.median difference-Rows.difference difference-Rows.medians
-    difference-Rows.overwritten matrix-file-Bytes.isDigit matrix-file-Bytes.isLetter matrix-file-Bytes.partsAt
+    matrix-file-Bytes.isDigit matrix-file-Bytes.isLetter matrix-file-Bytes.partsAt
     matrix-file-Bytes.partLength matrix-file-Bytes.firstPart matrix-file-Bytes.behindPart matrix-file-Bytes.joinedBy
     matrix-file-Decimal.digitsIn matrix-file-Decimal.digitsOf matrix-file-Decimal.decimal matrix-file-Decimal.noLeadingZero
     matrix-file-Decimal.numberForm matrix-file-Decimal.numberFrom matrix-file-Decimal.numberOf matrix-file-Decimal.codeForm
@@ -52,9 +52,9 @@ unfolding flatMap matrix-Shape.row matrix-Shape.inRange matrix-Shape.lastNode li
     matrix-file-Reading.charactersIn matrix-file-Reading.nameIn matrix-file-Reading.codesIn matrix-file-Reading.rowsOn
     matrix-file-Reading.jobIn matrix-file-Reading.firstForm matrix-file-Reading.firstLineForm matrix-file-Reading.askCodes
     matrix-file-Reading.askRow matrix-file-Reading.nothingMore matrix-file-Reading.askRows matrix-file-Reading.askFile
-    matrix-file-Reading.readAnswer matrix-file-Text.bytes prim-Network.taxa prim-Network.total lists-Tests.among lists-Filters.without
-    prim-Network.unplaced prim-Network.nearest prim-Network.distance prim-Network.link prim-Network.next prim-Network.grow
-    prim-Network.network prim-Network.taxonDifference branching-Ancestors.ancestor branching-Ancestors.descendants
+    matrix-file-Reading.readAnswer matrix-file-Text.bytes prim-Network.taxa prim-Network.networkLength lists-Tests.among lists-Filters.without
+    prim-Network.unplaced prim-Network.nearestPlaced prim-Network.distance prim-Network.link prim-Network.next prim-Network.grow
+    prim-Network.network difference-Rows.nodeDifference branching-Ancestors.ancestor branching-Ancestors.descendants
     branching-Nodes.hasAncestor branching-Nodes.inTree lists-Filters.keep branching-Nodes.nodesIn branching-Nodes.nodesOut
     branching-Nodes.otherNodes branching-Nodes.taxaPlaced branching-Growing.descendantCount branching-Growing.descendantsWanted
     branching-Growing.climbs branching-Growing.rowOneAlone branching-Growing.nodesOnly branching-Growing.htusIn
@@ -62,7 +62,7 @@ unfolding flatMap matrix-Shape.row matrix-Shape.inRange matrix-Shape.lastNode li
     branching-Growing.growingTree branching-Growing.branching branching-Hanging.noBranches branching-Hanging.linked
     branching-Hanging.hung branching-Hanging.nextHtu lists-Sums.sumOver branching-Branches.treeLength
     branching-Branches.branchOf branching-Branches.branchRecords branching-Branches.branchesRead branching-Branches.ancestorsOf
-    branching-Branches.namedInOrder branching-Branches.lentBranching matrix-NodeRows.rowOf lists-Least.leastOf wagner-Nodes.nodeDifference
+    branching-Branches.namedInOrder branching-Branches.lentBranching matrix-NodeRows.rowOf lists-Least.leastOf
     difference-Rows.intervalBy wagner-Nodes.nodeInterval wagner-Nodes.advancement wagner-Nodes.lengthUnder wagner-Placing.medianRow
     wagner-Placing.fromInterval wagner-Placing.nearestInterval wagner-Placing.link wagner-Placing.hang wagner-Placing.placeOn
     wagner-Placing.place wagner-Build.byAdvancement wagner-Build.addedLength wagner-Build.buildOn wagner-Build.build wagner-Build.wagner

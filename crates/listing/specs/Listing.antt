@@ -1,15 +1,15 @@
 -- The listing of a job, and of a file's bytes.
 use mathlib.Core.List.{List, [], _∷_, _++_, map, flatMap}
 use Prim.Native.Nat.{ℕ}
+use Rattle.matrix.specs.NodeRows.{rowOf}
 use Rattle.matrix.specs.Refusals.{refusalNumber}
 use Rattle.matrix.specs.declared.refusal.Refusal.{Refusal}
 use Rattle.matrix_file.specs.Decimal.{digitsOf}
 use Rattle.matrix_file.specs.Text.{bytes}
 use Rattle.matrix_file.specs.Job.{Job}
 use Rattle.matrix_file.specs.Reading.{ReadAnswer, accepted, refused, readAnswer}
-use Rattle.difference.specs.Rows.{difference}
-use Rattle.prim.specs.Network.{network, total}
-use Rattle.wagner.specs.Nodes.{nodeDifference}
+use Rattle.difference.specs.Rows.{difference, nodeDifference}
+use Rattle.prim.specs.Network.{network, networkLength}
 use Rattle.wagner.specs.Build.{Built, wagner, wagnerLength}
 use Rattle.fitting.specs.Fit.{fittedTotal}
 use Rattle.listing.specs.Lines.{line}
@@ -18,8 +18,8 @@ use Rattle.listing.specs.Blocks.{totalLine, primLine, wagnerLine, fitted
 -- the Prim Network: its `P` lines, and `p`
 unfoldable pub primBlock : Job → List (List ℕ)
 primBlock job =
-    let links = network (nodeDifference difference (job .rows)) (job .n) in
-    map (primLine (job .n) (job .names)) links ++ (totalLine "p" (total links) ∷ [])
+    let links = network (nodeDifference difference (rowOf (job .rows))) (job .n) in
+    map (primLine (job .n) (job .names)) links ++ (totalLine "p" (networkLength links) ∷ [])
 
 -- the Wagner tree: its `W` lines, and `w`
 unfoldable pub wagnerBlock : Job → Built → List (List ℕ)

@@ -7,3 +7,4 @@ pub mod Numbers
 pub mod Least
 pub mod Over
 pub mod Stripes
+pub mod Filled

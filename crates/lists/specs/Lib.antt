@@ -5,3 +5,4 @@ pub mod Sums
 pub mod Numbers
 pub mod Least
 pub mod Over
+pub mod Filled

@@ -1,3 +1,4 @@
 -- Laws about the definitions of this crate.
 pub mod Passing
 pub mod Row
+pub mod Examples

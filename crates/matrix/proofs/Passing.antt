@@ -11,7 +11,8 @@ use lib.IntN.{ℤ}
 use lib.ListN.{length, getD}
 use Rattle.lists.specs.Numbers.{numbers}
 use Rattle.matrix.specs.Shape.{matrixSize, row}
-use Rattle.matrix.specs.Questions.{ask, andThen, oneTo, withinLimits, allInRange, rowsInRange, askMatrix, LentMatrix, nodesExist}
+use Rattle.matrix.specs.Outcomes.{ask, andThen}
+use Rattle.matrix.specs.Questions.{oneTo, withinLimits, allInRange, rowsInRange, askMatrix, LentMatrix, nodesExist}
 use Rattle.matrix.specs.Questions.{htusInRange, askNodes}
 use Rattle.matrix.specs.declared.refusal.Refusal.{Refusal}
 use Rattle.matrix.specs.declared.refusal.Refusal.the-variants.{BeyondLimits, CodeRange, ListSize, NotThere}

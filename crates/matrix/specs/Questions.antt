@@ -1,6 +1,6 @@
 -- The questions put to a lent matrix, in document 01's order: a "no" ends them with its refusal.
 use mathlib.Core.List.{List}
-use mathlib.Core.Bool.{Bool, true, false, _&&_, _||_}
+use mathlib.Core.Bool.{Bool, true, _&&_, _||_}
 use mathlib.Core.Path.{_≡_}
 use Prim.Native.Nat.{ℕ, _≤_}
 use lib.Dec.{leb, eqb}
@@ -8,21 +8,11 @@ use lib.IntN.{ℤ}
 use lib.ListN.{length}
 use Rattle.lists.specs.Numbers.{numbers}
 use Rattle.lists.specs.Tests.{every}
+use Rattle.matrix.specs.Outcomes.{ask, andThen}
 use Rattle.matrix.specs.Shape.{matrixSize, row, inRange, lastNode}
-use Rattle.matrix.specs.declared.refusal.Refusal.{Refusal}
 use Rattle.matrix.specs.declared.refusal.Refusal.the-variants.{BeyondLimits, CodeRange, ListSize, NotThere}
 use Rattle.matrix.specs.declared.refusal.Asked.{Asked}
-use Rattle.matrix.specs.declared.refusal.Asked.the-variants.{Passed, Refused}
-
--- one question, and those that follow if its answer is "yes"
-abbrev pub ask : Bool → Refusal → Asked → Asked
-ask true refusal rest = rest
-ask false refusal rest = Refused refusal
-
--- the questions that follow if all earlier ones passed
-abbrev pub andThen : Asked → Asked → Asked
-andThen Passed rest = rest
-andThen (Refused refusal) rest = Refused refusal
+use Rattle.matrix.specs.declared.refusal.Asked.the-variants.{Passed}
 
 -- an item, counted from 1, is one of `last`
 unfoldable pub oneTo : ℕ → ℕ → Bool

@@ -6,7 +6,8 @@ use Prim.Native.Nat.{ℕ, _≤_}
 use borrow.Author.Tests.{leb-true}
 use lib.Dec.{leb}
 use lib.ListN.{length, length-map, getD, take}
-use Rattle.matrix.specs.Questions.{ask, withinLimits}
+use Rattle.matrix.specs.Outcomes.{ask}
+use Rattle.matrix.specs.Questions.{withinLimits}
 use Rattle.matrix.specs.declared.refusal.Refusal.the-variants.{FileTooLong, FirstLine, BeyondLimits}
 use Rattle.matrix.specs.declared.refusal.Asked.the-variants.{Passed}
 use Rattle.lists.specs.Tests.{sameNumbers as sameText}

@@ -8,7 +8,8 @@ use borrow.Author.Tests.{le-leb, lt-leb, not-true, not-false}
 use lib.ListN.{length, getD, drop}
 use Rattle.matrix.specs.declared.refusal.Refusal.the-variants.{FileTooLong, FileEmpty, FirstLine, BeyondLimits}
 use Rattle.matrix.specs.declared.refusal.Asked.{Asked}
-use Rattle.matrix.specs.Questions.{ask, withinLimits}
+use Rattle.matrix.specs.Outcomes.{ask}
+use Rattle.matrix.specs.Questions.{withinLimits}
 use Rattle.matrix_file.specs.declared.answer.Read.{Read}
 use Rattle.matrix_file.specs.declared.answer.Read.the-variants.{Refused}
 use Rattle.matrix_file.specs.Bytes.{lineFeed, partsAt, partLength, firstPart, behindPart}

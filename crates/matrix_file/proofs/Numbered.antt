@@ -8,7 +8,8 @@ use lib.Dec.{leb, eqb}
 use lib.ListN.{length, drop}
 use Rattle.matrix.specs.Refusals.{refusalNumber}
 use Rattle.matrix.specs.Shape.{inRange}
-use Rattle.matrix.specs.Questions.{ask, withinLimits}
+use Rattle.matrix.specs.Outcomes.{ask}
+use Rattle.matrix.specs.Questions.{withinLimits}
 use Rattle.matrix.specs.declared.refusal.Refusal.the-variants.{FileTooLong, FileEmpty, FirstLine, BeyondLimits, NameForm, NameTaken}
 use Rattle.matrix.specs.declared.refusal.Refusal.the-variants.{LineMissing, FieldCount, CodeForm, CodeRange, FileGoesOn}
 use Rattle.matrix.specs.declared.refusal.Refusal.{Refusal}

@@ -12,7 +12,7 @@ use lib.Seq.{drop-cons, getD-set-same, getD-set-other}
 use Rattle.matrix.specs.declared.refusal.Refusal.{Refusal}
 use Rattle.matrix.specs.declared.refusal.Refusal.the-variants.{LineMissing, FieldCount, FileGoesOn}
 use Rattle.matrix.specs.declared.refusal.Asked.{Asked}
-use Rattle.matrix.specs.Questions.{ask}
+use Rattle.matrix.specs.Outcomes.{ask}
 use Rattle.matrix_file.specs.declared.answer.Read.the-variants.{Accepted, Refused}
 use Rattle.matrix_file.specs.Bytes.{tab, lineFeed, beforeFirst, partsAt, partLength, firstPart}
 use Rattle.matrix_file.specs.Reading.{rowLine, linesOf, fieldsOf, nameIn, askRow, askRows, nothingMore, onLine, filePassed}

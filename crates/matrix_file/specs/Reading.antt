@@ -6,7 +6,8 @@ use lib.Dec.{leb, eqb}
 use lib.IntN.{ℤ}
 use lib.ListN.{length, getD, take, drop}
 use Rattle.matrix.specs.Shape.{inRange}
-use Rattle.matrix.specs.Questions.{ask, withinLimits}
+use Rattle.matrix.specs.Outcomes.{ask}
+use Rattle.matrix.specs.Questions.{withinLimits}
 use Rattle.matrix.specs.declared.refusal.Refusal.{Refusal}
 use Rattle.matrix.specs.declared.refusal.Refusal.the-variants.{FileTooLong, FileEmpty, FirstLine, BeyondLimits, LineMissing, NameForm}
 use Rattle.matrix.specs.declared.refusal.Refusal.the-variants.{NameTaken, FieldCount, CodeForm, CodeRange, FileGoesOn}

@@ -7,8 +7,9 @@ use lib.Dec.{eqb}
 use lib.IntN.{ℤ}
 use lib.ListN.{length}
 use Rattle.matrix.specs.Shape.{matrixSize}
-use Rattle.matrix.specs.Refusals
-use Rattle.matrix.specs.Refusals.{refusalNumber, Said, value}
+use Rattle.matrix.specs.Outcomes
+use Rattle.matrix.specs.Refusals.{refusalNumber}
+use Rattle.matrix.specs.Outcomes.{Outcome, value}
 use Rattle.matrix.specs.declared.refusal.Refusal.the-variants.{ListSize}
 use Rattle.matrix_file.specs.declared.answer.Read.{Read}
 use Rattle.matrix_file.specs.declared.answer.Read.the-variants.{Accepted, Refused}
@@ -27,9 +28,9 @@ reported (accepted job) = Accepted (job .n) (job .m)
 reported (refused refusal line) = Refused refusal line
 
 -- what a read says in document 01's terms: n and m, or the number of the refusal and the line
-abbrev pub readSays : Read → Said (ℕ × ℕ)
+abbrev pub readSays : Read → Outcome (ℕ × ℕ)
 readSays (Accepted n m) = value (n, m)
-readSays (Refused refusal line) = Refusals.refused (refusalNumber refusal) line
+readSays (Refused refusal line) = Outcomes.refused (refusalNumber refusal) line
 
 -- both lent lists have their full size
 unfoldable pub fullSize : List ℤ → List ℕ → Bool

@@ -5,7 +5,7 @@ use Prim.Native.Nat.{ℕ, zero, suc, _-_}
 use native.Mathlib.Omega.{arith}
 use Rattle.lists.specs.Least.{firstLeast}
 use Rattle.lists.proofs.Least.{firstLeast-mem, firstLeast-congr}
-use Rattle.prim.specs.Network.{Link, unplaced, nearest, distance, link, next, grow, network}
+use Rattle.prim.specs.Network.{Link, unplaced, nearestPlaced, distance, link, next, grow, network}
 use Rattle.prim.specs.Rival.{IsTaxon}
 use Rattle.prim.proofs.Unplaced.{not-unplaced, placed-taxon, added-taxon}
 use Rattle.prim.proofs.Placing.{Step, done, placing, placing-step, grow-done, grow-next}
@@ -13,17 +13,17 @@ use Rattle.prim.proofs.Placing.{Step, done, placing, placing-step, grow
 module _ (d d′ : ℕ → ℕ → ℕ) (n : ℕ) (agree : (x y : ℕ) → IsTaxon n x → IsTaxon n y → d x y ≡ d′ x y) where
   module _ (later : List ℕ) (all : (x : ℕ) → List·Memᴰ x later → IsTaxon n x) where
     -- the placed taxon nearest to v is the same
-    nearest-agrees : (v : ℕ) → IsTaxon n v → nearest d later v ≡ nearest d′ later v
-    unfolding nearest
+    nearest-agrees : (v : ℕ) → IsTaxon n v → nearestPlaced d later v ≡ nearestPlaced d′ later v
+    unfolding nearestPlaced
     nearest-agrees v t =
         firstLeast-congr (d v) (d′ v) 1 later (λ y m. agree v y t (placed-taxon n later all (omega arith) y m))
 
     -- so is the distance of v from the network
     distance-agrees : (v : ℕ) → IsTaxon n v → distance d later v ≡ distance d′ later v
-    unfolding distance nearest
+    unfolding distance nearestPlaced
     distance-agrees v t =
         rw (nearest-agrees v t)
-        (agree v (nearest d′ later v) t (placed-taxon n later all (omega arith) (nearest d′ later v) (firstLeast-mem (d′ v) 1 later)))
+        (agree v (nearestPlaced d′ later v) t (placed-taxon n later all (omega arith) (nearestPlaced d′ later v) (firstLeast-mem (d′ v) 1 later)))
 
     -- so is the next link
     next-agrees : (us : List ℕ) → ((v : ℕ) → List·Memᴰ v us → IsTaxon n v) → next d later us ≡ next d′ later us

@@ -7,23 +7,25 @@ use mathlib.Core.Logic.{_⊎_, inl, inr}
 use Prim.Native.Nat.{ℕ, _-_, _*_, _≤_}
 use native.Mathlib.Omega.{arith}
 use lib.ListN.{length}
-use Rattle.prim.specs.Network.{Link, total, network}
-use Rattle.prim.specs.Rival.{Reached, start, step, linksLength, IsTaxon, Connected, ends}
+use Rattle.lists.proofs.Sums.{sum-most}
+use Rattle.lists.specs.Sums.{sumOver}
+use Rattle.prim.specs.Network.{Link, networkLength, network}
+use Rattle.prim.specs.Rival.{Reached, start, step, linksLength, IsTaxon, Connected, linkEnds}
 use Rattle.prim.proofs.Placing.{Grown, complete, follows, network-grown, network-length, network-link}
 use Rattle.prim.proofs.Unplaced.{decideMem, Placed, not-placed, not-unplaced, placed-taxon, added-taxon}
 
 module _ {d : ℕ → ℕ → ℕ} {n : ℕ} where
   -- the sum of the differences of the links' ends is the total
-  grown-total : {later : List ℕ} {links : List Link} → Grown d n later links → linksLength d (ends links) ≡ total links
-  unfolding linksLength ends total
+  grown-total : {later : List ℕ} {links : List Link} → Grown d n later links → linksLength d (linkEnds links) ≡ networkLength links
+  unfolding linksLength linkEnds networkLength sumOver
   grown-total (complete e) = refl
   grown-total (follows {l = l} p g) = rw (p .length, grown-total g)
 
   -- each link is between two taxa, if the taxa placed before are of 1 to n
   grown-between : {later : List ℕ} {links : List Link} → Grown d n later links
       → ((x : ℕ) → List·Memᴰ x later → IsTaxon n x)
-      → (x y : ℕ) → List·Memᴰ (x, y) (ends links) → IsTaxon n x × IsTaxon n y
-  unfolding ends
+      → (x y : ℕ) → List·Memᴰ (x, y) (linkEnds links) → IsTaxon n x × IsTaxon n y
+  unfolding linkEnds
   grown-between (complete e) all x y m = absurd (List·Memᴰ·not-nil m)
   grown-between (follows {later = later} {l = l} {ls = ls} p g) all x y m =
       at (λ k. grown-between g (added-taxon n later (l .taxon) all (p .fresh)) x y k) (List·Memᴰ·cases-cons m)
@@ -34,8 +36,8 @@ module _ {d : ℕ → ℕ → ℕ} {n : ℕ} where
       joined : IsTaxon n (l .joined)
       joined = let t : IsTaxon n (l .taxon) = taxon in placed-taxon n later all (omega arith) (l .joined) (p .onto)
 
-      at : (List·Memᴰ (x, y) (ends ls) → IsTaxon n x × IsTaxon n y)
-          → _≡_ {A = ℕ × ℕ} (x, y) (l .taxon, l .joined) ⊎ List·Memᴰ (x, y) (ends ls)
+      at : (List·Memᴰ (x, y) (linkEnds ls) → IsTaxon n x × IsTaxon n y)
+          → _≡_ {A = ℕ × ℕ} (x, y) (l .taxon, l .joined) ⊎ List·Memᴰ (x, y) (linkEnds ls)
           → IsTaxon n x × IsTaxon n y
       at below (inl e) = (rw (ap (λ s. s .0) e) taxon, rw (ap (λ s. s .1) e) joined)
       at below (inr k) = below k
@@ -43,10 +45,10 @@ module _ {d : ℕ → ℕ → ℕ} {n : ℕ} where
   -- every taxon is reached over links that hold ours, if the taxa placed before are
   grown-reached : {later : List ℕ} {links : List Link} → Grown d n later links
       → (S : ℕ → Type 0) (all : List (ℕ × ℕ))
-      → ((e : ℕ × ℕ) → List·Memᴰ e (ends links) → List·Memᴰ e all)
+      → ((e : ℕ × ℕ) → List·Memᴰ e (linkEnds links) → List·Memᴰ e all)
       → ((x : ℕ) → Placed later x → Reached S all x)
       → (v : ℕ) → IsTaxon n v → Reached S all v
-  unfolding ends
+  unfolding linkEnds
   grown-reached (complete {later = later} e) S all part placed v t = at (decideMem v (1 ∷ later))
     where
       at : Dec (Placed later v) → Reached S all v
@@ -65,30 +67,21 @@ module _ {d : ℕ → ℕ → ℕ} {n : ℕ} where
               (step (placed (l .joined) (p .onto)) (inr (part (l .taxon, l .joined) (List·Memᴰ·head refl))))
 
 -- the ends of a link are among the ends
-mem-ends : (links : List Link) (l : Link) → List·Memᴰ l links → List·Memᴰ (l .taxon, l .joined) (ends links)
-unfolding ends
+mem-ends : (links : List Link) (l : Link) → List·Memᴰ l links → List·Memᴰ (l .taxon, l .joined) (linkEnds links)
+unfolding linkEnds
 mem-ends links l (List·Memᴰ·head e) = List·Memᴰ·head (ap {B = ℕ × ℕ} (λ (k : Link). (k .taxon, k .joined)) e)
 mem-ends links l (List·Memᴰ·tail {xs = ls} m) = List·Memᴰ·tail (mem-ends ls l m)
 
--- a sum of lengths is at most their number times a bound of each
-pub total-le : (bound : ℕ) (links : List Link) → ((l : Link) → List·Memᴰ l links → l .length ≤ bound) → total links ≤ length links * bound
-unfolding total
-total-le bound [] within = omega arith
-total-le bound (l ∷ ls) within =
-    let first : l .length ≤ bound = within l (List·Memᴰ·head refl) in
-    let rest : total ls ≤ length ls * bound = total-le bound ls (λ k m. within k (List·Memᴰ·tail m)) in
-    omega arith
-
 module _ (d : ℕ → ℕ → ℕ) (n : ℕ) where
   -- the Prim Network is a connected network
-  pub network-connected : Connected n (ends (network d n))
+  pub network-connected : Connected n (linkEnds (network d n))
   network-connected = record {
     between = grown-between network-grown (λ x m. absurd (List·Memᴰ·not-nil m));
-    reached = grown-reached network-grown (λ x. x ≡ 1) (ends (network d n)) (λ e m. m) (λ x m. start (List·Memᴰ·eq-of-singleton m));
+    reached = grown-reached network-grown (λ x. x ≡ 1) (linkEnds (network d n)) (λ e m. m) (λ x m. start (List·Memᴰ·eq-of-singleton m));
   }
 
   -- the sum of its links' differences is the total
-  pub network-sum : linksLength d (ends (network d n)) ≡ total (network d n)
+  pub network-sum : linksLength d (linkEnds (network d n)) ≡ networkLength (network d n)
   network-sum = grown-total network-grown
 
   -- both ends of a link are taxa
@@ -96,8 +89,9 @@ module _ (d : ℕ → ℕ → ℕ) (n : ℕ) where
   network-between l m = network-connected .between (l .taxon) (l .joined) (mem-ends (network d n) l m)
 
   -- the total is at most n-1 times a bound of the differences of taxa
-  pub network-total-le : (bound : ℕ) → ((x y : ℕ) → IsTaxon n x → IsTaxon n y → d x y ≤ bound) → total (network d n) ≤ (n - 1) * bound
-  network-total-le bound within = rw (network-length d n) at (total-le bound (network d n) each)
+  pub network-total-le : (bound : ℕ) → ((x y : ℕ) → IsTaxon n x → IsTaxon n y → d x y ≤ bound) → networkLength (network d n) ≤ (n - 1) * bound
+  unfolding networkLength
+  network-total-le bound within = rw (network-length d n) at (sum-most (λ (l : Link). l .length) bound (network d n) each)
     where
       each : (l : Link) → List·Memᴰ l (network d n) → l .length ≤ bound
       each l m = let t = network-between l m in rw (network-link d n l m) (within (l .taxon) (l .joined) (t .0) (t .1))

@@ -4,13 +4,16 @@ use mathlib.Core.List.{List, [], _∷_, _++_}
 use Prim.Native.Nat.{ℕ, _-_}
 use lib.IntN.{ℤ, pos, negsuc}
 use lib.ListN.{length, replicate}
+use Rattle.matrix.specs.Shape.{row}
+use Rattle.difference.specs.Rows.{nodeDifference, difference}
 use Rattle.difference.specs.Rows
 use Rattle.lists.specs.Filters
 use Rattle.lists.specs.Least
 use Rattle.lists.specs.Numbers
 use Rattle.lists.specs.Tests
+use Rattle.lists.specs.Sums
 use Rattle.matrix.specs.Shape
-use Rattle.prim.specs.Network.{Link, network, total, taxonDifference}
+use Rattle.prim.specs.Network.{Link, network, networkLength}
 use Rattle.prim.specs.Network
 
 -- a lent matrix's codes, from its rows
@@ -20,7 +23,7 @@ lent (r ∷ rs) = r ++ replicate (128 - length r) (pos 0) ++ lent rs
 
 -- the Prim Network of n rows of m codes
 abbrev of : ℕ → ℕ → List (List ℤ) → List Link
-of n m rows = network (taxonDifference (lent rows) m) n
+of n m rows = network (nodeDifference difference (row (lent rows) m)) n
 
 -- taxon v joins taxon x at a difference
 abbrev joins : ℕ → ℕ → ℕ → Link
@@ -45,7 +48,7 @@ twos = (pos 0 ∷ pos 0 ∷ []) ∷ (pos 4 ∷ pos 0 ∷ []) ∷ (pos 2 ∷ pos 
 pub record Examples : Type 0 where
   -- document 01: B joins A at 3, C joins B at 3, D joins A at 4; the total is 10
   pub document : of 4 3 example ≡ joins 2 1 3 ∷ joins 3 2 3 ∷ joins 4 1 4 ∷ []
-  pub sum : total (of 4 3 example) ≡ 10
+  pub sum : networkLength (of 4 3 example) ≡ 10
   -- one taxon has no link, two have one
   pub one : of 1 3 example ≡ []
   pub two : of 2 3 example ≡ joins 2 1 3 ∷ []
@@ -55,7 +58,7 @@ pub record Examples : Type 0 where
   pub earliest : of 4 2 twos ≡ joins 3 1 2 ∷ joins 2 3 2 ∷ joins 4 3 6 ∷ []
 
 pub examples : Examples
-unfolding Network.network Network.grow Network.next Network.link Network.distance Network.nearest Network.unplaced
-    Filters.without Filters.keep Tests.among Network.taxa Network.total Network.taxonDifference
+unfolding Network.network Network.grow Network.next Network.link Network.distance Network.nearestPlaced Network.unplaced
+    Filters.without Filters.keep Tests.among Network.taxa Network.networkLength Rows.nodeDifference Sums.sumOver
     Least.firstLeast Numbers.numbers Shape.row Rows.difference Rows.apart
 examples = record { document = refl; sum = refl; one = refl; two = refl; lowest = refl; earliest = refl }

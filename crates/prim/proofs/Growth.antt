@@ -6,15 +6,16 @@ use Prim.Native.Nat.{ℕ, suc, _+_, _-_, _*_, _^_, _≤_, _<_}
 use native.Mathlib.Omega.{arith}
 use lib.ListN.{length}
 use lib.Seq.{append-snoc}
-use Rattle.prim.specs.Network.{Link, taxa, total, unplaced, nearest, distance, link, next, grow, network}
-use Rattle.prim.specs.Answers.{Holds, WithLink}
-use Rattle.prim.specs.Growing.{keptAt, keptOf, Keeps, placing, NextTaxon, Places}
+use Rattle.lists.specs.Sums.{sumOver}
+use Rattle.prim.specs.Network.{Link, taxa, networkLength, unplaced, distance, link, next, grow, network}
+use Rattle.prim.specs.Answers.{Holds}
+use Rattle.prim.specs.Growing.{WithLink, keptAt, keptOf, Keeps, placing, NextTaxon, Places}
 use Rattle.prim.specs.declared.answer.Network.{Network}
 use Rattle.prim.specs.declared.network.Kept.{Kept}
 use Rattle.prim.proofs.Unplaced.{mem-unplaced, length-unplaced, length-unplaced-next}
 use Rattle.prim.proofs.Placing.{distance-least, grow-next}
 use Rattle.prim.proofs.Choosing.{next-none, next-mem, placing-taxon}
-use Rattle.prim.proofs.Holding.{total-snoc, taxa-snoc, length-snoc}
+use Rattle.prim.proofs.Holding.{networkLength-snoc, taxa-snoc, length-snoc}
 
 -- a network that has grown to `placed` taxa: the links that it holds are the first ones of the Prim Network, what is kept fits them,
 -- and their total is bounded by their number
@@ -26,11 +27,11 @@ pub record GrownTo (d : ℕ → ℕ → ℕ) (n : ℕ) (kept : List Kept) (r : N
   pub within : placed ≤ n
   pub rest : network d n ≡ links ++ grow d n (n - placed) (taxa links)
   pub left : length (unplaced n (taxa links)) ≡ n - placed
-  pub sum : total links ≤ length links * 255744
+  pub sum : networkLength links ≤ length links * 255744
 
 -- row 1 alone
 pub grown-start : (d : ℕ → ℕ → ℕ) (n : ℕ) (kept : List Kept) (r : Network) → 1 ≤ n → Keeps d n [] kept → Holds [] r → GrownTo d n kept r 1
-unfolding network taxa total
+unfolding network taxa networkLength sumOver
 grown-start d n kept r some keeps holds = record {
   links = [];
   holds = holds;
@@ -74,9 +75,9 @@ module _ (d : ℕ → ℕ → ℕ) (n : ℕ) (few : n ≤ 64) (near : (v : ℕ) 
       links-length = length-snoc (g .links) (link d later v)
 
       -- their total is larger by the distance of v
-      links-total : total links ≡ total (g .links) + distance d later v
+      links-total : networkLength links ≡ networkLength (g .links) + distance d later v
       unfolding links link
-      links-total = total-snoc (g .links) (link d later v)
+      links-total = networkLength-snoc (g .links) (link d later v)
 
       -- there is a next taxon
       some : v ≢ 0
@@ -114,7 +115,7 @@ module _ (d : ℕ → ℕ → ℕ) (n : ℕ) (few : n ≤ 64) (near : (v : ℕ) 
       unfolding later
       grown-room =
           let count : r .count ≡ length (g .links) = g .holds .count in
-          let total : r .total ≡ total (g .links) = g .holds .total in
+          let total : r .total ≡ networkLength (g .links) = g .holds .total in
           let sum = g .sum in
           let size = g .count in
           let far : keptAt kept v .distance ≡ distance d later v = ap (λ (k : Kept). k .distance) kept-link in

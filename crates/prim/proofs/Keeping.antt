@@ -11,7 +11,7 @@ use lib.ListN.{length, set}
 use lib.Seq.{getD-set-same, getD-set-other}
 use Rattle.lists.specs.Least.{firstLeast}
 use Rattle.lists.proofs.Least.{firstLeast-snoc-less, firstLeast-snoc-stays}
-use Rattle.prim.specs.Network.{unplaced, nearest, distance}
+use Rattle.prim.specs.Network.{unplaced, nearestPlaced, distance}
 use Rattle.prim.specs.Growing.{keptAt, keptOf, Keeps, Compared, Places}
 use Rattle.prim.specs.declared.network.Kept.{Kept}
 use Rattle.prim.proofs.Unplaced.{mem-unplaced}
@@ -20,12 +20,12 @@ module _ (d : ℕ → ℕ → ℕ) (later : List ℕ) where
   -- an unplaced taxon's link moves to v, placed last, if v is nearer
   pub kept-moves : (u v : ℕ) → d u v < distance d later u
       → _≡_ {A = Kept} (record { placed = false; nearest = v; distance = d u v }) (keptOf d (later ++ (v ∷ [])) u)
-  unfolding distance nearest
+  unfolding distance nearestPlaced
   kept-moves u v h = rw (firstLeast-snoc-less (d u) 1 later v h)
 
   -- otherwise it stays
   pub kept-stays : (u v : ℕ) → distance d later u ≤ d u v → keptOf d later u ≡ keptOf d (later ++ (v ∷ [])) u
-  unfolding distance nearest
+  unfolding distance nearestPlaced
   kept-stays u v h = rw (firstLeast-snoc-stays (d u) 1 later v h)
 
 -- what is stored for taxon v is kept of it
@@ -61,7 +61,7 @@ passed-next P old new v k low within holds p = record {
 
 -- before the first taxon is placed, each one is nearest to row 1
 pub start-kept : (d : ℕ → ℕ → ℕ) (v : ℕ) → _≡_ {A = Kept} (record { placed = false; nearest = 1; distance = d v 1 }) (keptOf d [] v)
-unfolding nearest distance firstLeast
+unfolding nearestPlaced distance firstLeast
 start-kept d v = refl
 
 -- so what is kept then is what is to be kept

@@ -5,6 +5,7 @@ use mathlib.Core.List.{List, [], _∷_, List·Memᴰ, List·Memᴰ·head, List·
 use mathlib.Core.Logic.{_⊎_, inl, inr, ⊎-map}
 use Prim.Native.Nat.{ℕ, _+_}
 use native.Mathlib.Omega.{arith}
+use Rattle.lists.specs.Sums.{sumOver}
 use Rattle.prim.specs.Rival.{Joins, Reached, start, step, linksLength}
 
 module _ {A : Type 0} where
@@ -43,7 +44,7 @@ module _ {A : Type 0} where
   -- a link taken out makes the sum less by its difference
   pub linksLength-removed : (d : A → A → ℕ) {x y : A} {links : List (A × A)} (m : List·Memᴰ (x, y) links)
       → linksLength d links ≡ d x y + linksLength d (removed m)
-  unfolding linksLength
+  unfolding linksLength sumOver
   linksLength-removed d {x} {y} (List·Memᴰ·head {x = l} {xs = ls} e) =
       ap (λ (p : A × A). d (p .0) (p .1) + linksLength d ls) (sym e)
   linksLength-removed d {x} {y} (List·Memᴰ·tail {x = l} m) =

@@ -11,7 +11,7 @@ use lib.ListN.{length}
 use lib.Seq.{append-snoc}
 use Rattle.lists.specs.Least.{firstLeast}
 use Rattle.lists.proofs.Least.{firstLeast-mem, firstLeast-least, firstLeast-snoc-less, firstLeast-snoc-stays}
-use Rattle.prim.specs.Network.{Link, taxa, unplaced, nearest, distance, link, next, grow, network}
+use Rattle.prim.specs.Network.{Link, taxa, unplaced, nearestPlaced, distance, link, next, grow, network}
 use Rattle.prim.proofs.Unplaced.{decideMem, mem-unplaced, length-unplaced, length-unplaced-next}
 
 -- what is true of a link when it is made: it is the next one, places an unplaced taxon, joins it to a placed one, has their
@@ -31,12 +31,12 @@ pub data Step (d : ℕ → ℕ → ℕ) (n : ℕ) (later : List ℕ) : Type 0 wh
 module _ (d : ℕ → ℕ → ℕ) where
   -- no placed taxon is nearer to v than its distance from the network
   pub distance-least : (later : List ℕ) (v x : ℕ) → List·Memᴰ x (1 ∷ later) → distance d later v ≤ d v x
-  unfolding distance nearest
+  unfolding distance nearestPlaced
   distance-least later v x m = firstLeast-least (d v) 1 later x m
 
   -- each step is one of the two
   pub placing-step : (n : ℕ) (later : List ℕ) → Step d n later
-  unfolding next link distance nearest
+  unfolding next link distance nearestPlaced
   placing-step n later = at (unplaced n later) refl
     where
       at : (us : List ℕ) → unplaced n later ≡ us → Step d n later

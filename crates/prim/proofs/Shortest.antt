@@ -5,7 +5,8 @@ use mathlib.Core.List.{Memᴰ·append-left, Memᴰ·append-right}
 use mathlib.Core.Logic.{inl, inr}
 use Prim.Native.Nat.{ℕ, zero, suc, _-_, _≤_}
 use native.Mathlib.Omega.{arith}
-use Rattle.prim.specs.Network.{total, grow, network}
+use Rattle.lists.specs.Sums.{sumOver}
+use Rattle.prim.specs.Network.{networkLength, grow, network}
 use Rattle.prim.specs.Rival.{Joins, Reached, linksLength, IsTaxon, Connected, Shortest}
 use Rattle.prim.proofs.Links.{Enlarged, Leaving, Spared, exchange, Reached-mono, others, of-others, linksLength-others}
 use Rattle.prim.proofs.Placing.{Step, done, placing, placing-step, grow-done, grow-next}
@@ -42,14 +43,14 @@ module _ (d : ℕ → ℕ → ℕ) (symmetric : (x y : ℕ) → d x y ≡ d y x)
   -- the links that still place taxa are at most as long as any links over which every taxon is reached from the placed ones
   rest-least : (count : ℕ) (later : List ℕ) (links : List (ℕ × ℕ))
       → Joined n later links
-      → total (grow d n count later) ≤ linksLength d links
-  unfolding grow total
+      → networkLength (grow d n count later) ≤ linksLength d links
+  unfolding grow networkLength sumOver
   rest-least zero later links j = omega arith
   rest-least (suc count) later links j = at (λ new kept h. rest-least count new kept h) (placing-step d n later)
     where
-      at : ((new : List ℕ) (kept : List (ℕ × ℕ)) → Joined n new kept → total (grow d n count new) ≤ linksLength d kept)
+      at : ((new : List ℕ) (kept : List (ℕ × ℕ)) → Joined n new kept → networkLength (grow d n count new) ≤ linksLength d kept)
           → Step d n later
-          → total (grow d n (suc count) later) ≤ linksLength d links
+          → networkLength (grow d n (suc count) later) ≤ linksLength d links
       at below (done e) = rw (grow-done d n (suc count) later e) (omega arith)
       at below (placing l p) =
           let v = l .taxon in
@@ -64,7 +65,7 @@ module _ (d : ℕ → ℕ → ℕ) (symmetric : (x y : ℕ) → d x y ≡ d y x)
           rw (grow-next d n count later l (p .isNext)) (omega arith)
 
   -- no connected network is shorter
-  pub network-least : (links : List (ℕ × ℕ)) → Connected n links → total (network d n) ≤ linksLength d links
+  pub network-least : (links : List (ℕ × ℕ)) → Connected n links → networkLength (network d n) ≤ linksLength d links
   unfolding network
   network-least links c =
       rest-least (n - 1) [] links

@@ -6,9 +6,11 @@ use mathlib.Core.Bool.{true, false}
 use mathlib.Core.List.{List, [], _∷_, _++_, List·Memᴰ}
 use Prim.Native.Nat.{ℕ, zero, suc, _+_, _-_, _≤_, max}
 use lib.ListN.{length, getD}
+use Rattle.prim.specs.Answers.{Holds}
 use Rattle.lists.specs.Numbers.{numbers}
-use Rattle.prim.specs.Network.{Link, unplaced, nearest, distance, link, next}
+use Rattle.prim.specs.Network.{Link, unplaced, nearestPlaced, distance, link, next}
 use Rattle.lists.specs.Filters.{without}
+use Rattle.prim.specs.declared.answer.Network.{Network}
 use Rattle.prim.specs.declared.network.Kept.{Kept}
 
 -- what is kept of the taxa by number: taxon v's stands at place v
@@ -22,7 +24,7 @@ unplacedBelow v later = without later (numbers 2 (v - 2))
 module _ (d : ℕ → ℕ → ℕ) where
   -- what is kept of an unplaced taxon v: the placed taxon nearest to it, and how far that is
   abbrev pub keptOf : List ℕ → ℕ → Kept
-  keptOf later v = record { placed = false; nearest = nearest d later v; distance = distance d later v }
+  keptOf later v = record { placed = false; nearest = nearestPlaced d later v; distance = distance d later v }
 
   -- of n taxa, what is kept when those of `later` are placed
   pub record Keeps (n : ℕ) (later : List ℕ) (taxa : List Kept) : Type 0 where
@@ -59,3 +61,7 @@ pub record Compared (d : ℕ → ℕ → ℕ) (u v : ℕ) (kept r : Kept) : Type
 -- r is what is kept of n taxa when v, which was unplaced, has been placed besides
 pub record Places (d : ℕ → ℕ → ℕ) (n : ℕ) (taxa : List Kept) (v : ℕ) (r : List Kept) : Type 0 where
   pub keeps : (later : List ℕ) → Keeps d n later taxa → List·Memᴰ v (unplaced n later) → Keeps d n (later ++ (v ∷ [])) r
+
+-- r is a network handed back, with one more link: v joins x at a length
+pub record WithLink (before : Network) (v x length : ℕ) (r : Network) : Type 0 where
+  pub holds : (links : List Link) → Holds links before → Holds (links ++ (record { taxon = v; joined = x; length = length } ∷ [])) r

@@ -1,13 +1,11 @@
 -- The Prim Network (document 01, "The Prim Network"), over any difference d of two taxa. Taxa are the numbers 1 to n.
 -- Row 1 is placed first. `later` is the list of the taxa placed after it, in order of placing.
-use mathlib.Core.List.{List, [], _∷_, _++_}
+use mathlib.Core.List.{List, [], _∷_, _++_, map}
 use Prim.Native.Nat.{ℕ, zero, suc, _+_, _-_}
-use lib.IntN.{ℤ}
+use Rattle.lists.specs.Sums.{sumOver}
 use Rattle.lists.specs.Least.{firstLeast}
 use Rattle.lists.specs.Numbers.{numbers}
 use Rattle.lists.specs.Filters.{without}
-use Rattle.matrix.specs.Shape.{row}
-use Rattle.difference.specs.Rows.{difference}
 use Rattle.prim.specs.declared.answer.Link.{Link as HandedBack}
 
 -- a link, as it is handed back: the taxon that it places, the placed taxon that this one joins, and their difference
@@ -16,13 +14,11 @@ Link = HandedBack
 
 -- the taxa that links place, in order
 unfoldable pub taxa : List Link → List ℕ
-taxa [] = []
-taxa (l ∷ ls) = l .taxon ∷ taxa ls
+taxa links = map (λ (l : Link). l .taxon) links
 
 -- the sum of the links' lengths
-unfoldable pub total : List Link → ℕ
-total [] = 0
-total (l ∷ ls) = l .length + total ls
+unfoldable pub networkLength : List Link → ℕ
+networkLength links = sumOver (λ (l : Link). l .length) links
 
 -- the unplaced taxa of n, by rising row
 unfoldable pub unplaced : ℕ → List ℕ → List ℕ
@@ -30,16 +26,16 @@ unplaced n later = without later (numbers 2 (n - 1))
 
 module _ (d : ℕ → ℕ → ℕ) where
   -- the placed taxon nearest to v, the earliest placed among equals
-  unfoldable pub nearest : List ℕ → ℕ → ℕ
-  nearest later v = firstLeast (d v) 1 later
+  unfoldable pub nearestPlaced : List ℕ → ℕ → ℕ
+  nearestPlaced later v = firstLeast (d v) 1 later
 
   -- how far v is from the network
   unfoldable pub distance : List ℕ → ℕ → ℕ
-  distance later v = d v (nearest later v)
+  distance later v = d v (nearestPlaced later v)
 
   -- the link that places v
   unfoldable pub link : List ℕ → ℕ → Link
-  link later v = record { taxon = v; joined = nearest later v; length = distance later v }
+  link later v = record { taxon = v; joined = nearestPlaced later v; length = distance later v }
 
   -- the next link, if a taxon is left: it places the one nearest to the network, the lowest row among equals
   unfoldable pub next : List ℕ → List ℕ → List Link
@@ -56,7 +52,3 @@ module _ (d : ℕ → ℕ → ℕ) where
   -- the Prim Network of n taxa
   unfoldable pub network : ℕ → List Link
   network n = grow n (n - 1) []
-
--- the difference of two taxa of a matrix with m characters: that of their rows
-unfoldable pub taxonDifference : List ℤ → ℕ → ℕ → ℕ → ℕ
-taxonDifference codes m x y = difference (row codes m x) (row codes m y)

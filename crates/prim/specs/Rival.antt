@@ -1,10 +1,11 @@
 -- What the Prim Network is compared with (document 01, "The three rivals"): any list of links between taxa over which
 -- every taxon can be reached from row 1. Rings, repeats and a taxon linked to itself are allowed.
 use mathlib.Core.Path.{_≡_}
-use mathlib.Core.List.{List, [], _∷_, List·Memᴰ}
+use mathlib.Core.List.{List, List·Memᴰ, map}
 use mathlib.Core.Logic.{_⊎_}
-use Prim.Native.Nat.{ℕ, _+_, _≤_}
-use Rattle.prim.specs.Network.{Link, network, total}
+use Prim.Native.Nat.{ℕ, _≤_}
+use Rattle.lists.specs.Sums.{sumOver}
+use Rattle.prim.specs.Network.{Link, network, networkLength}
 
 -- links between nodes of any kind A: each is the pair of its ends
 module _ {A : Type 0} where
@@ -19,8 +20,7 @@ module _ {A : Type 0} where
 
   -- the sum of the differences of the links' ends
   unfoldable pub linksLength : (A → A → ℕ) → List (A × A) → ℕ
-  linksLength d [] = 0
-  linksLength d (l ∷ ls) = d (l .0) (l .1) + linksLength d ls
+  linksLength d links = sumOver (λ (l : A × A). d (l .0) (l .1)) links
 
 -- v is one of the taxa 1 to n
 abbrev pub IsTaxon : ℕ → ℕ → Type 0
@@ -32,12 +32,11 @@ pub record Connected (n : ℕ) (links : List (ℕ × ℕ)) : Type 0 where
   pub reached : (v : ℕ) → IsTaxon n v → Reached (λ x. x ≡ 1) links v
 
 -- the ends of the Prim Network's links
-unfoldable pub ends : List Link → List (ℕ × ℕ)
-ends [] = []
-ends (l ∷ ls) = (l .taxon, l .joined) ∷ ends ls
+unfoldable pub linkEnds : List Link → List (ℕ × ℕ)
+linkEnds links = map (λ (l : Link). (l .taxon, l .joined)) links
 
 -- the claim about the Prim Network and its rivals: ours is a connected network, its length is the total, and no other is shorter
 pub record Shortest (d : ℕ → ℕ → ℕ) (n : ℕ) : Type 0 where
-  pub ours : Connected n (ends (network d n))
-  pub length : linksLength d (ends (network d n)) ≡ total (network d n)
-  pub least : (links : List (ℕ × ℕ)) → Connected n links → total (network d n) ≤ linksLength d links
+  pub ours : Connected n (linkEnds (network d n))
+  pub length : linksLength d (linkEnds (network d n)) ≡ networkLength (network d n)
+  pub least : (links : List (ℕ × ℕ)) → Connected n links → networkLength (network d n) ≤ linksLength d links

@@ -11,10 +11,12 @@ ghost use mathlib.Core.Path.{_≡_};
 ghost use mathlib.Core.List.{[]};
 ghost use Prim.Native.Nat.{_+_, _≤_, _<_, _^_};
 ghost use lib.ListN.{length};
+ghost use Rattle.matrix.specs.Shape.{row};
+ghost use Rattle.difference.specs.Rows.{nodeDifference, difference};
 ghost use Rattle.matrix.specs.Questions.{LentMatrix};
-ghost use Rattle.prim.specs.Network.{network, taxonDifference};
-ghost use Rattle.prim.specs.Answers.{Holds, WithLink, NetworkAnswer};
-ghost use Rattle.prim.specs.Growing.{Keeps, Nearer, NextTaxon, Compared, Places};
+ghost use Rattle.prim.specs.Network.{network};
+ghost use Rattle.prim.specs.Answers.{Holds, NetworkAnswer};
+ghost use Rattle.prim.specs.Growing.{WithLink, Keeps, Nearer, NextTaxon, Compared, Places};
 
 // What is kept of a taxon: whether it is placed; while it is not, the placed taxon nearest to it and how far that is.
 struct Kept {
@@ -26,7 +28,7 @@ struct Kept {
 // The difference of taxa x and y.
 fn between(matrix: &[i32], m: usize, x: usize, y: usize) -> u64
     requires { ⌜ m ≤ 128 ⌝ }
-    ensures { λ r. ⌜ r ≡ taxonDifference (now (matrix .entry)) m x y ⌝ }
+    ensures { λ r. ⌜ r ≡ nodeDifference difference (row (now (matrix .entry)) m) x y ⌝ }
 {
     difference(row(matrix, m, x), row(matrix, m, y))
 }
@@ -34,7 +36,7 @@ fn between(matrix: &[i32], m: usize, x: usize, y: usize) -> u64
 // Before the first taxon is placed, each is nearest to row 1.
 fn start(matrix: &[i32], n: usize, m: usize) -> [Kept; 65]
     requires { ⌜ (n ≤ 64) × (m ≤ 128) ⌝ }
-    ensures { λ r. ⌜ Keeps (taxonDifference (now (matrix .entry)) m) n [] r ⌝ }
+    ensures { λ r. ⌜ Keeps (nodeDifference difference (row (now (matrix .entry)) m)) n [] r ⌝ }
 {
     let none = Kept {
         placed: false,
@@ -88,7 +90,7 @@ fn next_taxon(taxa: [Kept; 65], n: usize) -> usize
 // What is kept of taxon u when taxon v has been placed: an unplaced taxon is compared with it, and its link moves only if v is nearer.
 fn compared(kept: Kept, matrix: &[i32], m: usize, u: usize, v: usize) -> Kept
     requires { ⌜ m ≤ 128 ⌝ }
-    ensures { λ r. ⌜ Compared (taxonDifference (now (matrix .entry)) m) u v kept r ⌝ }
+    ensures { λ r. ⌜ Compared (nodeDifference difference (row (now (matrix .entry)) m)) u v kept r ⌝ }
 {
     if kept.placed {
         return kept;
@@ -107,7 +109,7 @@ fn compared(kept: Kept, matrix: &[i32], m: usize, u: usize, v: usize) -> Kept
 // Places taxon v, and compares each taxon that is still unplaced with it.
 fn place(mut taxa: [Kept; 65], matrix: &[i32], n: usize, m: usize, v: usize) -> [Kept; 65]
     requires { ⌜ (length taxa ≡ 65) × (n ≤ 64) × (m ≤ 128) × (v ≤ 64) ⌝ }
-    ensures { λ r. ⌜ Places (taxonDifference (now (matrix .entry)) m) n taxa v r ⌝ }
+    ensures { λ r. ⌜ Places (nodeDifference difference (row (now (matrix .entry)) m)) n taxa v r ⌝ }
 {
     taxa[v] = Kept {
         placed: true,
@@ -158,7 +160,7 @@ fn with_link(mut network: Network, v: usize, x: usize, length: u64) -> Network
 // The Prim Network of a matrix that no question refuses.
 fn grow(matrix: &[i32], n: usize, m: usize) -> Network
     requires { ⌜ LentMatrix (now matrix) n m ⌝ }
-    ensures { λ r. ⌜ Holds (network (taxonDifference (now (matrix .entry)) m) n) r ⌝ }
+    ensures { λ r. ⌜ Holds (network (nodeDifference difference (row (now (matrix .entry)) m)) n) r ⌝ }
 {
     let mut taxa = start(matrix, n, m);
     let mut network = no_links();

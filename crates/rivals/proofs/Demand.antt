@@ -8,7 +8,7 @@ use Rattle.matrix.specs.NodeRows.{rowOf}
 use Rattle.matrix.specs.Questions.{withinLimits, oneTo}
 use Rattle.lists.proofs.Both.{and-left, and-right}
 use Rattle.matrix.proofs.Passing.{oneTo-true}
-use Rattle.difference.specs.Rows.{difference}
+use Rattle.difference.specs.Rows.{difference, nodeDifference}
 use Rattle.difference.proofs.Laws.Rows.{difference-sym}
 use Rattle.prim.specs.Rival.{Shortest}
 use Rattle.prim.proofs.Shortest.{shortest}
@@ -17,7 +17,6 @@ use Rattle.branching.specs.Branches.{namedInOrder, lentBranching, ancestorsOf}
 use Rattle.wagner.specs.Build.{wagner}
 use Rattle.wagner.proofs.Build.{wagner-branching}
 use Rattle.branching.proofs.Test.{branching-iff}
-use Rattle.wagner.specs.Nodes.{nodeDifference}
 use Rattle.fitting.specs.Rival.{FitIsLeast}
 use Rattle.fitting.proofs.Laws.ThirdRival.{third-rival}
 use Rattle.rivals.specs.Accepted.{Accepted}
@@ -31,9 +30,9 @@ unfolding withinLimits
 taxa-limits n m e = oneTo-true 64 n (and-left (oneTo 64 n) (oneTo 128 m) e)
 
 -- the network
-network-shortest : (rows : List (List ℤ)) (n : ℕ) → Shortest (nodeDifference difference rows) n
+network-shortest : (rows : List (List ℤ)) (n : ℕ) → Shortest (nodeDifference difference (rowOf rows)) n
 unfolding nodeDifference
-network-shortest rows n = shortest (nodeDifference difference rows) (λ x y. difference-sym (rowOf rows x) (rowOf rows y)) n
+network-shortest rows n = shortest (nodeDifference difference (rowOf rows)) (λ x y. difference-sym (rowOf rows x) (rowOf rows y)) n
 
 -- the fit
 fit-least : (n m : ℕ) (tree : List ℕ) (rows : List (List ℤ)) → 1 ≤ n → branching n tree ≡ true → FitIsLeast tree rows n m

@@ -8,7 +8,7 @@ use borrow.Author.Tests.{leb-true, eq-eqb}
 use lib.Dec.{leb}
 use lib.IntN.{ℤ}
 use lib.ListN.{length, getD}
-use Rattle.matrix.specs.NodeRows.{rowsOf}
+use Rattle.matrix.specs.NodeRows.{rowsOf, rowOf}
 use Rattle.lists.specs.Numbers.{numbers}
 use Rattle.lists.specs.Tests.{every}
 use Rattle.matrix.specs.Shape.{row}
@@ -16,8 +16,8 @@ use Rattle.matrix.specs.Questions.{oneTo, allInRange, htuInRange, htusInRange, 
 use Rattle.matrix.specs.declared.refusal.Asked.the-variants.{Passed}
 use Rattle.matrix.specs.declared.refusal.Refusal.the-variants.{CodeRange, NotThere, NotBranching}
 use Rattle.matrix.proofs.Passing.{ask-passed, andThen-passed, oneTo-true, matrix-passes}
-use Rattle.difference.specs.Rows.{difference}
-use Rattle.prim.specs.Network.{network, taxonDifference}
+use Rattle.difference.specs.Rows.{difference, nodeDifference}
+use Rattle.prim.specs.Network.{network}
 use Rattle.prim.proofs.Agreement.{network-agrees}
 use Rattle.branching.specs.Nodes.{inTree, taxaPlaced, Unplaced}
 use Rattle.branching.proofs.Nodes.{not-inTree, taxaPlaced-le}
@@ -31,16 +31,15 @@ use Rattle.wagner.specs.Rival.{PlacementIsLeast}
 use Rattle.rivals.specs.Accepted.{CodeRows, matrixLent}
 use Rattle.rivals.proofs.Demand.{no-rival}
 use Rattle.branching.specs.Growing.{growingTree, rowOneAlone}
-use Rattle.wagner.specs.Nodes.{nodeDifference}
 use Rattle.branching.specs.Asking.{htusOf, askPlacement}
 use Rattle.wagner.proofs.Matrix.{rowOf-rowsOf}
 
 -- the network that the call answers is the one that the claim and the listing speak of
 pub same-network : (codes : List ℤ) (n m : ℕ)
-    → network (nodeDifference difference (rowsOf codes m n)) n ≡ network (taxonDifference codes m) n
-unfolding nodeDifference taxonDifference
+    → network (nodeDifference difference (rowOf (rowsOf codes m n))) n ≡ network (nodeDifference difference (row codes m)) n
+unfolding nodeDifference
 same-network codes n m =
-    network-agrees (nodeDifference difference (rowsOf codes m n)) (taxonDifference codes m) n
+    network-agrees (nodeDifference difference (rowOf (rowsOf codes m n))) (nodeDifference difference (row codes m)) n
     (λ x y tx ty. ap₂ difference (rowOf-rowsOf codes m n x (tx .0) (tx .1)) (rowOf-rowsOf codes m n y (ty .0) (ty .1)))
 
 -- what passed questions of a placement tell

@@ -4,7 +4,8 @@ use mathlib.Core.Bool.{true}
 use mathlib.Core.List.{List, [], _∷_, _++_}
 use Prim.Native.Nat.{ℕ}
 use lib.IntN.{ℤ}
-use Rattle.difference.specs.Rows.{difference}
+use Rattle.matrix.specs.NodeRows.{rowOf}
+use Rattle.difference.specs.Rows.{difference, nodeDifference}
 use Rattle.prim.specs.Rival.{Shortest}
 use Rattle.wagner.specs.declared.placement.Placement.{Placement}
 use Rattle.branching.specs.declared.branch.Branch.{Branch}
@@ -12,7 +13,6 @@ use Rattle.branching.specs.Growing.{branching}
 use Rattle.branching.specs.Nodes.{Unplaced}
 use Rattle.branching.specs.Hanging.{noBranches, linked}
 use Rattle.branching.specs.Branches.{lentBranching, ancestorsOf}
-use Rattle.wagner.specs.Nodes.{nodeDifference}
 use Rattle.wagner.specs.Placing.{Placed, link, place}
 use Rattle.wagner.specs.Build.{Built, wagner}
 use Rattle.wagner.specs.Rival.{PlacementIsLeast}
@@ -38,7 +38,7 @@ pub data BuildIsLeast (n m : ℕ) (rows : List (List ℤ)) : Built → Type 0 wh
 -- ours against the three rivals, for a matrix of n taxa and m characters with these rows
 pub record NoRivalDoesBetter (n m : ℕ) (rows : List (List ℤ)) : Type 0 where
   -- our network is a connected one, of length `p`, and no connected network of the taxa is shorter
-  pub network : Shortest (nodeDifference difference rows) n
+  pub network : Shortest (nodeDifference difference (rowOf rows)) n
   -- our placement of a taxon on a tree handed in is a hanging on one of its intervals, adds its interval difference, and none adds less
   pub placement : (tree : List ℕ) (htus : List (List ℤ)) → HandedIn n m tree htus → (b : ℕ) → Unplaced n tree b
       → PlacementIsLeast difference n m tree (rows ++ htus) b (place difference n tree (rows ++ htus) b)

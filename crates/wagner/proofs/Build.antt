@@ -7,8 +7,9 @@ use native.Mathlib.Omega.{arith}
 use native.Mathlib.Nat.{zero-add}
 use lib.IntN.{ℤ}
 use lib.ListN.{length, length-set}
+use Rattle.matrix.specs.NodeRows.{rowOf}
 use Rattle.lists.specs.Numbers.{numbers}
-use Rattle.difference.specs.Rows.{difference}
+use Rattle.difference.specs.Rows.{difference, nodeDifference}
 use Rattle.branching.specs.Nodes.{taxaPlaced, nodesOut, Unplaced}
 use Rattle.branching.specs.Facts.{GrowingTree, alone, Branching}
 use Rattle.branching.specs.Hanging.{noBranches, linked, hung}
@@ -17,7 +18,7 @@ use Rattle.branching.proofs.Nodes.{noBranches-none, noBranches-places}
 use Rattle.branching.proofs.Counts.{some-unplaced, unplaced-taxon}
 use Rattle.branching.proofs.Test.{growing-placed}
 use Rattle.branching.proofs.Records.{records-lent}
-use Rattle.wagner.specs.Nodes.{nodeDifference, advancement}
+use Rattle.wagner.specs.Nodes.{advancement}
 use Rattle.wagner.specs.Placing.{Placed, nearestInterval, link, hang, placeOn, place}
 use Rattle.wagner.specs.Build.{byAdvancement, buildOn, build, wagner, wagnerBranches}
 use Rattle.lists.proofs.Least.{leastOf-mem}
@@ -76,4 +77,4 @@ wagner-branching n taxa h rows = build-branching difference (byAdvancement diffe
 pub wagner-lent : (n : ℕ) → 1 ≤ n → n ≤ 64 → (rows : List (List ℤ)) → lentBranching n (wagnerBranches n (wagner n rows)) ≡ true
 unfolding wagnerBranches
 wagner-lent n taxa h rows =
-    records-lent (nodeDifference difference (wagner n rows .rows)) n (wagner n rows .tree) (wagner-branching n taxa h rows) taxa
+    records-lent (nodeDifference difference (rowOf (wagner n rows .rows))) n (wagner n rows .tree) (wagner-branching n taxa h rows) taxa

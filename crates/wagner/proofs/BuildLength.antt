@@ -18,7 +18,8 @@ use Rattle.branching.specs.Hanging.{noBranches}
 use Rattle.branching.proofs.Nodes.{noBranches-none, noBranches-places}
 use Rattle.branching.proofs.Test.{growing-placed}
 use Rattle.branching.proofs.Lengths.{alone-length}
-use Rattle.wagner.specs.Nodes.{nodeDifference, lengthUnder}
+use Rattle.difference.specs.Rows.{nodeDifference}
+use Rattle.wagner.specs.Nodes.{lengthUnder}
 use Rattle.wagner.specs.Placing.{Placed, medianRow, nearestInterval, link, hang, place}
 use Rattle.wagner.specs.Build.{Built, addedLength, buildOn, build}
 use Rattle.wagner.proofs.Placing.{place-first, place-later, nearest-node, place-grows}
@@ -123,4 +124,4 @@ module _ (d : List ℤ → List ℤ → ℕ) (next : ℕ → List ℕ → List (
     pub build-length : lengthUnder d n (build d next n rows .tree) (build d next n rows .rows)
         ≡ addedLength (build d next n rows .placements)
     unfolding lengthUnder
-    build-length = omega (arith, build-sound .total, alone-length (nodeDifference d rows) n noBranches noBranches-none)
+    build-length = omega (arith, build-sound .total, alone-length (nodeDifference d (rowOf rows)) n noBranches noBranches-none)

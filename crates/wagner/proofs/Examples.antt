@@ -6,7 +6,7 @@ use Prim.Native.Nat.{ℕ, _*_, _-_}
 use lib.IntN.{ℤ, pos, negsuc}
 use lib.ListN.{take}
 use Rattle.matrix.specs.NodeRows.{rowOf}
-use Rattle.difference.specs.Rows.{intervalBy, apart, lower, higher, median, medians, difference}
+use Rattle.difference.specs.Rows.{intervalBy, apart, lower, higher, median, medians, difference, nodeDifference}
 use Rattle.lists.specs.Numbers.{numbers}
 use Rattle.lists.specs.Least.{firstLeast, leastOf}
 use Rattle.matrix.specs.Shape.{lastNode}
@@ -19,10 +19,9 @@ use Rattle.branching.specs.Nodes.{hasAncestor, inTree, nodesIn, nodesOut, other
 use Rattle.branching.specs.Growing.{descendantCount, descendantsWanted, climbs, rowOneAlone, nodesOnly, htusIn, ancestorsIn}
 use Rattle.branching.specs.Growing.{descendantsRight, allClimb, grown, growingTree, branching}
 use Rattle.branching.specs.Hanging.{noBranches, linked, hung, nextHtu}
-use Rattle.branching.specs.Branches.{treeLength, branchOf, branchRecords, branchesRead, ancestorsOf}
+use Rattle.branching.specs.Branches.{treeLength, branchOf, branchRecords, branchesRead, ancestorsOf, namedInOrder, lentBranching}
 use Rattle.lists.specs.Sums.{sumOver}
-use Rattle.branching.specs.Branches.{namedInOrder, lentBranching}
-use Rattle.wagner.specs.Nodes.{nodeDifference, nodeInterval, advancement, lengthUnder}
+use Rattle.wagner.specs.Nodes.{nodeInterval, advancement, lengthUnder}
 use Rattle.wagner.specs.Placing.{Placed, medianRow, fromInterval, nearestInterval, link, hang, placeOn, place}
 use Rattle.wagner.specs.Build.{Built, byAdvancement, buildOn, build, wagner, wagnerLength, wagnerBranches}
 

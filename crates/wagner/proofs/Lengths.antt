@@ -8,14 +8,14 @@ use lib.IntN.{ℤ}
 use lib.ListN.{length, List·getD-append}
 use lib.Seq.{getD-at}
 use Rattle.matrix.specs.NodeRows.{rowOf}
-use Rattle.difference.specs.Rows.{intervalBy, medians}
+use Rattle.difference.specs.Rows.{intervalBy, medians, nodeDifference}
 use Rattle.branching.specs.Ancestors.{ancestor}
 use Rattle.branching.specs.Facts.{Grown, GrowingTree, alone, several}
 use Rattle.branching.specs.Nodes.{Unplaced}
 use Rattle.branching.specs.Hanging.{hung, nextHtu}
 use Rattle.branching.proofs.Hanging.{hung-joint, htu-out}
 use Rattle.branching.proofs.Lengths.{treeLength-same, alone-length, linked-length, hung-length}
-use Rattle.wagner.specs.Nodes.{nodeDifference, nodeInterval, lengthUnder}
+use Rattle.wagner.specs.Nodes.{nodeInterval, lengthUnder}
 use Rattle.wagner.specs.Placing.{Placed, medianRow, fromInterval, nearestInterval, link, hang, place}
 use Rattle.wagner.proofs.Placing.{place-first, place-later, nearest-node, nearest-least}
 
@@ -70,7 +70,7 @@ module _ (d : List ℤ → List ℤ → ℕ) (n k : ℕ) (tree : List ℕ) (rows
 
   -- hanging b through an HTU with any row r: the branch of c goes, and three come
   pub hang-length : (c : ℕ) → 1 ≤ ancestor tree c → (r : List ℤ)
-      → lengthUnder d n (hung tree b c (n + k - 1)) (rows ++ (r ∷ [])) + nodeDifference d rows c (ancestor tree c)
+      → lengthUnder d n (hung tree b c (n + k - 1)) (rows ++ (r ∷ [])) + nodeDifference d (rowOf rows) c (ancestor tree c)
       ≡ lengthUnder d n tree rows
       + (d (rowOf rows b) r + d (rowOf rows c) r + d r (rowOf rows (ancestor tree c)))
   unfolding nodeDifference lengthUnder
@@ -86,17 +86,17 @@ module _ (d : List ℤ → List ℤ → ℕ) (n k : ℕ) (tree : List ℕ) (rows
       let row-a : rowOf more a ≡ rowOf rows a = rowOf-old rows r a (na .0) (na .1) in
       let row-y : rowOf more y ≡ r = rowOf-new rows r y (omega arith) in
       let same : lengthUnder d n tree more ≡ lengthUnder d n tree rows =
-      treeLength-same (nodeDifference d more) (nodeDifference d rows) n tree λ v l i.
+      treeLength-same (nodeDifference d (rowOf more)) (nodeDifference d (rowOf rows)) n tree λ v l i.
       let nv = node-row v i in
       let nu = ancestor-row v i in
       ap₂ d (rowOf-old rows r v (nv .0) (nv .1)) (rowOf-old rows r (ancestor tree v) (nu .0) (nu .1)) in
-      let c-a : nodeDifference d more c a ≡ nodeDifference d rows c a = ap₂ d row-c row-a in
-      let b-y : nodeDifference d more b y ≡ d (rowOf rows b) r = ap₂ d row-b row-y in
-      let c-y : nodeDifference d more c y ≡ d (rowOf rows c) r = ap₂ d row-c row-y in
-      let y-a : nodeDifference d more y a ≡ d r (rowOf rows a) = ap₂ d row-y row-a in
+      let c-a : nodeDifference d (rowOf more) c a ≡ nodeDifference d (rowOf rows) c a = ap₂ d row-c row-a in
+      let b-y : nodeDifference d (rowOf more) b y ≡ d (rowOf rows b) r = ap₂ d row-b row-y in
+      let c-y : nodeDifference d (rowOf more) c y ≡ d (rowOf rows c) r = ap₂ d row-c row-y in
+      let y-a : nodeDifference d (rowOf more) y a ≡ d r (rowOf rows a) = ap₂ d row-y row-a in
       let joint = hung-joint n k tree g room b c u inside in
       let y-out = htu-out n k tree g room b c u inside in
-      let change = hung-length (nodeDifference d more) n tree b c y joint (u .free) inside y-out in
+      let change = hung-length (nodeDifference d (rowOf more)) n tree b c y joint (u .free) inside y-out in
       omega arith
 
   -- under the laws of the medians
@@ -171,8 +171,8 @@ place-added d n m k tree rows s laws b u = go (s .growing) (s .full)
         → lengthUnder d n (place d n tree rows b .tree) (place d n tree rows b .rows)
         ≡ lengthUnder d n tree rows + place d n tree rows b .placement .added
     go (alone none) full =
-        let none-yet = alone-length (nodeDifference d rows) n tree none in
-        let one = linked-length (nodeDifference d rows) n tree none (s .room) b u in
+        let none-yet = alone-length (nodeDifference d (rowOf rows)) n tree none in
+        let one = linked-length (nodeDifference d (rowOf rows)) n tree none (s .room) b u in
         rw (place-first d n tree rows b none) (omega arith)
     go (several {k = j} g) full =
         place-later-length d n j tree rows g (s .room) (omega (arith, g .atLeastTwo)) b u m laws (s .each)

@@ -2,8 +2,9 @@
 use mathlib.Core.List.{List, [], _∷_}
 use Prim.Native.Nat.{ℕ, zero, suc, _-_}
 use lib.IntN.{ℤ}
+use Rattle.matrix.specs.NodeRows.{rowOf}
 use Rattle.lists.specs.Numbers.{numbers}
-use Rattle.difference.specs.Rows.{difference}
+use Rattle.difference.specs.Rows.{difference, nodeDifference}
 use Rattle.wagner.specs.declared.placement.Placement.{Placement}
 use Rattle.branching.specs.declared.branch.Branch.{Branch}
 use Rattle.branching.specs.Nodes.{nodesOut}
@@ -11,7 +12,7 @@ use Rattle.branching.specs.Hanging.{noBranches}
 use Rattle.branching.specs.Branches.{branchRecords}
 use Rattle.lists.specs.Sums.{sumOver}
 use Rattle.lists.specs.Least.{leastOf}
-use Rattle.wagner.specs.Nodes.{nodeDifference, advancement, lengthUnder}
+use Rattle.wagner.specs.Nodes.{advancement, lengthUnder}
 use Rattle.wagner.specs.Placing.{Placed, place}
 
 -- what comes out of a build: the tree, the rows of all nodes, and the placements in order
@@ -52,4 +53,4 @@ wagnerLength n built = lengthUnder difference n (built .tree) (built .rows)
 
 -- the finished tree as branch records
 unfoldable pub wagnerBranches : ℕ → Built → List Branch
-wagnerBranches n built = branchRecords (nodeDifference difference (built .rows)) n (built .tree)
+wagnerBranches n built = branchRecords (nodeDifference difference (rowOf (built .rows))) n (built .tree)

@@ -4,22 +4,18 @@ use mathlib.Core.List.{List}
 use Prim.Native.Nat.{ℕ}
 use lib.IntN.{ℤ}
 use Rattle.matrix.specs.NodeRows.{rowOf}
-use Rattle.difference.specs.Rows.{intervalBy}
+use Rattle.difference.specs.Rows.{intervalBy, nodeDifference}
 use Rattle.branching.specs.Branches.{treeLength}
 
 module _ (d : List ℤ → List ℤ → ℕ) where
-  -- the difference of nodes u and v
-  unfoldable pub nodeDifference : List (List ℤ) → ℕ → ℕ → ℕ
-  nodeDifference rows u v = d (rowOf rows u) (rowOf rows v)
-
   -- the interval difference of node b from the interval between nodes c and e
   unfoldable pub nodeInterval : List (List ℤ) → ℕ → ℕ → ℕ → ℕ
   nodeInterval rows b c e = intervalBy d (rowOf rows b) (rowOf rows c) (rowOf rows e)
 
   -- the advancement of a taxon: its difference from row 1
   unfoldable pub advancement : List (List ℤ) → ℕ → ℕ
-  advancement rows b = nodeDifference rows b 1
+  advancement rows b = nodeDifference d (rowOf rows) b 1
 
   -- the length of a tree of n taxa under the rows of its nodes: the sum of differences over all branches
   unfoldable pub lengthUnder : ℕ → List ℕ → List (List ℤ) → ℕ
-  lengthUnder n tree rows = treeLength (nodeDifference rows) n tree
+  lengthUnder n tree rows = treeLength (nodeDifference d (rowOf rows)) n tree

@@ -3,13 +3,13 @@ use mathlib.Core.List.{List, [], _∷_, _++_}
 use Prim.Native.Nat.{ℕ, zero, suc}
 use lib.IntN.{ℤ}
 use Rattle.matrix.specs.NodeRows.{rowOf}
-use Rattle.difference.specs.Rows.{medians}
+use Rattle.difference.specs.Rows.{medians, nodeDifference}
 use Rattle.wagner.specs.declared.placement.Placement.{Placement}
 use Rattle.branching.specs.Ancestors.{ancestor}
 use Rattle.branching.specs.Nodes.{nodesIn, otherNodes}
 use Rattle.branching.specs.Hanging.{linked, hung, nextHtu}
 use Rattle.lists.specs.Least.{leastOf}
-use Rattle.wagner.specs.Nodes.{nodeDifference, nodeInterval}
+use Rattle.wagner.specs.Nodes.{nodeInterval}
 
 -- what comes out of a placement: the tree one taxon larger, the rows of all nodes, and what was done
 pub record Placed : Type 0 where
@@ -36,7 +36,7 @@ module _ (d : List ℤ → List ℤ → ℕ) where
   link tree rows b = record {
     tree = linked tree b;
     rows = rows;
-    placement = record { taxon = b; lower = 0; upper = 1; htu = 0; added = nodeDifference d rows b 1 };
+    placement = record { taxon = b; lower = 0; upper = 1; htu = 0; added = nodeDifference d (rowOf rows) b 1 };
   }
 
   -- taxon b hung on the interval between c and its immediate ancestor, through a new HTU that takes the median codes

@@ -6,7 +6,7 @@ use native.Mathlib.Omega.{arith}
 use lib.IntN.{ℤ}
 use lib.ListN.{length, take, length-take}
 use lib.Seq.{take-take}
-use Rattle.difference.specs.Rows.{apart, median, difference, medians, overwritten}
+use Rattle.difference.specs.Rows.{apart, median, difference, medians}
 
 -- past the shorter of two rows nothing is added to their difference
 pub difference-part : (k : ℕ) (xs ys : List ℤ) → min (length xs) (length ys) ≤ k → difference (take k xs) (take k ys) ≡ difference xs ys
@@ -29,16 +29,6 @@ medians-take zero (x ∷ xs) (y ∷ ys) [] = refl
 medians-take (suc k) (x ∷ xs) (y ∷ ys) [] = refl
 medians-take zero (x ∷ xs) (y ∷ ys) (z ∷ zs) = refl
 medians-take (suc k) (x ∷ xs) (y ∷ ys) (z ∷ zs) = ap (λ ms. median x y z ∷ ms) (medians-take k xs ys zs)
-
--- past the list written over, nothing is written
-pub overwritten-part : (k : ℕ) (xs old : List ℤ) → min (length old) (length xs) ≤ k → overwritten (take k xs) old ≡ overwritten xs old
-unfolding overwritten
-overwritten-part zero [] old h = refl
-overwritten-part (suc k) [] old h = refl
-overwritten-part zero (x ∷ xs) [] h = refl
-overwritten-part (suc k) (x ∷ xs) [] h = refl
-overwritten-part zero (x ∷ xs) (o ∷ old) h = absurd (omega arith)
-overwritten-part (suc k) (x ∷ xs) (o ∷ old) h = ap (λ ms. x ∷ ms) (overwritten-part k xs old (omega arith))
 
 -- two rows cut at `most`, and then where the shorter ends
 pub difference-within : (most count : ℕ) (xs ys : List ℤ) → count ≡ min most (min (length xs) (length ys))

@@ -5,11 +5,11 @@ use mathlib.Core.List.{List, [], _∷_, _++_}
 use Prim.Native.Nat.{ℕ, zero, suc, _+_, _*_, _≤_, _<_, min}
 use native.Mathlib.Omega.{arith}
 use lib.IntN.{ℤ, pos}
-use lib.ListN.{length, getD, take, drop, set}
+use lib.ListN.{length, getD, take}
 use Rattle.matrix.specs.Shape.{inRange}
 use Rattle.lists.specs.Tests.{every}
 use Rattle.matrix.specs.Questions.{allInRange}
-use Rattle.difference.specs.Rows.{apart, median, difference, medians, intervalDifference, overwritten, intervalBy}
+use Rattle.difference.specs.Rows.{apart, median, difference, medians, intervalDifference, intervalBy}
 use Rattle.difference.proofs.Laws.Codes.{apart-sym, apart-self, apart-zero, apart-triangle, apart-inRange, median-swap}
 use Rattle.difference.proofs.Laws.Codes.{median-rotate, median-between, median-inRange}
 
@@ -207,28 +207,3 @@ module _ (b c d : List ℤ) (bc : length b ≡ length c) (cd : length c ≡ leng
       )
 
 -- ---- a row written over the front of a list
-
--- writing over a list keeps its length
-pub length-overwritten : (xs old : List ℤ) → length (overwritten xs old) ≡ length old
-unfolding overwritten
-length-overwritten [] old = refl
-length-overwritten (x ∷ xs) [] = refl
-length-overwritten (x ∷ xs) (o ∷ old) = ap suc (length-overwritten xs old)
-
--- a list written over by one that is no longer begins with that one and keeps the rest
-pub overwritten-is : (xs old : List ℤ) → length xs ≤ length old → overwritten xs old ≡ xs ++ drop (length xs) old
-unfolding overwritten
-overwritten-is [] old l = refl
-overwritten-is (x ∷ xs) [] l = absurd (omega arith)
-overwritten-is (x ∷ xs) (o ∷ old) l = ap (λ r. x ∷ r) (overwritten-is xs old (omega arith))
-
--- one more code written over a list, behind those written before
-pub overwritten-snoc : (j : ℕ) (xs old : List ℤ) (code : ℤ) → length xs ≡ j
-    → set (overwritten xs old) j code ≡ overwritten (xs ++ (code ∷ [])) old
-unfolding overwritten
-overwritten-snoc zero [] [] code l = refl
-overwritten-snoc zero [] (o ∷ old) code l = refl
-overwritten-snoc zero (x ∷ xs) old code l = absurd (omega arith)
-overwritten-snoc (suc j) [] old code l = absurd (omega arith)
-overwritten-snoc (suc j) (x ∷ xs) [] code l = refl
-overwritten-snoc (suc j) (x ∷ xs) (o ∷ old) code l = ap (λ r. x ∷ r) (overwritten-snoc j xs old code (omega arith))

@@ -7,7 +7,7 @@ use borrow.Author.Needs.{needs}
 use lib.IntN.{ℤ}
 use lib.ListN.{take}
 use Rattle.matrix.specs.Shape.{row}
-use Rattle.matrix.specs.Refusals.{value}
+use Rattle.matrix.specs.Outcomes.{value}
 use Rattle.matrix.specs.Questions.{askNodes}
 use Rattle.matrix.specs.declared.refusal.Asked.{Asked}
 use Rattle.matrix.specs.declared.refusal.Asked.the-variants.{Passed}

@@ -6,11 +6,12 @@ use borrow.Author.Tests.{eq-eqb, ne-eqb}
 use borrow.Author.Needs.{needs}
 use lib.ListN.{length}
 use lib.IntN.{ℤ}
+use Rattle.lists.specs.Over.{over}
 use Rattle.matrix.specs.Shape.{row}
 use Rattle.matrix.specs.Questions.{askNodes}
 use Rattle.matrix.specs.declared.refusal.Refusal.{Refusal}
 use Rattle.matrix.specs.declared.refusal.Asked.the-variants.{Passed, Refused}
-use Rattle.difference.specs.Rows.{medians, overwritten}
+use Rattle.difference.specs.Rows.{medians}
 use Rattle.difference.specs.Calls.{askMedians, MediansAnswer}
 use Rattle.difference.proofs.calls.medians.Statement.{statement}
 use Rattle.difference.proofs.calls.medians.Tie as tie
@@ -60,7 +61,7 @@ same-length c = search needs
 -- where they pass, the medians of the three rows are written
 passes : (codes : List ℤ) (n m a b c : ℕ) (old new xs ys zs : List ℤ) → length old ≡ 128
     → askNodes codes n m (a ∷ b ∷ c ∷ []) ≡ Passed → xs ≡ row codes m a → ys ≡ row codes m b → zs ≡ row codes m c
-    → new ≡ overwritten (medians xs ys zs) old → MediansAnswer codes n m a b c old new Passed
+    → new ≡ over 0 (medians xs ys zs) old → MediansAnswer codes n m a b c old new Passed
 unfolding askMedians
 passes codes n m a b c old new xs ys zs size e ex ey ez written =
     record {

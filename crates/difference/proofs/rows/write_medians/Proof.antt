@@ -9,33 +9,37 @@ use borrow.Author.Needs.{sfits-of, needs}
 use lib.IntN.{ℤ, pos}
 use lib.ListN.{length, getD, take, set, length-take, length-set}
 use mir.Facts.{toZ-ofZ}
-use Rattle.difference.specs.Rows.{median, medians, overwritten}
-use Rattle.difference.proofs.Laws.Rows.{medians-take-suc, length-medians, overwritten-snoc}
-use Rattle.difference.proofs.Laws.Parts.{medians-take, overwritten-part}
+use Rattle.lists.specs.Over.{over}
+use Rattle.lists.proofs.Over.{over-snoc, over-part}
+use Rattle.difference.specs.Rows.{median, medians}
+use Rattle.difference.proofs.Laws.Rows.{medians-take-suc, length-medians}
+use Rattle.difference.proofs.Laws.Parts.{medians-take}
 use Rattle.difference.proofs.rows.write_medians.Statement.{statement}
 use Rattle.difference.proofs.rows.write_medians.Tie as tie
 
 -- one character more
 one-more : (j : ℕ) (xs ys zs out old : List ℤ) (code : ℤ) → j < length xs → j < length ys → j < length zs
-    → out ≡ overwritten (medians (take j xs) (take j ys) (take j zs)) old
+    → out ≡ over 0 (medians (take j xs) (take j ys) (take j zs)) old
     → code ≡ median (getD xs j (pos 0)) (getD ys j (pos 0)) (getD zs j (pos 0))
-    → set out j code ≡ overwritten (medians (take (j + 1) xs) (take (j + 1) ys) (take (j + 1) zs)) old
+    → set out j code ≡ over 0 (medians (take (j + 1) xs) (take (j + 1) ys) (take (j + 1) zs)) old
 one-more j xs ys zs out old code hx hy hz e m =
-    let written : length (medians (take j xs) (take j ys) (take j zs)) ≡ j =
-    length-medians (take j xs) (take j ys) (take j zs)
-    ∙ omega (arith, length-take j xs, length-take j ys, length-take j zs) in
-    rw (add-one, medians-take-suc j xs ys zs hx hy hz, e, m) (overwritten-snoc j _ old _ written)
+    let written : List ℤ = medians (take j xs) (take j ys) (take j zs) in
+    let next : ℤ = median (getD xs j (pos 0)) (getD ys j (pos 0)) (getD zs j (pos 0)) in
+    let place : j ≡ 0 + length written =
+    omega (arith, length-medians (take j xs) (take j ys) (take j zs), length-take j xs, length-take j ys, length-take j zs) in
+    rw (add-one, medians-take-suc j xs ys zs hx hy hz, e, m)
+    (ap (λ k. set (over 0 written old) k next) place ∙ over-snoc 0 written old next)
 
 -- past the shortest of the four nothing is written
 finish : (count : ℕ) (xs ys zs old : List ℤ) → count ≡ min (length old) (min (length xs) (min (length ys) (length zs)))
-    → overwritten (medians (take count xs) (take count ys) (take count zs)) old ≡ overwritten (medians xs ys zs) old
+    → over 0 (medians (take count xs) (take count ys) (take count zs)) old ≡ over 0 (medians xs ys zs) old
 finish count xs ys zs old e =
-    ap (λ ms. overwritten ms old) (medians-take count xs ys zs)
-    ∙ overwritten-part count (medians xs ys zs) old (omega (arith, length-medians xs ys zs))
+    ap (λ ms. over 0 ms old) (medians-take count xs ys zs)
+    ∙ over-part 0 count (medians xs ys zs) old (omega (arith, length-medians xs ys zs))
 
 abbrev Inv-loop : tie.InvT-loop
 Inv-loop out₀ xs ys zs count j₀ out j =
-    (j ≤ count) × (length out ≡ length out₀) × (out ≡ overwritten (medians (take j xs) (take j ys) (take j zs)) out₀)
+    (j ≤ count) × (length out ≡ length out₀) × (out ≡ over 0 (medians (take j xs) (take j ys) (take j zs)) out₀)
 
 abbrev μ-loop : tie.MeasureT-loop
 μ-loop out₀ xs ys zs count j₀ out j = count - j
@@ -50,7 +54,7 @@ least-requires-3 : tie.Need-least-requires-3 Inv-loop μ-loop
 least-requires-3 c κs = search needs
 
 loop-holds : tie.Need-loop-holds Inv-loop μ-loop
-unfolding medians overwritten
+unfolding medians over
 loop-holds c = (omega arith, refl, refl)
 
 mul-median : tie.Need-mul-median Inv-loop μ-loop

@@ -15,7 +15,7 @@ use Rattle.matrix_file.proofs.PartsFrom.{partsFrom, from-start, from-pa
 use Rattle.matrix.specs.declared.refusal.Asked.{Asked}
 use Rattle.matrix.specs.declared.refusal.Asked.the-variants.{Passed, Refused}
 use Rattle.matrix.specs.declared.refusal.Refusal.the-variants.{CodeForm, CodeRange}
-use Rattle.matrix.specs.Questions.{ask}
+use Rattle.matrix.specs.Outcomes.{ask}
 use Rattle.matrix.specs.Shape.{inRange}
 use Rattle.matrix_file.proofs.judging.ask_codes.Statement.{statement}
 use Rattle.matrix_file.proofs.judging.ask_codes.Tie as tie

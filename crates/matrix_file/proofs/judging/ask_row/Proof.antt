@@ -15,7 +15,7 @@ use Rattle.matrix_file.specs.Job.{nameForm, differsFromAll}
 use Rattle.matrix.specs.declared.refusal.Asked.{Asked}
 use Rattle.matrix.specs.declared.refusal.Asked.the-variants.{Refused}
 use Rattle.matrix.specs.declared.refusal.Refusal.the-variants.{FieldCount, NameForm, NameTaken}
-use Rattle.matrix.specs.Questions.{ask}
+use Rattle.matrix.specs.Outcomes.{ask}
 use Rattle.matrix_file.proofs.judging.ask_row.Statement.{statement}
 use Rattle.matrix_file.proofs.judging.ask_row.Tie as tie
 

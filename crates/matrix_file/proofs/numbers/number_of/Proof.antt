@@ -18,8 +18,8 @@ use Rattle.matrix_file.proofs.numbers.number_of.Statement.{statement}
 use Rattle.matrix_file.proofs.numbers.number_of.Tie as tie
 
 -- what a loop over digits knows at place i: the digits passed say `number`
-abbrev Said : List ℕ → ℕ → ℕ → Type 0
-Said text number i = (i ≤ length text) × (number < 10 ^ i) × (numberFrom 0 text ≡ numberFrom number (drop i text))
+abbrev Outcome : List ℕ → ℕ → ℕ → Type 0
+Outcome text number i = (i ≤ length text) × (number < 10 ^ i) × (numberFrom 0 text ≡ numberFrom number (drop i text))
 
 -- the byte at i is a digit
 digit-at : (text : List ℕ) (i : ℕ) → numberForm text ≡ true → i < length text → (zeroDigit ≤ getD text i 0) × (getD text i 0 ≤ 57)
@@ -28,12 +28,12 @@ digit-at text i form h =
     (digit-low (getD text i 0) digit, digit-high (getD text i 0) digit)
 
 -- the number so far is below a million
-still-small : (text : List ℕ) (number i : ℕ) → numberForm text ≡ true → Said text number i → i < length text → number < 1000000
+still-small : (text : List ℕ) (number i : ℕ) → numberForm text ≡ true → Outcome text number i → i < length text → number < 1000000
 still-small text number i form inv h = number-small number i (inv .1) (omega (arith, form-short text form))
 
 -- one digit more
-one-more : (text : List ℕ) (number i digit : ℕ) → numberForm text ≡ true → Said text number i → i < length text → digit ≡ getD text i 0
-    → Said text (number * 10 + (digit - zeroDigit)) (i + 1)
+one-more : (text : List ℕ) (number i digit : ℕ) → numberForm text ≡ true → Outcome text number i → i < length text → digit ≡ getD text i 0
+    → Outcome text (number * 10 + (digit - zeroDigit)) (i + 1)
 one-more text number i digit form inv h e =
     let high = digit-at text i form h .1 in (
       omega arith,
@@ -42,7 +42,7 @@ one-more text number i digit form inv h e =
     )
 
 -- all digits passed
-all-said : (text : List ℕ) (number i : ℕ) → numberForm text ≡ true → Said text number i → length text ≤ i → NumberSaid text number
+all-said : (text : List ℕ) (number i : ℕ) → numberForm text ≡ true → Outcome text number i → length text ≤ i → NumberSaid text number
 unfolding numberOf numberFrom
 all-said text number i form inv h =
     record {

@@ -3,8 +3,7 @@ use mathlib.Core.Path.{ap, ap₂, _∙_}
 use borrow.Author.Needs.{needs}
 use lib.ListN.{take}
 use Rattle.matrix.proofs.Row.{row-128}
-use Rattle.difference.specs.Rows.{difference}
-use Rattle.prim.specs.Network.{taxonDifference}
+use Rattle.difference.specs.Rows.{difference, nodeDifference}
 use Rattle.prim.proofs.network.between.Statement.{statement}
 use Rattle.prim.proofs.network.between.Tie as tie
 
@@ -18,7 +17,7 @@ difference-requires : tie.Need-difference-requires
 difference-requires c κs = search needs
 
 returns : tie.Need-returns
-unfolding taxonDifference
+unfolding nodeDifference
 returns c =
     let start = c .before .before .before in
     let codes = start .args .matrix .now in

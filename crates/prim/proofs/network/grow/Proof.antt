@@ -4,8 +4,9 @@ use Prim.Native.Nat.{ℕ, _-_, _≤_}
 use native.Mathlib.Omega.{arith}
 use borrow.Author.Needs.{needs}
 use lib.IntN.{ℤ}
+use Rattle.matrix.specs.Shape.{row}
+use Rattle.difference.specs.Rows.{nodeDifference, difference}
 use Rattle.matrix.specs.Questions.{LentMatrix}
-use Rattle.prim.specs.Network.{taxonDifference}
 use Rattle.prim.proofs.Growth.{GrownTo, grown-start, grown-end, grown-room, grown-next}
 use Rattle.prim.proofs.Lent.{taxa-most}
 use Rattle.prim.proofs.network.grow.Statement.{statement}
@@ -13,13 +14,13 @@ use Rattle.prim.proofs.network.grow.Tie as tie
 
 abbrev Inv-loop : tie.InvT-loop
 Inv-loop matrix n m taxa₀ network₀ placed₀ taxa network placed =
-    GrownTo (taxonDifference matrix m) n taxa network placed
+    GrownTo (nodeDifference difference (row matrix m)) n taxa network placed
 
 abbrev μ-loop : tie.MeasureT-loop
 μ-loop matrix n m taxa₀ network₀ placed₀ taxa network placed = n - placed
 
 -- a taxon of a lent matrix is not far from row 1
-near : (codes : List ℤ) (n m : ℕ) → LentMatrix codes n m → (v : ℕ) → 1 ≤ v → v ≤ n → taxonDifference codes m v 1 ≤ 255744
+near : (codes : List ℤ) (n m : ℕ) → LentMatrix codes n m → (v : ℕ) → 1 ≤ v → v ≤ n → nodeDifference difference (row codes m) v 1 ≤ 255744
 near codes n m lent v low high = let some = lent .taxon in taxa-most codes n m v 1 lent (low, high) (omega arith)
 
 start-requires : tie.Need-start-requires Inv-loop μ-loop

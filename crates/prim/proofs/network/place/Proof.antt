@@ -5,7 +5,8 @@ use native.Mathlib.Nat.{le-refl}
 use native.Mathlib.Omega.{arith}
 use borrow.Author.Needs.{needs}
 use lib.ListN.{length, length-set}
-use Rattle.prim.specs.Network.{taxonDifference}
+use Rattle.matrix.specs.Shape.{row}
+use Rattle.difference.specs.Rows.{nodeDifference, difference}
 use Rattle.prim.specs.Growing.{keptAt, Compared}
 use Rattle.prim.proofs.Keeping.{Passed, passed-none, passed-next, place-keeps}
 use Rattle.prim.proofs.network.place.Statement.{statement}
@@ -16,7 +17,7 @@ Inv-loop matrix n m v taxa₀ u₀ taxa u =
     (2 ≤ u)
     × (u ≤ 65)
     × (length taxa ≡ 65)
-    × Passed (λ x k. Compared (taxonDifference matrix m) x v (keptAt taxa₀ x) k) taxa₀ taxa u
+    × Passed (λ x k. Compared (nodeDifference difference (row matrix m)) x v (keptAt taxa₀ x) k) taxa₀ taxa u
 
 abbrev μ-loop : tie.MeasureT-loop
 μ-loop matrix n m v taxa₀ u₀ taxa u = 65 - u

@@ -5,7 +5,8 @@ use Prim.Native.Nat.{_-_, _≤_}
 use native.Mathlib.Omega.{arith}
 use borrow.Author.Needs.{needs}
 use lib.ListN.{length, length-set}
-use Rattle.prim.specs.Network.{taxonDifference}
+use Rattle.matrix.specs.Shape.{row}
+use Rattle.difference.specs.Rows.{nodeDifference, difference}
 use Rattle.prim.specs.Growing.{keptOf}
 use Rattle.prim.proofs.Keeping.{Passed, passed-none, passed-next, start-kept, start-keeps}
 use Rattle.prim.proofs.network.start.Statement.{statement}
@@ -13,7 +14,7 @@ use Rattle.prim.proofs.network.start.Tie as tie
 
 abbrev Inv-loop : tie.InvT-loop
 Inv-loop matrix n m taxa₀ v₀ taxa v =
-    (2 ≤ v) × (v ≤ 65) × (length taxa ≡ 65) × Passed (λ x k. k ≡ keptOf (taxonDifference matrix m) [] x) taxa₀ taxa v
+    (2 ≤ v) × (v ≤ 65) × (length taxa ≡ 65) × Passed (λ x k. k ≡ keptOf (nodeDifference difference (row matrix m)) [] x) taxa₀ taxa v
 
 abbrev μ-loop : tie.MeasureT-loop
 μ-loop matrix n m taxa₀ v₀ taxa v = 65 - v
@@ -40,7 +41,7 @@ loop-again : tie.Need-loop-again Inv-loop μ-loop
 loop-again c =
     let inv = c .before .before .loop .inv in
     let a = c .before .before .before .args in
-    let d = taxonDifference (a .matrix .now) (a .m) in
+    let d = nodeDifference difference (row (a .matrix .now) (a .m)) in
     let v = c .before .before .loop .v in (
       omega arith,
       omega arith,
