@@ -7,7 +7,7 @@ use native.Mathlib.Numerals.{add-one}
 use native.Mathlib.Omega.{arith}
 use borrow.Rule.Slice.PartMut.{putMid, post-is}
 use lib.ListN.{length, getD, take, drop, set, length-take, length-drop}
-use lib.Seq.{take-all, drop-length, take-suc}
+use lib.Seq.{take-all, drop-length, take-suc, take-at, drop-at, length-take-le}
 use Rattle.lists.specs.Over.{over}
 
 module _ {A : Type 0} where
@@ -61,6 +61,14 @@ module _ {A : Type 0} where
   over-fits zero (x ∷ xs) (o ∷ old) h = rw zero-add (ap (λ rest. x ∷ rest) (rw zero-add at (over-fits zero xs old (omega arith))))
   over-fits (suc place) xs [] h = absurd (omega arith)
   over-fits (suc place) xs (o ∷ old) h = rw (suc-add place (length xs)) (ap (λ rest. o ∷ rest) (over-fits place xs old (omega arith)))
+
+  -- and there it is read back
+  pub over-item : (place : ℕ) (xs old : List A) → place + length xs ≤ length old → take (length xs) (drop place (over place xs old)) ≡ xs
+  over-item place xs old h =
+      let rest : List A = drop (place + length xs) old in
+      ap (λ (all : List A). take (length xs) (drop place all)) (over-fits place xs old h)
+      ∙ ap (take (length xs)) (drop-at (take place old) (xs ++ rest) place (length-take-le place old (omega arith)))
+      ∙ take-at xs rest (length xs) refl
 
   -- nothing written leaves the list
   pub over-nothing : (place : ℕ) (old : List A) → over place [] old ≡ old

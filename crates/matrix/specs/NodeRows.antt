@@ -1,10 +1,11 @@
 -- The rows of the nodes, by node number, and a matrix with rows written into it.
-use mathlib.Core.List.{List, [], _∷_, _++_, map}
-use Prim.Native.Nat.{ℕ, suc, _+_, _-_}
+use mathlib.Core.List.{List, [], map}
+use Prim.Native.Nat.{ℕ, _-_}
 use lib.IntN.{ℤ}
-use lib.ListN.{length, getD, take, drop}
+use lib.ListN.{getD}
 use Rattle.lists.specs.Numbers.{numbers}
-use Rattle.matrix.specs.Shape.{rowStart, row}
+use Rattle.lists.specs.Over.{over, stripes}
+use Rattle.matrix.specs.Shape.{columns, rowStart, row}
 
 -- the row of node v
 unfoldable pub rowOf : List (List ℤ) → ℕ → List ℤ
@@ -16,9 +17,8 @@ rowsOf codes m count = map (row codes m) (numbers 1 count)
 
 -- the matrix with a row written over the first codes of the row of node v
 unfoldable pub withRow : List ℤ → ℕ → List ℤ → List ℤ
-withRow codes v r = take (rowStart v) codes ++ (r ++ drop (rowStart v + length r) codes)
+withRow codes v r = over (rowStart v) r codes
 
 -- the matrix with rows written so for nodes v, v+1, ..
 unfoldable pub withRows : List ℤ → ℕ → List (List ℤ) → List ℤ
-withRows codes v [] = codes
-withRows codes v (r ∷ rs) = withRows (withRow codes v r) (suc v) rs
+withRows codes v rows = stripes columns (rowStart v) rows codes

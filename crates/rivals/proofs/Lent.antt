@@ -32,7 +32,7 @@ use Rattle.rivals.specs.Accepted.{CodeRows, matrixLent}
 use Rattle.rivals.proofs.Demand.{no-rival}
 use Rattle.branching.specs.Growing.{growingTree, rowOneAlone}
 use Rattle.branching.specs.Asking.{htusOf, askPlacement}
-use Rattle.wagner.proofs.Matrix.{rowOf-rowsOf}
+use Rattle.matrix.proofs.NodeRows.{rowOf-rowsOf}
 
 -- the network that the call answers is the one that the claim and the listing speak of
 pub same-network : (codes : List ℤ) (n m : ℕ)

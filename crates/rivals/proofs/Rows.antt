@@ -20,7 +20,7 @@ use Rattle.matrix_file.specs.Job.{Job, hasCodes}
 use Rattle.matrix_file.specs.Reading.{readAnswer, accepted}
 use Rattle.matrix_file.proofs.FileOfRead.{file-of-read}
 use Rattle.wagner.proofs.Lengths.{OfLength}
-use Rattle.wagner.proofs.Matrix.{length-rowsOf, rowOf-rowsOf}
+use Rattle.matrix.proofs.NodeRows.{length-rowsOf, rowOf-rowsOf}
 use Rattle.rivals.specs.Accepted.{CodeRows, Accepted, fileRead, matrixLent}
 
 -- the row of each node has m codes
