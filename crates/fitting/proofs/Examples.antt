@@ -11,8 +11,8 @@ use Rattle.branching.specs.Ancestors.{ancestor, descendants}
 use Rattle.branching.specs.Nodes.{otherNodes}
 use Rattle.lists.specs.Sums.{sumOver}
 use Rattle.lists.specs.Filters.{keep}
-use Rattle.fitting.specs.Sets.{only, join, nearest, insert, inOrder, middle}
-use Rattle.fitting.specs.Trees.{tip, fork, above, treeAt, treesBelow}
+use Rattle.fitting.specs.Sets.{only, join, nearestMember, insert, inOrder, middle}
+use Rattle.fitting.specs.Clades.{tip, fork, above, cladeAt, cladesBelow}
 use Rattle.fitting.specs.Character.{valueAt, up, chosen, ranges}
 use Rattle.fitting.specs.Assignments.{character, branchLength, total}
 use Rattle.fitting.specs.Fit.{chosenState, range, fittedLength, fittedTotal, markedPlus}
@@ -43,14 +43,14 @@ pub record Printed : Type 0 where
 
 -- the fit of a matrix as a listing shows it
 unfoldable pub printed : List ℕ → List (List ℤ) → ℕ → ℕ → Printed
-unfolding treesBelow treeAt above otherNodes numbers descendants keep ancestor fittedTotal fittedLength total branchLength sumOver apart lower
-    higher chosenState range valueAt chosen ranges up join nearest middle inOrder insert only character flatMap
-printed ancestors rows n m = record {
-  lengths = map (λ v. fittedLength ancestors rows n m v) (otherNodes n);
-  sumOfLengths = fittedTotal ancestors rows n m;
+unfolding cladesBelow cladeAt above otherNodes numbers descendants keep ancestor fittedTotal fittedLength total branchLength sumOver apart lower
+    higher chosenState range valueAt chosen ranges up join nearestMember middle inOrder insert only character flatMap
+printed tree rows n m = record {
+  lengths = map (λ v. fittedLength tree rows n m v) (otherNodes n);
+  sumOfLengths = fittedTotal tree rows n m;
   states =
       map
-      (λ v. map (λ j. range ancestors rows n v j .low ∷ range ancestors rows n v j .high ∷ chosenState ancestors rows n v j ∷ [])
+      (λ v. map (λ j. range tree rows n v j .low ∷ range tree rows n v j .high ∷ chosenState tree rows n v j ∷ [])
       (numbers 1 m))
       (numbers (suc n) (n - 2));
 }
@@ -65,16 +65,16 @@ rowsABCD =
     ∷ []
 
 -- B and C hang from #2, D and #2 from #1, #1 from A
-abbrev pub ancestorsABCD : List ℕ
-ancestorsABCD = 0 ∷ 0 ∷ 6 ∷ 6 ∷ 5 ∷ 1 ∷ 5 ∷ []
+abbrev pub treeABCD : List ℕ
+treeABCD = 0 ∷ 0 ∷ 6 ∷ 6 ∷ 5 ∷ 1 ∷ 5 ∷ []
 
 -- below A stands #1, below #1 stand D and #2, below #2 stand B and C
-pub tree-ABCD : treesBelow ancestorsABCD 4 ≡ fork 5 (tip 4) (fork 6 (tip 2) (tip 3)) ∷ []
-unfolding treesBelow treeAt above otherNodes numbers descendants keep ancestor
-tree-ABCD = refl
+pub clade-ABCD : cladesBelow treeABCD 4 ≡ fork 5 (tip 4) (fork 6 (tip 2) (tip 3)) ∷ []
+unfolding cladesBelow cladeAt above otherNodes numbers descendants keep ancestor
+clade-ABCD = refl
 
 -- document 01's `T`, `t` and `H` lines
-pub fit-ABCD : printed ancestorsABCD rowsABCD 4 3 ≡ record {
+pub fit-ABCD : printed treeABCD rowsABCD 4 3 ≡ record {
   lengths = 1 ∷ 2 ∷ 2 ∷ 2 ∷ 2 ∷ [];
   sumOfLengths = 9;
   states =
@@ -91,7 +91,7 @@ unfolding up join only character lower higher
 set-of-#1 = refl
 
 -- the range of #1 in character 3
-pub range-of-#1 : range ancestorsABCD rowsABCD 4 5 3 ≡ span (pos 0) (pos 1)
+pub range-of-#1 : range treeABCD rowsABCD 4 5 3 ≡ span (pos 0) (pos 1)
 unfolding printed
 range-of-#1 = refl
 

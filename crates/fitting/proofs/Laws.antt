@@ -3,7 +3,7 @@ pub mod Ends
 pub mod Sets
 pub mod JoinWords
 pub mod Basic
-pub mod Tables
+pub mod ValuesByNode
 pub mod Nodes
 pub mod Agree
 pub mod Downward
@@ -14,7 +14,7 @@ pub mod Range
 pub mod Branching
 pub mod Walks
 pub mod Shape
-pub mod OneTree
+pub mod OneClade
 pub mod Matrix
 pub mod ThirdRival
 pub mod ByNode

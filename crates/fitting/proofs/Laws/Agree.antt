@@ -1,4 +1,4 @@
--- Assignments that agree on the nodes of a tree, and one assignment made of several.
+-- Assignments that agree on the nodes of a clade, and one assignment made of several.
 use mathlib.Core.Path.{_≡_, refl, _∙_, ap}
 use mathlib.Core.Bool.{true, cond}
 use Prim.Native.Nat.{ℕ}
@@ -6,41 +6,41 @@ use lib.Dec.{eqb}
 use lib.IntN.{ℤ}
 use borrow.Author.Tests.{eq-eqb}
 use Rattle.difference.specs.Rows.{apart}
-use Rattle.fitting.specs.Trees.{Tree, tip, fork}
+use Rattle.fitting.specs.Clades.{Clade, tip, fork}
 use Rattle.fitting.proofs.Laws.Basic.{cost, Keeps}
 use Rattle.fitting.proofs.Laws.Nodes.{has, Parts, differ, not-left, has-top, has-left, has-right}
 
--- two assignments agree on the nodes of a tree
-abbrev pub Agree : (ℕ → ℤ) → (ℕ → ℤ) → Tree → Type 0
+-- two assignments agree on the nodes of a clade
+abbrev pub Agree : (ℕ → ℤ) → (ℕ → ℤ) → Clade → Type 0
 Agree f g t = (w : ℕ) → has t w ≡ true → f w ≡ g w
 
--- they agree on the nodes of its descendants' trees
-pub agree-left : (f g : ℕ → ℤ) (v : ℕ) (a b : Tree) → Agree f g (fork v a b) → Agree f g a
+-- they agree on the nodes of its descendants' clades
+pub agree-left : (f g : ℕ → ℤ) (v : ℕ) (a b : Clade) → Agree f g (fork v a b) → Agree f g a
 agree-left f g v a b h w p = h w (has-left v a b w p)
 
 -- on the right too
-pub agree-right : (f g : ℕ → ℤ) (v : ℕ) (a b : Tree) → Agree f g (fork v a b) → Agree f g b
+pub agree-right : (f g : ℕ → ℤ) (v : ℕ) (a b : Clade) → Agree f g (fork v a b) → Agree f g b
 agree-right f g v a b h w p = h w (has-right v a b w p)
 
--- assignments that agree on a tree give it the same cost
-pub cost-agree : (f g : ℕ → ℤ) (y : ℤ) (t : Tree) → Agree f g t → cost f y t ≡ cost g y t
+-- assignments that agree on a clade give it the same cost
+pub cost-agree : (f g : ℕ → ℤ) (y : ℤ) (t : Clade) → Agree f g t → cost f y t ≡ cost g y t
 unfolding cost has
 cost-agree f g y (tip v) h = ap (λ s. apart y s) (h v (eq-eqb v v refl))
 cost-agree f g y (fork v a b) h =
     rw (h v (has-top v a b), cost-agree f g (g v) a (agree-left f g v a b h), cost-agree f g (g v) b (agree-right f g v a b h))
 
 -- and keep the same codes
-pub keeps-agree : (code f g : ℕ → ℤ) (t : Tree) → Agree f g t → Keeps code g t → Keeps code f t
+pub keeps-agree : (code f g : ℕ → ℤ) (t : Clade) → Agree f g t → Keeps code g t → Keeps code f t
 unfolding has
 keeps-agree code f g (tip v) h k = h v (eq-eqb v v refl) ∙ k
 keeps-agree code f g (fork v a b) h k =
     (keeps-agree code f g a (agree-left f g v a b h) (k .0), keeps-agree code f g b (agree-right f g v a b h) (k .1))
 
 -- the assignment that gives v state s, the nodes of a their states under f, and all others theirs under g
-unfoldable pub combined : ℕ → ℤ → Tree → (ℕ → ℤ) → (ℕ → ℤ) → ℕ → ℤ
+unfoldable pub combined : ℕ → ℤ → Clade → (ℕ → ℤ) → (ℕ → ℤ) → ℕ → ℤ
 combined v s a f g w = cond (eqb v w) s (cond (has a w) (f w) (g w))
 
-module _ (v : ℕ) (s : ℤ) (a b : Tree) (f g : ℕ → ℤ) where
+module _ (v : ℕ) (s : ℤ) (a b : Clade) (f g : ℕ → ℤ) where
   -- v has its own state
   pub combined-top : combined v s a f g v ≡ s
   unfolding combined

@@ -18,47 +18,47 @@ use Rattle.branching.proofs.Whole.{branching-climbs}
 
 -- going up exactly k steps from node v reaches node 1
 abbrev pub Climbs : List ℕ → ℕ → ℕ → Type 0
-Climbs ancestors zero v = v ≡ 1
-Climbs ancestors (suc k) v = Climbs ancestors k (ancestor ancestors v)
+Climbs tree zero v = v ≡ 1
+Climbs tree (suc k) v = Climbs tree k (ancestor tree v)
 
 -- what climbs within some steps does so in one number of them
-climbs-steps : (ancestors : List ℕ) (steps v : ℕ) → climbs ancestors steps v ≡ true → (k : ℕ) × (k ≤ steps) × Climbs ancestors k v
+climbs-steps : (tree : List ℕ) (steps v : ℕ) → climbs tree steps v ≡ true → (k : ℕ) × (k ≤ steps) × Climbs tree k v
 unfolding climbs
-climbs-steps ancestors zero v c = (0, omega arith, eqb-true v 1 c)
-climbs-steps ancestors (suc steps) v c =
+climbs-steps tree zero v c = (0, omega arith, eqb-true v 1 c)
+climbs-steps tree (suc steps) v c =
     ⊎-elim
     (λ e. (0, omega arith, e))
-    (λ r. let h = climbs-steps ancestors steps (ancestor ancestors v) r in (suc (h .0), omega (arith, h .1), h .2))
-    (climbs-iff ancestors steps v .0 c)
+    (λ r. let h = climbs-steps tree steps (ancestor tree v) r in (suc (h .0), omega (arith, h .1), h .2))
+    (climbs-iff tree steps v .0 c)
 
-module _ (n : ℕ) (ancestors : List ℕ) (grown : Grown n n ancestors) where
+module _ (n : ℕ) (tree : List ℕ) (grown : Grown n n tree) where
   -- only nodes 2 to 2n-2 have an immediate ancestor
-  pub only-nodes : (v : ℕ) → 1 ≤ ancestor ancestors v → (2 ≤ v) × (v ≤ 2 * n - 2)
-  only-nodes = growing-within n ancestors (several grown)
+  pub only-nodes : (v : ℕ) → 1 ≤ ancestor tree v → (2 ≤ v) × (v ≤ 2 * n - 2)
+  only-nodes = growing-within n tree (several grown)
 
   -- any other number has none
-  pub no-ancestor : (v : ℕ) → (v < 2) ⊎ (2 * n - 2 < v) → ancestor ancestors v ≡ 0
-  no-ancestor = growing-outside n ancestors (several grown)
+  pub no-ancestor : (v : ℕ) → (v < 2) ⊎ (2 * n - 2 < v) → ancestor tree v ≡ 0
+  no-ancestor = growing-outside n tree (several grown)
 
   -- each of these nodes hangs from row 1, or from a node that has an immediate ancestor itself
-  pub row1-or-node : (v : ℕ) → 2 ≤ v → v ≤ 2 * n - 2 → (ancestor ancestors v ≡ 1) ⊎ (1 ≤ ancestor ancestors (ancestor ancestors v))
-  row1-or-node v p h = grown .ancestorsIn v (branching-nodes n ancestors (several grown) v p h)
+  pub row1-or-node : (v : ℕ) → 2 ≤ v → v ≤ 2 * n - 2 → (ancestor tree v ≡ 1) ⊎ (1 ≤ ancestor tree (ancestor tree v))
+  row1-or-node v p h = grown .ancestorsIn v (branching-nodes n tree (several grown) v p h)
 
   -- row 1 has one descendant
-  pub one-below : length (descendants ancestors (otherNodes n) 1) ≡ 1
+  pub one-below : length (descendants tree (otherNodes n) 1) ≡ 1
   unfolding descendantCount
-  one-below = branching-root n ancestors (grown .atLeastTwo) (several grown)
+  one-below = branching-root n tree (grown .atLeastTwo) (several grown)
 
   -- each other taxon none
-  pub none-below : (v : ℕ) → 2 ≤ v → v ≤ n → length (descendants ancestors (otherNodes n) v) ≡ 0
+  pub none-below : (v : ℕ) → 2 ≤ v → v ≤ n → length (descendants tree (otherNodes n) v) ≡ 0
   unfolding descendantCount
-  none-below = branching-taxon n ancestors (grown .atLeastTwo) (several grown)
+  none-below = branching-taxon n tree (grown .atLeastTwo) (several grown)
 
   -- each HTU two
-  pub two-below : (v : ℕ) → n < v → v ≤ 2 * n - 2 → length (descendants ancestors (otherNodes n) v) ≡ 2
+  pub two-below : (v : ℕ) → n < v → v ≤ 2 * n - 2 → length (descendants tree (otherNodes n) v) ≡ 2
   unfolding descendantCount
-  two-below = branching-htu n ancestors (grown .atLeastTwo) (several grown)
+  two-below = branching-htu n tree (grown .atLeastTwo) (several grown)
 
   -- from every node below row 1, at most 2n-2 steps up reach it
-  pub steps-up : (v : ℕ) → 2 ≤ v → v ≤ 2 * n - 2 → (k : ℕ) × (k ≤ 2 * n - 2) × Climbs ancestors k v
-  steps-up v p h = climbs-steps ancestors (2 * n - 2) v (branching-climbs n ancestors (grown .atLeastTwo) (several grown) v p h)
+  pub steps-up : (v : ℕ) → 2 ≤ v → v ≤ 2 * n - 2 → (k : ℕ) × (k ≤ 2 * n - 2) × Climbs tree k v
+  steps-up v p h = climbs-steps tree (2 * n - 2) v (branching-climbs n tree (grown .atLeastTwo) (several grown) v p h)

@@ -1,9 +1,9 @@
--- The chosen states of a tree whose nodes are distinct are an assignment of least cost.
+-- The chosen states of a clade whose nodes are distinct are an assignment of least cost.
 use mathlib.Core.Path.{_≡_, refl, sym, _∙_, ap}
 use Prim.Native.Nat.{ℕ, _+_}
 use native.Mathlib.Omega.{arith}
 use lib.IntN.{ℤ}
-use Rattle.fitting.specs.Trees.{Tree, tip, fork}
+use Rattle.fitting.specs.Clades.{Clade, tip, fork}
 use Rattle.fitting.specs.Character.{valueAt, up, chosen}
 use Rattle.fitting.proofs.Laws.Sets.{offset, offset-only}
 use Rattle.fitting.proofs.Laws.Basic.{cost, Keeps, leastCost, basic-step}
@@ -13,16 +13,16 @@ use Rattle.fitting.proofs.Laws.Downward.{downward, stateFrom, chosen-do
 
 module _ (code : ℕ → ℤ) where
   -- the assignment of the chosen states
-  unfoldable pub fit : ℤ → Tree → ℕ → ℤ
+  unfoldable pub fit : ℤ → Clade → ℕ → ℤ
   fit y t w = valueAt (code w) (chosen code y t) w
 
-  -- it is a look-up in a table made from the top down
-  pub fit-downward : (y : ℤ) (t : Tree) (w : ℕ) →
+  -- it is a look-up in values found from the top down
+  pub fit-downward : (y : ℤ) (t : Clade) (w : ℕ) →
       fit y t w ≡ valueAt (code w) (downward (stateFrom code) (stateFrom code) (stateFrom code) y t) w
   unfolding fit
-  fit-downward y t w = ap (λ table. valueAt (code w) table w) (chosen-downward code y t)
+  fit-downward y t w = ap (λ values. valueAt (code w) values w) (chosen-downward code y t)
 
-  module _ (y : ℤ) (v : ℕ) (a b : Tree) where
+  module _ (y : ℤ) (v : ℕ) (a b : Clade) where
     -- the state of a top node
     abbrev own : ℤ
     own = stateFrom code y a b
@@ -44,7 +44,7 @@ module _ (code : ℕ → ℤ) where
         ∙ sym (fit-downward own b w)
 
   -- the chosen states keep the codes of the taxa
-  pub fit-keeps : (y : ℤ) (t : Tree) → Distinct t → Keeps code (fit y t) t
+  pub fit-keeps : (y : ℤ) (t : Clade) → Distinct t → Keeps code (fit y t) t
   unfolding fit chosen valueAt
   fit-keeps y (tip v) d = refl
   fit-keeps y (fork v a b) d =
@@ -54,7 +54,7 @@ module _ (code : ℕ → ℤ) where
       )
 
   -- the chosen states cost the least
-  pub fit-cost : (y : ℤ) (t : Tree) → Distinct t → cost (fit y t) y t ≡ leastCost code t + offset y (up code t)
+  pub fit-cost : (y : ℤ) (t : Clade) → Distinct t → cost (fit y t) y t ≡ leastCost code t + offset y (up code t)
   unfolding stateFrom
   fit-cost y (tip v) d = unfold fit chosen valueAt cost leastCost up in rw (offset-only y (code v)) (omega arith)
   fit-cost y (fork v a b) d =

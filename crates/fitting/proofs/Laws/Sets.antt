@@ -9,7 +9,7 @@ use lib.Signed.{_≤ℤ_, ≤ℤ-refl}
 use Rattle.difference.specs.Rows.{apart, lower, higher}
 use Rattle.difference.proofs.Laws.Codes.{apart-sym}
 use Rattle.difference.proofs.Laws.Places.{place, apart-place, lower-place, higher-place, le-place, place-le, everywhere}
-use Rattle.fitting.specs.Sets.{Span, only, join, nearest}
+use Rattle.fitting.specs.Sets.{Span, only, join, nearestMember}
 use Rattle.fitting.proofs.Laws.Ends.{either-side, join-apart, in-join, nearest-apart}
 
 -- a set has at least one member
@@ -23,7 +23,7 @@ pub record In (s : ℤ) (a : Span) : Type 0 where
 
 -- how far a state lies from a set: its difference from the nearest member
 unfoldable pub offset : ℤ → Span → ℕ
-offset s a = apart s (nearest s a)
+offset s a = apart s (nearestMember s a)
 
 -- how far two sets lie from each other; 0 if they meet
 unfoldable pub gap : Span → Span → ℕ
@@ -43,7 +43,7 @@ module _ (K : ℕ) where
 
   -- how far a place lies from such a set
   offset-places : (s l h : ℕ) → l ≤ h → offset (place K s) (places l h) ≡ (l - s) + (s - h)
-  unfolding offset nearest
+  unfolding offset nearestMember
   offset-places s l h p = simp (lower-place, higher-place, apart-place) (omega arith)
 
   -- how far two such sets lie from each other
@@ -57,9 +57,9 @@ module _ (K : ℕ) where
   join-places l h l′ h′ = simp (lower-place, higher-place)
 
   -- the member nearest to a place
-  pub nearest-places : (s l h : ℕ) → nearest (place K s) (places l h) ≡ place K (max l (min s h))
-  unfolding nearest
-  nearest-places s l h = simp (lower-place, higher-place)
+  pub nearestMember-places : (s l h : ℕ) → nearestMember (place K s) (places l h) ≡ place K (max l (min s h))
+  unfolding nearestMember
+  nearestMember-places s l h = simp (lower-place, higher-place)
 
   -- such a set has a member only if its ends are in order
   pub nonempty-places : (l h : ℕ) → Nonempty (places l h) → l ≤ h
@@ -85,11 +85,11 @@ unfolding only
 only-nonempty s = record { ordered = ≤ℤ-refl s }
 
 -- the nearest member is a member
-pub nearest-in : (s : ℤ) (a : Span) → Nonempty a → In (nearest s a) a
-nearest-in s a = everywhere (λ z. Nonempty (span (z 1) (z 2)) → In (nearest (z 0) (span (z 1) (z 2))) (span (z 1) (z 2)))
+pub nearestMember-in : (s : ℤ) (a : Span) → Nonempty a → In (nearestMember s a) a
+nearestMember-in s a = everywhere (λ z. Nonempty (span (z 1) (z 2)) → In (nearestMember (z 0) (span (z 1) (z 2))) (span (z 1) (z 2)))
     (λ K n p.
     let q = nonempty-places K (n 1) (n 2) p in
-    rw (nearest-places K (n 0) (n 1) (n 2)) (in-places K (omega arith) (omega arith)))
+    rw (nearestMember-places K (n 0) (n 1) (n 2)) (in-places K (omega arith) (omega arith)))
     (s ∷ a .low ∷ a .high ∷ [])
 
 -- from a state to a set it is at most as far as over another state
@@ -160,15 +160,15 @@ offset-in-join s a b = everywhere
     (s ∷ a .low ∷ a .high ∷ b .low ∷ b .high ∷ [])
 
 -- the member of a set nearest to another set's low end is as far from that set as the two sets are
-pub offset-nearest : (a b : Span) → Nonempty a → Nonempty b → offset (nearest (b .low) a) b ≡ gap a b
-offset-nearest a b = everywhere
+pub offset-nearestMember : (a b : Span) → Nonempty a → Nonempty b → offset (nearestMember (b .low) a) b ≡ gap a b
+offset-nearestMember a b = everywhere
     (λ z. Nonempty (span (z 0) (z 1)) → Nonempty (span (z 2) (z 3)) →
-    offset (nearest (z 2) (span (z 0) (z 1))) (span (z 2) (z 3)) ≡ gap (span (z 0) (z 1)) (span (z 2) (z 3)))
+    offset (nearestMember (z 2) (span (z 0) (z 1))) (span (z 2) (z 3)) ≡ gap (span (z 0) (z 1)) (span (z 2) (z 3)))
     (λ K n p q.
     let p′ = nonempty-places K (n 0) (n 1) p in
     let q′ = nonempty-places K (n 2) (n 3) q in
     rw (
-      nearest-places K (n 2) (n 0) (n 1),
+      nearestMember-places K (n 2) (n 0) (n 1),
       gap-places K (n 0) (n 1) (n 2) (n 3),
       offset-places K (max (n 0) (min (n 2) (n 1))) (n 2) (n 3) q′,
     )
@@ -178,5 +178,5 @@ offset-nearest a b = everywhere
 -- a set is as far from one state's set as from the state
 pub gap-only : (s : ℤ) (a : Span) → Nonempty a → gap a (only s) ≡ offset s a
 unfolding only
-gap-only s a p = sym (offset-nearest a (only s) p (only-nonempty s)) ∙ offset-only (nearest s a) s
-    ∙ unfold offset in apart-sym (nearest s a) s
+gap-only s a p = sym (offset-nearestMember a (only s) p (only-nonempty s)) ∙ offset-only (nearestMember s a) s
+    ∙ unfold offset in apart-sym (nearestMember s a) s

@@ -1,4 +1,4 @@
--- The tree built from a branching: its tips are taxa and its forks HTUs, its links are those of the list of ancestors, its nodes are
+-- The clade built from a branching: its tips are taxa and its forks HTUs, its links are those of the tree, its nodes are
 -- distinct, and all nodes below row 1 are in it.
 use mathlib.Core.Path.{_≡_, refl, sym, _∙_, ap, ap₂, subst}
 use mathlib.Core.List.{List, [], _∷_, map, List·Memᴰ, List·Memᴰ·head, List·Memᴰ·tail}
@@ -19,20 +19,20 @@ use Rattle.lists.specs.Sums.{sumOver}
 use Rattle.branching.specs.Facts.{Grown}
 use Rattle.lists.proofs.Sums.{pick, sum-outside, sum-one}
 use Rattle.branching.proofs.Descendants.{mem-descendants}
-use Rattle.fitting.specs.Trees.{Tree, tip, fork, above, treeAt, treesBelow}
+use Rattle.fitting.specs.Clades.{Clade, tip, fork, above, cladeAt, cladesBelow}
 use Rattle.fitting.proofs.Laws.Ends.{either}
 use Rattle.fitting.proofs.Laws.Basic.{cost}
 use Rattle.fitting.proofs.Laws.Nodes.{has, Distinct, top}
-use Rattle.fitting.proofs.Laws.Walks.{sumTree, sumTree-all, climbs-unique}
+use Rattle.fitting.proofs.Laws.Walks.{sumClade, sumClade-all, climbs-unique}
 use Rattle.fitting.proofs.Laws.Branching.{Climbs, one-below, none-below, two-below, steps-up}
 
--- how often node w stands in a tree
-unfoldable pub count : ℕ → Tree → ℕ
-count w t = sumTree (λ v. pick (eqb v w) 1) t
+-- how often node w stands in a clade
+unfoldable pub count : ℕ → Clade → ℕ
+count w t = sumClade (λ v. pick (eqb v w) 1) t
 
--- a node that a tree has is counted, and one that it does not have is not
-has-count : (t : Tree) (w : ℕ) → has t w ≡ true → 1 ≤ count w t
-unfolding has count sumTree
+-- a node that a clade has is counted, and one that it does not have is not
+has-count : (t : Clade) (w : ℕ) → has t w ≡ true → 1 ≤ count w t
+unfolding has count sumClade
 has-count (tip v) w h = rw h (omega arith)
 has-count (fork v a b) w h = go (eqb v w) (has a w) (has b w) h (has-count a w) (has-count b w)
   where
@@ -42,9 +42,9 @@ has-count (fork v a b) w h = go (eqb v w) (has a w) (has b w) h (has-count a w) 
     go false true z e f g = omega (arith, f refl)
     go false false z e f g = omega (arith, g e)
 
--- a node that is counted is in the tree
-count-has : (t : Tree) (w : ℕ) → 1 ≤ count w t → has t w ≡ true
-unfolding has count sumTree
+-- a node that is counted is in the clade
+count-has : (t : Clade) (w : ℕ) → 1 ≤ count w t → has t w ≡ true
+unfolding has count sumClade
 count-has (tip v) w h = go (eqb v w) h
   where
     go : (x : Bool) → 1 ≤ pick x 1 → x ≡ true
@@ -58,16 +58,16 @@ count-has (fork v a b) w h = go (eqb v w) (has a w) (has b w) h (count-has a w) 
     go false true z l f g = refl
     go false false z l f g = g (either 1 (count w a) (λ p. absurd (true≢false (sym (f p)))) (λ p. omega arith))
 
--- a node that is counted no more than once, and once elsewhere, is not in a tree
-not-has : (t : Tree) (w : ℕ) → count w t ≡ 0 → has t w ≡ false
+-- a node that is counted no more than once, and once elsewhere, is not in a clade
+not-has : (t : Clade) (w : ℕ) → count w t ≡ 0 → has t w ≡ false
 not-has t w e = go (has t w) refl
   where
     go : (x : Bool) → has t w ≡ x → x ≡ false
     go true h = absurd (omega (arith, has-count t w h))
     go false h = refl
 
--- a tree in which no node is counted twice has distinct nodes
-pub distinct-of : (t : Tree) → ((w : ℕ) → count w t ≤ 1) → Distinct t
+-- a clade in which no node is counted twice has distinct nodes
+pub distinct-of : (t : Clade) → ((w : ℕ) → count w t ≤ 1) → Distinct t
 distinct-of (tip v) h = tt
 distinct-of (fork v a b) h = (
   record {
@@ -80,58 +80,58 @@ distinct-of (fork v a b) h = (
 )
   where
     own : (w : ℕ) → pick (eqb v w) 1 + (count w a + count w b) ≤ 1
-    own w = unfold count sumTree in h w
+    own w = unfold count sumClade in h w
 
     eq-pick : (w : ℕ) → pick (eqb w w) 1 ≡ 1
     eq-pick w = rw (eq-eqb w w refl)
 
--- how many nodes a tree has
-unfoldable pub size : Tree → ℕ
-size t = sumTree (λ v. 1) t
+-- how many nodes a clade has
+unfoldable pub size : Clade → ℕ
+size t = sumClade (λ v. 1) t
 
 -- it has at least one
-size-positive : (t : Tree) → 1 ≤ size t
-unfolding size sumTree
+size-positive : (t : Clade) → 1 ≤ size t
+unfolding size sumClade
 size-positive (tip v) = omega arith
 size-positive (fork v a b) = omega arith
 
--- a fork has one more than its descendants' trees together
-pub size-fork : (v : ℕ) (a b : Tree) → size (fork v a b) ≡ 1 + (size a + size b)
-unfolding size sumTree
+-- a fork has one more than its descendants' clades together
+pub size-fork : (v : ℕ) (a b : Clade) → size (fork v a b) ≡ 1 + (size a + size b)
+unfolding size sumClade
 size-fork v a b = refl
 
--- a tree of n taxa: tips are taxa other than row 1, forks are HTUs, and each descendant has the fork's HTU as its ancestor
-abbrev pub Made : ℕ → List ℕ → Tree → Type 0
-Made n ancestors (tip v) = (2 ≤ v) × (v ≤ n)
-Made n ancestors (fork v a b) =
-    (n < v) × (v ≤ 2 * n - 2) × (ancestor ancestors (top a) ≡ v) ×
-    (ancestor ancestors (top b) ≡ v) × Made n ancestors a × Made n ancestors b
+-- a clade of n taxa: tips are taxa other than row 1, forks are HTUs, and each descendant has the fork's HTU as its ancestor
+abbrev pub Made : ℕ → List ℕ → Clade → Type 0
+Made n tree (tip v) = (2 ≤ v) × (v ≤ n)
+Made n tree (fork v a b) =
+    (n < v) × (v ≤ 2 * n - 2) × (ancestor tree (top a) ≡ v) ×
+    (ancestor tree (top b) ≡ v) × Made n tree a × Made n tree b
 
--- the cost of such a tree is the sum, over its nodes, of the difference from their ancestors
-pub cost-sumTree : (n : ℕ) (ancestors : List ℕ) (f : ℕ → ℤ) (y : ℤ) (t : Tree) → Made n ancestors t → f (ancestor ancestors (top t)) ≡ y →
-    cost f y t ≡ sumTree (λ v. apart (f v) (f (ancestor ancestors v))) t
-unfolding cost sumTree top
-cost-sumTree n ancestors f y (tip v) m e = rw (e, apart-sym y (f v))
-cost-sumTree n ancestors f y (fork v a b) m e =
+-- the cost of such a clade is the sum, over its nodes, of the difference from their ancestors
+pub cost-sumClade : (n : ℕ) (tree : List ℕ) (f : ℕ → ℤ) (y : ℤ) (t : Clade) → Made n tree t → f (ancestor tree (top t)) ≡ y →
+    cost f y t ≡ sumClade (λ v. apart (f v) (f (ancestor tree v))) t
+unfolding cost sumClade top
+cost-sumClade n tree f y (tip v) m e = rw (e, apart-sym y (f v))
+cost-sumClade n tree f y (fork v a b) m e =
     rw (
       e,
       apart-sym y (f v),
-      cost-sumTree n ancestors f (f v) a (m .4) (ap f (m .2)),
-      cost-sumTree n ancestors f (f v) b (m .5) (ap f (m .3)),
+      cost-sumClade n tree f (f v) a (m .4) (ap f (m .2)),
+      cost-sumClade n tree f (f v) b (m .5) (ap f (m .3)),
     )
 
--- the top node of the tree of node v is v
-top-above : (v : ℕ) (ts : List Tree) → top (above v ts) ≡ v
+-- the top node of the clade of node v is v
+top-above : (v : ℕ) (ts : List Clade) → top (above v ts) ≡ v
 unfolding top above
 top-above v [] = refl
 top-above v (a ∷ []) = refl
 top-above v (a ∷ b ∷ ts) = refl
 
--- so is that of the tree to some depth
-top-treeAt : (ancestors nodes : List ℕ) (depth v : ℕ) → top (treeAt ancestors nodes depth v) ≡ v
-unfolding treeAt
-top-treeAt ancestors nodes zero v = unfold top in refl
-top-treeAt ancestors nodes (suc depth) v = top-above v (map (λ u. treeAt ancestors nodes depth u) (descendants ancestors nodes v))
+-- so is that of the clade to some depth
+top-cladeAt : (tree nodes : List ℕ) (depth v : ℕ) → top (cladeAt tree nodes depth v) ≡ v
+unfolding cladeAt
+top-cladeAt tree nodes zero v = unfold top in refl
+top-cladeAt tree nodes (suc depth) v = top-above v (map (λ u. cladeAt tree nodes depth u) (descendants tree nodes v))
 
 -- a list of no, one or two numbers
 pub none-in : (us : List ℕ) → length us ≡ 0 → us ≡ []
@@ -151,18 +151,18 @@ two-in (a ∷ []) e = absurd (omega arith)
 two-in (a ∷ b ∷ []) e = (a, b, refl)
 two-in (a ∷ b ∷ c ∷ us) e = absurd (omega arith)
 
-module _ (n : ℕ) (ancestors : List ℕ) (grown : Grown n n ancestors) where
+module _ (n : ℕ) (tree : List ℕ) (grown : Grown n n tree) where
   -- a descendant of u is a node below row 1 with ancestor u
   pub record Descends (u a : ℕ) : Type 0 where
-    pub from : ancestor ancestors a ≡ u
+    pub from : ancestor tree a ≡ u
     pub second : 2 ≤ a
     pub last : a ≤ 2 * n - 2
 
   -- a member of its list of descendants is such a node
-  pub descends-of : (u a : ℕ) → List·Memᴰ a (descendants ancestors (otherNodes n) u) → Descends u a
+  pub descends-of : (u a : ℕ) → List·Memᴰ a (descendants tree (otherNodes n) u) → Descends u a
   unfolding otherNodes
   descends-of u a m =
-      let r = mem-descendants ancestors (numbers 2 (2 * n - 3)) u a .0 m in
+      let r = mem-descendants tree (numbers 2 (2 * n - 3)) u a .0 m in
       let s = numbers-within 2 (2 * n - 3) a (r .0) in
       record { from = r .1; second = s .0; last = omega (arith, s .1, grown .atLeastTwo) }
 
@@ -170,12 +170,12 @@ module _ (n : ℕ) (ancestors : List ℕ) (grown : Grown n n ancestors) where
   pub record Two (u : ℕ) : Type 0 where
     pub left : ℕ
     pub right : ℕ
-    pub are : descendants ancestors (otherNodes n) u ≡ left ∷ right ∷ []
+    pub are : descendants tree (otherNodes n) u ≡ left ∷ right ∷ []
     pub leftDescends : Descends u left
     pub rightDescends : Descends u right
 
   -- from the list of descendants
-  unfoldable pub two-given : (u a b : ℕ) → descendants ancestors (otherNodes n) u ≡ a ∷ b ∷ [] → Two u
+  unfoldable pub two-given : (u a b : ℕ) → descendants tree (otherNodes n) u ≡ a ∷ b ∷ [] → Two u
   two-given u a b e = record {
     left = a;
     right = b;
@@ -187,41 +187,41 @@ module _ (n : ℕ) (ancestors : List ℕ) (grown : Grown n n ancestors) where
   -- every HTU has two
   pub two-of : (u : ℕ) → n < u → u ≤ 2 * n - 2 → Two u
   two-of u l h =
-      let two = two-in (descendants ancestors (otherNodes n) u) (two-below n ancestors grown u l h) in
+      let two = two-in (descendants tree (otherNodes n) u) (two-below n tree grown u l h) in
       two-given u (two .0) (two .1) (two .2)
 
-  -- the tree of a node to some depth
-  abbrev pub treeTo : ℕ → ℕ → Tree
-  treeTo depth u = treeAt ancestors (otherNodes n) depth u
+  -- the clade of a node to some depth
+  abbrev pub cladeTo : ℕ → ℕ → Clade
+  cladeTo depth u = cladeAt tree (otherNodes n) depth u
 
-  -- a taxon's tree is a tip, an HTU's the fork of its descendants' trees
-  pub treeTo-taxon : (depth u : ℕ) → 2 ≤ u → u ≤ n → treeTo (suc depth) u ≡ tip u
-  unfolding treeAt above
-  treeTo-taxon depth u p l = ap (λ us. above u (map (treeTo depth) us))
-      (none-in (descendants ancestors (otherNodes n) u) (none-below n ancestors grown u p l))
+  -- a taxon's clade is a tip, an HTU's the fork of its descendants' clades
+  pub cladeTo-taxon : (depth u : ℕ) → 2 ≤ u → u ≤ n → cladeTo (suc depth) u ≡ tip u
+  unfolding cladeAt above
+  cladeTo-taxon depth u p l = ap (λ us. above u (map (cladeTo depth) us))
+      (none-in (descendants tree (otherNodes n) u) (none-below n tree grown u p l))
 
   -- an HTU's
-  pub treeTo-htu : (depth u : ℕ) (two : Two u) → treeTo (suc depth) u ≡ fork u (treeTo depth (two .left)) (treeTo depth (two .right))
-  unfolding treeAt above
-  treeTo-htu depth u two = ap (λ us. above u (map (treeTo depth) us)) (two .are)
+  pub cladeTo-htu : (depth u : ℕ) (two : Two u) → cladeTo (suc depth) u ≡ fork u (cladeTo depth (two .left)) (cladeTo depth (two .right))
+  unfolding cladeAt above
+  cladeTo-htu depth u two = ap (λ us. above u (map (cladeTo depth) us)) (two .are)
 
-  -- the top node of a descendant's tree has the HTU as its ancestor
-  top-descends : (depth u a : ℕ) → Descends u a → ancestor ancestors (top (treeTo depth a)) ≡ u
-  top-descends depth u a d = ap (ancestor ancestors) (top-treeAt ancestors (otherNodes n) depth a) ∙ d .from
+  -- the top node of a descendant's clade has the HTU as its ancestor
+  top-descends : (depth u a : ℕ) → Descends u a → ancestor tree (top (cladeTo depth a)) ≡ u
+  top-descends depth u a d = ap (ancestor tree) (top-cladeAt tree (otherNodes n) depth a) ∙ d .from
 
-  -- the tree of a node, if it goes as far down as there are nodes
-  made : (depth u steps : ℕ) → 2 ≤ u → u ≤ 2 * n - 2 → Climbs ancestors steps u → 2 * n - 2 < steps + depth →
-      Made n ancestors (treeTo depth u)
+  -- the clade of a node, if it goes as far down as there are nodes
+  made : (depth u steps : ℕ) → 2 ≤ u → u ≤ 2 * n - 2 → Climbs tree steps u → 2 * n - 2 < steps + depth →
+      Made n tree (cladeTo depth u)
   made zero u steps p h c e =
-      let k = steps-up n ancestors grown u p h in
-      absurd (omega (arith, climbs-unique n ancestors grown steps (k .0) u c (k .2), k .1))
+      let k = steps-up n tree grown u p h in
+      absurd (omega (arith, climbs-unique n tree grown steps (k .0) u c (k .2), k .1))
   made (suc depth) u steps p h c e = either u n
-      (λ l. rw (treeTo-taxon depth u p l) (p, l))
+      (λ l. rw (cladeTo-taxon depth u p l) (p, l))
       (λ l.
       let two = two-of u l h in
       let da = two .leftDescends in
       let db = two .rightDescends in
-      rw (treeTo-htu depth u two) (
+      rw (cladeTo-htu depth u two) (
         l,
         h,
         top-descends depth u (two .left) da,
@@ -230,42 +230,42 @@ module _ (n : ℕ) (ancestors : List ℕ) (grown : Grown n n ancestors) where
         made depth (two .right) (suc steps) (db .second) (db .last) (rw (db .from) c) (omega arith),
       ))
 
-  -- it is the whole tree of the node already if it goes down as many steps as the tree has nodes
-  pub treeTo-whole : (deep depth u : ℕ) → 2 ≤ u → u ≤ 2 * n - 2 → Made n ancestors (treeTo deep u) → size (treeTo deep u) ≤ depth →
-      treeTo depth u ≡ treeTo deep u
-  unfolding treeAt
-  treeTo-whole deep zero u p h made e = absurd (omega (arith, size-positive (treeTo deep u)))
-  treeTo-whole zero (suc depth) u p h made e = treeTo-taxon depth u p (made .1)
-  treeTo-whole (suc deep) (suc depth) u p h made e = either u n
-      (λ l. treeTo-taxon depth u p l ∙ sym (treeTo-taxon deep u p l))
+  -- it is the whole clade of the node already if it goes down as many steps as the clade has nodes
+  pub cladeTo-whole : (deep depth u : ℕ) → 2 ≤ u → u ≤ 2 * n - 2 → Made n tree (cladeTo deep u) → size (cladeTo deep u) ≤ depth →
+      cladeTo depth u ≡ cladeTo deep u
+  unfolding cladeAt
+  cladeTo-whole deep zero u p h made e = absurd (omega (arith, size-positive (cladeTo deep u)))
+  cladeTo-whole zero (suc depth) u p h made e = cladeTo-taxon depth u p (made .1)
+  cladeTo-whole (suc deep) (suc depth) u p h made e = either u n
+      (λ l. cladeTo-taxon depth u p l ∙ sym (cladeTo-taxon deep u p l))
       (λ l.
       let two = two-of u l h in
       let da = two .leftDescends in
       let db = two .rightDescends in
-      let split = treeTo-htu deep u two in
-      let parts = subst (Made n ancestors) split made in
-      let room = size-fork u (treeTo deep (two .left)) (treeTo deep (two .right)) in
-      treeTo-htu depth u two
+      let split = cladeTo-htu deep u two in
+      let parts = subst (Made n tree) split made in
+      let room = size-fork u (cladeTo deep (two .left)) (cladeTo deep (two .right)) in
+      cladeTo-htu depth u two
       ∙ ap₂ (fork u)
-      (treeTo-whole deep depth (two .left) (da .second) (da .last) (parts .4) (omega (arith, ap size split, room, e)))
-      (treeTo-whole deep depth (two .right) (db .second) (db .last) (parts .5) (omega (arith, ap size split, room, e)))
+      (cladeTo-whole deep depth (two .left) (da .second) (da .last) (parts .4) (omega (arith, ap size split, room, e)))
+      (cladeTo-whole deep depth (two .right) (db .second) (db .last) (parts .5) (omega (arith, ap size split, room, e)))
       ∙ sym split)
 
--- the tree that a branching of two taxa or more is
-pub record TreeOf (n : ℕ) (ancestors : List ℕ) : Type 0 where
-  pub tree : Tree
+-- the clade that a branching of two taxa or more is
+pub record CladeOf (n : ℕ) (tree : List ℕ) : Type 0 where
+  pub clade : Clade
   pub root : ℕ
-  -- it is the tree of the one descendant of row 1, and alone hangs from row 1
-  pub ofRow1 : descendants ancestors (otherNodes n) 1 ≡ root ∷ []
-  pub fromRoot : treeAt ancestors (otherNodes n) (2 * n) root ≡ tree
-  pub below : treesBelow ancestors n ≡ tree ∷ []
-  pub fromRow1 : ancestor ancestors (top tree) ≡ 1
-  pub isMade : Made n ancestors tree
-  pub isDistinct : Distinct tree
+  -- it is the clade of the one descendant of row 1, and alone hangs from row 1
+  pub ofRow1 : descendants tree (otherNodes n) 1 ≡ root ∷ []
+  pub fromRoot : cladeAt tree (otherNodes n) (2 * n) root ≡ clade
+  pub below : cladesBelow tree n ≡ clade ∷ []
+  pub fromRow1 : ancestor tree (top clade) ≡ 1
+  pub isMade : Made n tree clade
+  pub isDistinct : Distinct clade
   -- all nodes below row 1 are in it
-  pub hasAll : (v : ℕ) → 2 ≤ v → v ≤ 2 * n - 2 → has tree v ≡ true
+  pub hasAll : (v : ℕ) → 2 ≤ v → v ≤ 2 * n - 2 → has clade v ≡ true
   -- a sum over its nodes is the sum over the nodes below row 1
-  pub sums : (q : ℕ → ℕ) → sumTree q tree ≡ sumOver q (otherNodes n)
+  pub sums : (q : ℕ → ℕ) → sumClade q clade ≡ sumOver q (otherNodes n)
 
 -- over the nodes below row 1, no node is counted twice
 count-numbers : (first number w : ℕ) → sumOver (λ v. pick (eqb v w) 1) (numbers first number) ≤ 1
@@ -275,16 +275,16 @@ count-numbers first number w = either first w
     (λ q. omega (arith, sum-one first number w (λ v. 1) p q)))
     (λ p. omega (arith, sum-outside first number w (λ v. 1) (λ r s. omega arith)))
 
--- every branching of two taxa or more has such a tree
-pub tree-of : (n : ℕ) (ancestors : List ℕ) → Grown n n ancestors → TreeOf n ancestors
-tree-of n ancestors grown = record {
-  tree = t;
+-- every branching of two taxa or more has such a clade
+pub clade-of : (n : ℕ) (tree : List ℕ) → Grown n n tree → CladeOf n tree
+clade-of n tree grown = record {
+  clade = t;
   root = one .0;
   ofRow1 = one .1;
   fromRoot = refl;
-  below = unfold treesBelow in ap (map (treeTo n ancestors grown (2 * n))) (one .1);
-  fromRow1 = top-descends n ancestors grown (2 * n) 1 (one .0) first;
-  isMade = made n ancestors grown (2 * n) (one .0) 1 (first .second) (first .last) (first .from) (omega arith);
+  below = unfold cladesBelow in ap (map (cladeTo n tree grown (2 * n))) (one .1);
+  fromRow1 = top-descends n tree grown (2 * n) 1 (one .0) first;
+  isMade = made n tree grown (2 * n) (one .0) 1 (first .second) (first .last) (first .from) (omega arith);
   isDistinct = distinct-of t (λ w. unfold count otherNodes in omega
       (arith, sums′ (λ v. pick (eqb v w) 1), count-numbers 2 (2 * n - 3) w));
   hasAll = λ v p h. count-has t v
@@ -293,19 +293,19 @@ tree-of n ancestors grown = record {
   sums = sums′;
 }
   where
-    one : (a : ℕ) × (descendants ancestors (otherNodes n) 1 ≡ a ∷ [])
-    one = one-in (descendants ancestors (otherNodes n) 1) (one-below n ancestors grown)
+    one : (a : ℕ) × (descendants tree (otherNodes n) 1 ≡ a ∷ [])
+    one = one-in (descendants tree (otherNodes n) 1) (one-below n tree grown)
 
-    t : Tree
-    t = treeTo n ancestors grown (2 * n) (one .0)
+    t : Clade
+    t = cladeTo n tree grown (2 * n) (one .0)
 
-    first : Descends n ancestors grown 1 (one .0)
-    first = descends-of n ancestors grown 1 (one .0) (subst (λ us. List·Memᴰ (one .0) us) (sym (one .1)) (List·Memᴰ·head refl))
+    first : Descends n tree grown 1 (one .0)
+    first = descends-of n tree grown 1 (one .0) (subst (λ us. List·Memᴰ (one .0) us) (sym (one .1)) (List·Memᴰ·head refl))
 
-    sums′ : (q : ℕ → ℕ) → sumTree q t ≡ sumOver q (otherNodes n)
+    sums′ : (q : ℕ → ℕ) → sumClade q t ≡ sumOver q (otherNodes n)
     sums′ q = alone
-        ∙ ap (λ us. sumOver (λ a. sumTree q (treeTo n ancestors grown (2 * n) a)) us) (sym (one .1))
-        ∙ sumTree-all n ancestors grown (2 * n) (omega arith) q
+        ∙ ap (λ us. sumOver (λ a. sumClade q (cladeTo n tree grown (2 * n) a)) us) (sym (one .1))
+        ∙ sumClade-all n tree grown (2 * n) (omega arith) q
       where
-        alone : sumTree q t ≡ sumOver (λ a. sumTree q (treeTo n ancestors grown (2 * n) a)) (one .0 ∷ [])
+        alone : sumClade q t ≡ sumOver (λ a. sumClade q (cladeTo n tree grown (2 * n) a)) (one .0 ∷ [])
         alone = unfold sumOver in omega arith

@@ -6,10 +6,10 @@ use native.Mathlib.Nat.{le-antisymm}
 use native.Mathlib.Omega.{arith}
 use lib.IntN.{ℤ}
 use Rattle.difference.specs.Rows.{apart}
-use Rattle.fitting.specs.Sets.{Span, join, nearest, inOrder, ends, middle}
+use Rattle.fitting.specs.Sets.{Span, join, nearestMember, inOrder, sixEnds, middle}
 use Rattle.fitting.proofs.Laws.Order.{spread, rising-inOrder, spread-inOrder, length-inOrder, third-to-fourth, third-to-fourth-of}
-use Rattle.fitting.proofs.Laws.Sets.{Nonempty, In, offset, gap, join-nonempty, nearest-in, offset-join, offset-in-join}
-use Rattle.fitting.proofs.Laws.Sets.{offset-nearest, offset-ends}
+use Rattle.fitting.proofs.Laws.Sets.{Nonempty, In, offset, gap, join-nonempty, nearestMember-in, offset-join, offset-in-join}
+use Rattle.fitting.proofs.Laws.Sets.{offset-nearestMember, offset-ends}
 
 -- the least sum of a state's distances from three sets
 unfoldable pub leastSum : Span → Span → Span → ℕ
@@ -23,7 +23,7 @@ module _ (a b c : Span) (nonemptyA : Nonempty a) (nonemptyB : Nonempty b) (nonem
 
   -- and some state has it
   pub leastState : ℤ
-  leastState = nearest (c .low) (join a b)
+  leastState = nearestMember (c .low) (join a b)
 
   -- this one
   pub leastSum-attained : offset leastState a + offset leastState b + offset leastState c ≡ leastSum a b c
@@ -31,15 +31,15 @@ module _ (a b c : Span) (nonemptyA : Nonempty a) (nonemptyB : Nonempty b) (nonem
   leastSum-attained =
       omega (
         arith,
-        offset-in-join (nearest (c .low) (join a b)) a b nonemptyA nonemptyB (nearest-in (c .low) (join a b) (join-nonempty a b)),
-        offset-nearest (join a b) c (join-nonempty a b) nonemptyC,
+        offset-in-join (nearestMember (c .low) (join a b)) a b nonemptyA nonemptyB (nearestMember-in (c .low) (join a b) (join-nonempty a b)),
+        offset-nearestMember (join a b) c (join-nonempty a b) nonemptyC,
       )
 
   -- the sum of the distances, counted from the six ends
-  spread-ends : (s : ℤ) →
-      spread s (inOrder (ends a b c)) ≡ 2 * (offset s a + offset s b + offset s c) +
+  spread-sixEnds : (s : ℤ) →
+      spread s (inOrder (sixEnds a b c)) ≡ 2 * (offset s a + offset s b + offset s c) +
       (apart (a .low) (a .high) + apart (b .low) (b .high) + apart (c .low) (c .high))
-  spread-ends s = spread-inOrder s (ends a b c) ∙ unfold spread in omega
+  spread-sixEnds s = spread-inOrder s (sixEnds a b c) ∙ unfold spread in omega
       (arith, offset-ends s a nonemptyA, offset-ends s b nonemptyB, offset-ends s c nonemptyC)
 
   -- a state from the third to the fourth of the six ends has the least sum
@@ -49,10 +49,10 @@ module _ (a b c : Span) (nonemptyA : Nonempty a) (nonemptyB : Nonempty b) (nonem
       le-antisymm
       (omega (
         arith,
-        third-to-fourth (inOrder (ends a b c)) (length-inOrder (ends a b c)) (rising-inOrder (ends a b c)) s leastState (i .fromLow)
+        third-to-fourth (inOrder (sixEnds a b c)) (length-inOrder (sixEnds a b c)) (rising-inOrder (sixEnds a b c)) s leastState (i .fromLow)
             (i .toHigh),
-        spread-ends s,
-        spread-ends leastState,
+        spread-sixEnds s,
+        spread-sixEnds leastState,
         leastSum-attained,
       ))
       (leastSum-least s)
@@ -62,8 +62,8 @@ module _ (a b c : Span) (nonemptyA : Nonempty a) (nonemptyB : Nonempty b) (nonem
   unfolding middle
   least-middle s e =
       let t = middle a b c .low in
-      let r = third-to-fourth-of (inOrder (ends a b c)) (length-inOrder (ends a b c)) (rising-inOrder (ends a b c)) s
-      (omega (arith, spread-ends s, spread-ends t, leastSum-least t)) in
+      let r = third-to-fourth-of (inOrder (sixEnds a b c)) (length-inOrder (sixEnds a b c)) (rising-inOrder (sixEnds a b c)) s
+      (omega (arith, spread-sixEnds s, spread-sixEnds t, leastSum-least t)) in
       record { fromLow = r .0; toHigh = r .1 }
 
 -- the least sum is the same in whichever order the sets are joined

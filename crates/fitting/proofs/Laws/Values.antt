@@ -13,15 +13,15 @@ use lib.Signed.{leZ}
 use Rattle.difference.specs.Rows.{lower}
 use Rattle.difference.proofs.Laws.Order.{lower-keeps, higher-keeps}
 use Rattle.branching.specs.Facts.{Grown}
-use Rattle.fitting.specs.Sets.{Span, only, join, nearest, insert, inOrder, ends, middle}
-use Rattle.fitting.specs.Trees.{Tree, tip, fork}
+use Rattle.fitting.specs.Sets.{Span, only, join, nearestMember, insert, inOrder, sixEnds, middle}
+use Rattle.fitting.specs.Clades.{Clade, tip, fork}
 use Rattle.fitting.specs.Character.{up, chosen, ranges}
 use Rattle.fitting.specs.Assignments.{character}
 use Rattle.fitting.specs.Fit.{chosenState, range}
 use Rattle.fitting.proofs.Laws.Ends.{either}
 use Rattle.fitting.proofs.Laws.Order.{length-inOrder}
-use Rattle.fitting.proofs.Laws.Shape.{Made, TreeOf, tree-of}
-use Rattle.fitting.proofs.Laws.OneTree.{chosenState-taxon, range-taxon, chosenState-entry, range-entry}
+use Rattle.fitting.proofs.Laws.Shape.{Made, CladeOf, clade-of}
+use Rattle.fitting.proofs.Laws.OneClade.{chosenState-taxon, range-taxon, chosenState-entry, range-entry}
 
 module _ (P : ℤ → Type 0) where
   -- of both ends of a set
@@ -38,9 +38,9 @@ module _ (P : ℤ → Type 0) where
       record { atLow = lower-keeps P _ _ start end; atHigh = higher-keeps P _ _ start end }
 
   -- of the nearest member
-  pub nearest-each : (s : ℤ) (a : Span) → P s → Each a → P (nearest s a)
-  unfolding nearest
-  nearest-each s a p q = higher-keeps P (a .low) (lower s (a .high)) (q .atLow) (lower-keeps P s (a .high) p (q .atHigh))
+  pub nearestMember-each : (s : ℤ) (a : Span) → P s → Each a → P (nearestMember s a)
+  unfolding nearestMember
+  nearestMember-each s a p q = higher-keeps P (a .low) (lower s (a .high)) (q .atLow) (lower-keeps P s (a .high) p (q .atHigh))
 
   -- of every state of a list
   abbrev All : List ℤ → Type 0
@@ -73,39 +73,39 @@ module _ (P : ℤ → Type 0) where
   pub middle-each : (a b c : Span) → Each a → Each b → Each c → Each (middle a b c)
   unfolding middle
   middle-each a b c p q r =
-      let all = inOrder-each (ends a b c) (p .atLow, (p .atHigh, (q .atLow, (q .atHigh, (r .atLow, (r .atHigh, tt)))))) in
+      let all = inOrder-each (sixEnds a b c) (p .atLow, (p .atHigh, (q .atLow, (q .atHigh, (r .atLow, (r .atHigh, tt)))))) in
       record {
-        atLow = getD-each (inOrder (ends a b c)) 2 all (omega (arith, length-inOrder (ends a b c)));
-        atHigh = getD-each (inOrder (ends a b c)) 3 all (omega (arith, length-inOrder (ends a b c)));
+        atLow = getD-each (inOrder (sixEnds a b c)) 2 all (omega (arith, length-inOrder (sixEnds a b c)));
+        atHigh = getD-each (inOrder (sixEnds a b c)) 3 all (omega (arith, length-inOrder (sixEnds a b c)));
       }
 
-  module _ (n : ℕ) (ancestors : List ℕ) (code : ℕ → ℤ) (each : (u : ℕ) → 1 ≤ u → u ≤ n → P (code u)) where
+  module _ (n : ℕ) (tree : List ℕ) (code : ℕ → ℤ) (each : (u : ℕ) → 1 ≤ u → u ≤ n → P (code u)) where
     -- of a taxon's set
     only-each : (u : ℕ) → 1 ≤ u → u ≤ n → Each (only (code u))
     unfolding only
     only-each u p q = record { atLow = each u p q; atHigh = each u p q }
 
-    -- of the set of a tree
-    pub up-each : (t : Tree) → Made n ancestors t → Each (up code t)
+    -- of the set of a clade
+    pub up-each : (t : Clade) → Made n tree t → Each (up code t)
     unfolding up
     up-each (tip v) made = only-each v (omega arith) (made .1)
     up-each (fork v a b) made = join-each (up code a) (up code b) (up-each a (made .4)) (up-each b (made .5))
 
-    -- of the chosen states of a tree
-    chosen-each : (y : ℤ) → P y → (t : Tree) → Made n ancestors t → (entry : ℕ × ℤ) → List·Memᴰ entry (chosen code y t) → P (entry .1)
+    -- of the chosen states of a clade
+    chosen-each : (y : ℤ) → P y → (t : Clade) → Made n tree t → (entry : ℕ × ℤ) → List·Memᴰ entry (chosen code y t) → P (entry .1)
     unfolding chosen up
     chosen-each y p (tip v) made entry m = absurd (List·Memᴰ·not-nil m)
     chosen-each y p (fork v a b) made entry m =
-        let s = nearest y (join (up code a) (up code b)) in
-        let q = nearest-each y (join (up code a) (up code b)) p (up-each (fork v a b) made) in
+        let s = nearestMember y (join (up code a) (up code b)) in
+        let q = nearestMember-each y (join (up code a) (up code b)) p (up-each (fork v a b) made) in
         ⊎-elim
         (λ e. subst (λ (x : ℕ × ℤ). P (x .1)) (sym e) q)
         (λ rest. ⊎-elim (chosen-each s q a (made .4) entry) (chosen-each s q b (made .5) entry)
         (List·Memᴰ·append-cases (chosen code s a) rest))
         (List·Memᴰ·cases-cons m)
 
-    -- of the ranges of a tree
-    ranges-each : (outside : Span) → Each outside → (t : Tree) → Made n ancestors t → (entry : ℕ × Span) →
+    -- of the ranges of a clade
+    ranges-each : (outside : Span) → Each outside → (t : Clade) → Made n tree t → (entry : ℕ × Span) →
         List·Memᴰ entry (ranges code outside t) → Each (entry .1)
     unfolding ranges
     ranges-each outside p (tip v) made entry m = absurd (List·Memᴰ·not-nil m)
@@ -120,30 +120,30 @@ module _ (P : ℤ → Type 0) where
         (List·Memᴰ·append-cases (ranges code (join (up code b) outside) a) rest))
         (List·Memᴰ·cases-cons m)
 
-  module _ (n : ℕ) (ancestors : List ℕ) (grown : Grown n n ancestors) (rows : List (List ℤ)) (j : ℕ)
+  module _ (n : ℕ) (tree : List ℕ) (grown : Grown n n tree) (rows : List (List ℤ)) (j : ℕ)
       (each : (u : ℕ) → 1 ≤ u → u ≤ n → P (character rows j u)) (v : ℕ) (first : 1 ≤ v) (last : v ≤ 2 * n - 2) where
     -- the codes of character j
     abbrev code : ℕ → ℤ
     code = character rows j
 
-    -- the tree of the branching
-    abbrev treeOf : TreeOf n ancestors
-    treeOf = tree-of n ancestors grown
+    -- the clade of the branching
+    abbrev cladeOf : CladeOf n tree
+    cladeOf = clade-of n tree grown
 
     -- row 1 is one of the taxa
     one-taxon : 1 ≤ n
     one-taxon = omega (arith, grown .atLeastTwo)
 
     -- of the chosen state of each node of a branching
-    pub chosenState-each : P (chosenState ancestors rows n v j)
+    pub chosenState-each : P (chosenState tree rows n v j)
     chosenState-each = either v n
-        (λ l. rw (chosenState-taxon n ancestors rows treeOf v j l) (each v first l))
-        (λ l. chosen-each n ancestors code each (code 1) (each 1 (omega arith) one-taxon) (treeOf .tree) (treeOf .isMade)
-        (v, chosenState ancestors rows n v j) (chosenState-entry n ancestors rows treeOf v j l last))
+        (λ l. rw (chosenState-taxon n tree rows cladeOf v j l) (each v first l))
+        (λ l. chosen-each n tree code each (code 1) (each 1 (omega arith) one-taxon) (cladeOf .clade) (cladeOf .isMade)
+        (v, chosenState tree rows n v j) (chosenState-entry n tree rows cladeOf v j l last))
 
     -- and of both ends of its range
-    pub range-each : Each (range ancestors rows n v j)
+    pub range-each : Each (range tree rows n v j)
     range-each = either v n
-        (λ l. rw (range-taxon n ancestors rows treeOf v j l) (only-each n ancestors code each v first l))
-        (λ l. ranges-each n ancestors code each (only (code 1)) (only-each n ancestors code each 1 (omega arith) one-taxon)
-        (treeOf .tree) (treeOf .isMade) (v, range ancestors rows n v j) (range-entry n ancestors rows treeOf v j l last))
+        (λ l. rw (range-taxon n tree rows cladeOf v j l) (only-each n tree code each v first l))
+        (λ l. ranges-each n tree code each (only (code 1)) (only-each n tree code each 1 (omega arith) one-taxon)
+        (cladeOf .clade) (cladeOf .isMade) (v, range tree rows n v j) (range-entry n tree rows cladeOf v j l last))
