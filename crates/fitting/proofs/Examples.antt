@@ -6,7 +6,7 @@ use mathlib.Core.Bool.{true, false}
 use Prim.Native.Nat.{ℕ, suc, _-_}
 use lib.IntN.{ℤ, pos, negsuc}
 use Rattle.lists.specs.Numbers.{numbers}
-use Rattle.difference.specs.Rows.{apart, lower, higher}
+use Rattle.difference.specs.Rows.{apart, plain, lower, higher}
 use Rattle.branching.specs.Ancestors.{ancestor, descendants}
 use Rattle.branching.specs.Nodes.{otherNodes}
 use Rattle.lists.specs.Sums.{sumOver}
@@ -46,8 +46,8 @@ unfoldable pub printed : List ℕ → List (List ℤ) → ℕ → ℕ → Printe
 unfolding cladesBelow cladeAt above otherNodes numbers descendants keep ancestor fittedTotal fittedLength total branchLength sumOver apart lower
     higher chosenState range valueAt chosen ranges up join nearestMember middle inOrder insert only character flatMap
 printed tree rows n m = record {
-  lengths = map (λ v. fittedLength tree rows n m v) (otherNodes n);
-  sumOfLengths = fittedTotal tree rows n m;
+  lengths = map (λ v. fittedLength (plain .step) tree rows n m v) (otherNodes n);
+  sumOfLengths = fittedTotal (plain .step) tree rows n m;
   states =
       map
       (λ v. map (λ j. range tree rows n v j .low ∷ range tree rows n v j .high ∷ chosenState tree rows n v j ∷ [])

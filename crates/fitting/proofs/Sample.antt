@@ -9,6 +9,7 @@ use lib.Signed.{_≤ℤ_}
 use Rattle.lists.specs.Numbers.{numbers}
 use Rattle.matrix.specs.Shape.{lastNode}
 use Rattle.lists.specs.Tests.{every}
+use Rattle.difference.specs.Rows.{plain}
 use Rattle.branching.specs.Ancestors.{ancestor, descendants}
 use Rattle.lists.specs.Filters.{keep}
 use Rattle.branching.specs.Nodes.{otherNodes, hasAncestor, inTree, nodesIn, taxaPlaced}
@@ -27,12 +28,12 @@ unfolding numbers lastNode every ancestor descendants hasAncestor inTree keep no
 branching-ABCD = branching-iff treeABCD 4 (omega arith) .0 refl
 
 -- every assignment has a total of at least 9
-pub at-least-9 : (states : ℕ → ℕ → ℤ) → IsAssignment rowsABCD 4 3 states → 9 ≤ total treeABCD 4 3 states
+pub at-least-9 : (states : ℕ → ℕ → ℤ) → IsAssignment rowsABCD 4 3 states → 9 ≤ total (plain .step) treeABCD 4 3 states
 unfolding printed
 at-least-9 states h = third-rival 4 3 treeABCD rowsABCD (omega arith) branching-ABCD .least states h
 
 -- #1 has a state in character 3 of an assignment of least length exactly if it is from 0 to 1
-pub #1-in-character-3 : (s : ℤ) → ((pos 0 ≤ℤ s) × (s ≤ℤ pos 1)) ↔ Occurs treeABCD rowsABCD 4 3 5 3 s
+pub #1-in-character-3 : (s : ℤ) → ((pos 0 ≤ℤ s) × (s ≤ℤ pos 1)) ↔ Occurs (plain .step) treeABCD rowsABCD 4 3 5 3 s
 unfolding printed
 #1-in-character-3 s =
     third-rival 4 3 treeABCD rowsABCD (omega arith) branching-ABCD

@@ -22,13 +22,15 @@ module _ (tree : List ℕ) (rows : List (List ℤ)) (n : ℕ) where
       let code = character rows j in
       valueAt (only (code v)) (flatMap (ranges code (only (code 1))) (cladesBelow tree n)) v
 
+-- `step j a b` is what a change between states a and b costs in character j
+module _ (step : ℕ → ℤ → ℤ → ℕ) (tree : List ℕ) (rows : List (List ℤ)) (n m : ℕ) where
   -- the fitted length of the branch from node v to its immediate ancestor, over m characters
-  unfoldable pub fittedLength : ℕ → ℕ → ℕ
-  fittedLength m v = branchLength tree m chosenState v
+  unfoldable pub fittedLength : ℕ → ℕ
+  fittedLength v = branchLength step tree m (chosenState tree rows n) v
 
   -- the fitted total: the total of the chosen states
-  unfoldable pub fittedTotal : ℕ → ℕ
-  fittedTotal m = total tree n m chosenState
+  unfoldable pub fittedTotal : ℕ
+  fittedTotal = total step tree n m (chosenState tree rows n)
 
 -- a branch is marked `+` if its fitted length is above 0, else `-`
 unfoldable pub markedPlus : ℕ → Bool

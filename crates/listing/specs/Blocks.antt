@@ -41,10 +41,10 @@ module _ (n : ℕ) (names : List (List ℕ)) where
       ∷ [])
 
   module _ (tree : List ℕ) (rows : List (List ℤ)) (m : ℕ) where
-    -- `T`: node, immediate ancestor, fitted length, mark
-    unfoldable pub fittedLine : ℕ → List ℕ
-    fittedLine v =
-        let length = fittedLength tree rows n m v in
+    -- `T`: node, immediate ancestor, fitted length, mark; `step j a b` is what a change between states a and b costs in character j
+    unfoldable pub fittedLine : (ℕ → ℤ → ℤ → ℕ) → ℕ → List ℕ
+    fittedLine step v =
+        let length = fittedLength step tree rows n m v in
         line
         (bytes "T"
         ∷ nodeName n names v
@@ -67,8 +67,8 @@ module _ (n : ℕ) (names : List (List ℕ)) where
         ∷ [])
 
     -- the `T` lines, by node number from 2
-    unfoldable pub fittedLines : List (List ℕ)
-    fittedLines = map fittedLine (otherNodes n)
+    unfoldable pub fittedLines : (ℕ → ℤ → ℤ → ℕ) → List (List ℕ)
+    fittedLines step = map (fittedLine step) (otherNodes n)
 
     -- the `H` lines, by node number and character
     unfoldable pub rangeLines : List (List ℕ)

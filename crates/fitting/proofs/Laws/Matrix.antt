@@ -11,7 +11,7 @@ use lib.IntN.{ℤ}
 use borrow.Author.Tests.{eqb-true, eq-eqb, leb-true, le-leb}
 use Rattle.lists.specs.Numbers.{numbers}
 use Rattle.lists.proofs.Numbers.{numbers-within, numbers-among}
-use Rattle.difference.specs.Rows.{apart}
+use Rattle.difference.specs.Rows.{apart, plain}
 use Rattle.branching.specs.Ancestors.{ancestor}
 use Rattle.branching.specs.Nodes.{otherNodes}
 use Rattle.lists.specs.Sums.{sumOver}
@@ -32,7 +32,7 @@ use Rattle.fitting.proofs.Laws.OneClade.{keeps-taxon, keeps-of, chosenS
 
 -- the fitted lengths of the branches add up to the fitted total
 pub lengths-total : (n m : ℕ) (tree : List ℕ) (rows : List (List ℤ)) →
-    sumOver (fittedLength tree rows n m) (otherNodes n) ≡ fittedTotal tree rows n m
+    sumOver (fittedLength (plain .step) tree rows n m) (otherNodes n) ≡ fittedTotal (plain .step) tree rows n m
 unfolding fittedTotal fittedLength total
 lengths-total n m tree rows = refl
 
@@ -42,7 +42,7 @@ module _ (n m : ℕ) (tree : List ℕ) (rows : List (List ℤ)) (several : 2 ≤
   clade = cladeOf .clade
 
   -- the total of an assignment is the sum of its characters' costs
-  total-cost : (states : ℕ → ℕ → ℤ) → total tree n m states ≡ sumOver (λ j. cost (λ v. states v j) (states 1 j) clade) (numbers 1 m)
+  total-cost : (states : ℕ → ℕ → ℤ) → total (plain .step) tree n m states ≡ sumOver (λ j. cost (λ v. states v j) (states 1 j) clade) (numbers 1 m)
   unfolding total branchLength
   total-cost states = sum-swap (λ v j. apart (states v j) (states (ancestor tree v) j)) (otherNodes n) (numbers 1 m)
       ∙ sum-same (λ j. sumOver (λ v. apart (states v j) (states (ancestor tree v) j)) (otherNodes n))
@@ -80,7 +80,7 @@ module _ (n m : ℕ) (tree : List ℕ) (rows : List (List ℤ)) (several : 2 ≤
       ∙ fit-cost (character rows j) (character rows j 1) clade (cladeOf .isDistinct)
 
   -- the fitted total is the sum of the characters' least costs
-  fittedTotal-least : fittedTotal tree rows n m ≡ sumOver leastFor (numbers 1 m)
+  fittedTotal-least : fittedTotal (plain .step) tree rows n m ≡ sumOver leastFor (numbers 1 m)
   unfolding fittedTotal
   fittedTotal-least = total-cost (chosenState tree rows n)
       ∙ sum-same (λ j. cost (λ v. chosenState tree rows n v j) (chosenState tree rows n 1 j) clade) leastFor
@@ -91,7 +91,7 @@ module _ (n m : ℕ) (tree : List ℕ) (rows : List (List ℤ)) (several : 2 ≤
   fit-assigns = record { keeps = λ v j p q r s. chosenState-taxon n tree rows cladeOf v j q }
 
   -- every assignment has at least the fitted total
-  fit-least : (states : ℕ → ℕ → ℤ) → IsAssignment rows n m states → fittedTotal tree rows n m ≤ total tree n m states
+  fit-least : (states : ℕ → ℕ → ℤ) → IsAssignment rows n m states → fittedTotal (plain .step) tree rows n m ≤ total (plain .step) tree n m states
   fit-least states assignment =
       omega (
         arith,
@@ -101,7 +101,7 @@ module _ (n m : ℕ) (tree : List ℕ) (rows : List (List ℤ)) (several : 2 ≤
       )
 
   -- in an assignment of least length every character has its least cost
-  least-each : (states : ℕ → ℕ → ℤ) → IsLeast tree rows n m states → (j : ℕ) → 1 ≤ j → j ≤ m →
+  least-each : (states : ℕ → ℕ → ℤ) → IsLeast (plain .step) tree rows n m states → (j : ℕ) → 1 ≤ j → j ≤ m →
       cost (λ v. states v j) (states 1 j) clade ≡ leastFor j
   least-each states isLeast j p q =
       let i = numbers-among 1 m j p (omega arith) in
@@ -116,7 +116,7 @@ module _ (n m : ℕ) (tree : List ℕ) (rows : List (List ℤ)) (several : 2 ≤
       (cost-least states (isLeast .assigns) j i)
 
   -- so an HTU has in it a state of its range
-  occurs-in : (v j : ℕ) (s : ℤ) → n < v → v ≤ 2 * n - 2 → 1 ≤ j → j ≤ m → Occurs tree rows n m v j s →
+  occurs-in : (v j : ℕ) (s : ℤ) → n < v → v ≤ 2 * n - 2 → 1 ≤ j → j ≤ m → Occurs (plain .step) tree rows n m v j s →
       In s (range tree rows n v j)
   occurs-in v j s p q r l occurs =
       subst (λ x. In x (range tree rows n v j)) (occurs .here)
@@ -192,13 +192,13 @@ module _ (n m : ℕ) (tree : List ℕ) (rows : List (List ℤ)) (several : 2 ≤
         go false e = chosen-cost i
 
     -- so their total is the fitted total
-    together-total : total tree n m together ≡ fittedTotal tree rows n m
+    together-total : total (plain .step) tree n m together ≡ fittedTotal (plain .step) tree rows n m
     together-total = total-cost together
         ∙ sum-same (λ i. cost (λ w. together w i) (together 1 i) clade) leastFor (numbers 1 m) (λ i m. together-cost i)
         ∙ sym fittedTotal-least
 
     -- together they are an assignment of least length
-    occurs-of : Occurs tree rows n m v j s
+    occurs-of : Occurs (plain .step) tree rows n m v j s
     occurs-of = record {
       states = together;
       isLeast = record { assigns = together-assigns; least = λ others h. omega (arith, together-total, fit-least others h) };
@@ -206,7 +206,7 @@ module _ (n m : ℕ) (tree : List ℕ) (rows : List (List ℤ)) (several : 2 ≤
     }
 
   -- the claim about the third rival
-  pub fit-is-least : FitIsLeast tree rows n m
+  pub fit-is-least : FitIsLeast (plain .step) tree rows n m
   fit-is-least = record {
     assigns = fit-assigns;
     lengths = lengths-total n m tree rows;

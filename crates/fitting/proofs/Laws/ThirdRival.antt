@@ -7,6 +7,7 @@ use native.Mathlib.Omega.{arith}
 use native.Mathlib.Decide.{decLe}
 use lib.IntN.{ℤ}
 use Rattle.lists.specs.Numbers.{numbers}
+use Rattle.difference.specs.Rows.{plain}
 use Rattle.branching.specs.Ancestors.{descendants}
 use Rattle.branching.specs.Nodes.{otherNodes}
 use Rattle.branching.specs.Facts.{Branching}
@@ -22,7 +23,7 @@ use Rattle.fitting.proofs.Laws.Shape.{clade-of}
 use Rattle.fitting.proofs.Laws.Matrix.{lengths-total, fit-is-least}
 
 -- row 1 alone: no branch, no HTU, and a total of 0
-alone : (m : ℕ) (tree : List ℕ) (rows : List (List ℤ)) → FitIsLeast tree rows 1 m
+alone : (m : ℕ) (tree : List ℕ) (rows : List (List ℤ)) → FitIsLeast (plain .step) tree rows 1 m
 alone m tree rows = record {
   assigns = record { keeps = λ v j p q r s. unfold chosenState cladesBelow otherNodes numbers descendants keep flatMap valueAt in refl };
   lengths = lengths-total 1 m tree rows;
@@ -31,9 +32,9 @@ alone m tree rows = record {
 }
 
 -- the chosen states have least length and the ranges are those of all assignments of least length, for every branching of n taxa
-pub third-rival : (n m : ℕ) (tree : List ℕ) (rows : List (List ℤ)) → 1 ≤ n → Branching n tree → FitIsLeast tree rows n m
+pub third-rival : (n m : ℕ) (tree : List ℕ) (rows : List (List ℤ)) → 1 ≤ n → Branching n tree → FitIsLeast (plain .step) tree rows n m
 third-rival n m tree rows taxa branching =
     by-cases
     (decLe 2 n)
     (λ two. fit-is-least n m tree rows two (clade-of n tree (branching-grown n tree two branching)))
-    (λ one. subst (λ k. FitIsLeast tree rows k m) (omega arith) (alone m tree rows))
+    (λ one. subst (λ k. FitIsLeast (plain .step) tree rows k m) (omega arith) (alone m tree rows))
