@@ -2,9 +2,10 @@
 pub mod Ends
 pub mod Sets
 pub mod JoinWords
-pub mod Basic
 pub mod ValuesByNode
 pub mod Nodes
+pub mod Cost
+pub mod Basic
 pub mod Agree
 pub mod Downward
 pub mod Chosen
@@ -15,7 +16,10 @@ pub mod Branching
 pub mod Walks
 pub mod Shape
 pub mod OneClade
+pub mod CharacterFit
+pub mod IntervalFit
 pub mod Matrix
+pub mod Lengths
 pub mod ThirdRival
 pub mod ByNode
 pub mod Values

@@ -5,7 +5,6 @@ use mathlib.Core.Logic.{_↔_}
 use Prim.Native.Nat.{ℕ, _≤_}
 use native.Mathlib.Omega.{arith}
 use lib.IntN.{ℤ, pos}
-use lib.Signed.{_≤ℤ_}
 use Rattle.lists.specs.Numbers.{numbers}
 use Rattle.matrix.specs.Shape.{lastNode}
 use Rattle.lists.specs.Tests.{every}
@@ -17,8 +16,10 @@ use Rattle.branching.specs.Facts.{Branching}
 use Rattle.branching.specs.Growing.{descendantCount, descendantsWanted, climbs, rowOneAlone, nodesOnly, htusIn, ancestorsIn}
 use Rattle.branching.specs.Growing.{descendantsRight, allClimb, grown, growingTree, branching}
 use Rattle.branching.proofs.Test.{branching-iff}
+use Rattle.fitting.specs.Sets.{In}
 use Rattle.fitting.specs.Assignments.{total, IsAssignment, Occurs}
 use Rattle.fitting.proofs.Examples.{rowsABCD, treeABCD, printed}
+use Rattle.fitting.proofs.Laws.Sets.{span}
 use Rattle.fitting.proofs.Laws.ThirdRival.{third-rival}
 
 -- document 01's tree is a branching
@@ -33,7 +34,7 @@ unfolding printed
 at-least-9 states h = third-rival 4 3 treeABCD rowsABCD (omega arith) branching-ABCD .least states h
 
 -- #1 has a state in character 3 of an assignment of least length exactly if it is from 0 to 1
-pub #1-in-character-3 : (s : ℤ) → ((pos 0 ≤ℤ s) × (s ≤ℤ pos 1)) ↔ Occurs (plain .step) treeABCD rowsABCD 4 3 5 3 s
+pub #1-in-character-3 : (s : ℤ) → In s (span (pos 0) (pos 1)) ↔ Occurs (plain .step) treeABCD rowsABCD 4 3 5 3 s
 unfolding printed
 #1-in-character-3 s =
     third-rival 4 3 treeABCD rowsABCD (omega arith) branching-ABCD

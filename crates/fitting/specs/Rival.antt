@@ -5,9 +5,9 @@ use mathlib.Core.Logic.{_↔_}
 use mathlib.Core.List.{List}
 use Prim.Native.Nat.{ℕ, _≤_, _<_, _*_, _-_}
 use lib.IntN.{ℤ}
-use lib.Signed.{_≤ℤ_}
 use Rattle.branching.specs.Nodes.{otherNodes}
 use Rattle.lists.specs.Sums.{sumOver}
+use Rattle.fitting.specs.Sets.{In}
 use Rattle.fitting.specs.Assignments.{total, IsAssignment, Occurs}
 use Rattle.fitting.specs.Fit.{chosenState, range, fittedLength, fittedTotal}
 
@@ -22,4 +22,4 @@ pub record FitIsLeast (step : ℕ → ℤ → ℤ → ℕ) (tree : List ℕ) (ro
   pub least : (states : ℕ → ℕ → ℤ) → IsAssignment rows n m states → fittedTotal step tree rows n m ≤ total step tree n m states
   -- a state is in the range of an HTU exactly if the HTU has it in some assignment of least length
   pub ranges : (v j : ℕ) (s : ℤ) → n < v → v ≤ 2 * n - 2 → 1 ≤ j → j ≤ m →
-      ((range tree rows n v j .low ≤ℤ s) × (s ≤ℤ range tree rows n v j .high)) ↔ Occurs step tree rows n m v j s
+      In s (range tree rows n v j) ↔ Occurs step tree rows n m v j s

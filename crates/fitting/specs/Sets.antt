@@ -3,13 +3,18 @@ use mathlib.Core.List.{List, [], _∷_}
 use mathlib.Core.Bool.{cond}
 use lib.IntN.{ℤ, pos}
 use lib.ListN.{getD}
-use lib.Signed.{leZ}
+use lib.Signed.{leZ, _≤ℤ_}
 use Rattle.difference.specs.Rows.{lower, higher}
 
 -- the states from low to high
 pub record Span : Type 0 where
   pub low : ℤ
   pub high : ℤ
+
+-- a state is a member of a set
+pub record In (state : ℤ) (a : Span) : Type 0 where
+  pub fromLow : a .low ≤ℤ state
+  pub toHigh : state ≤ℤ a .high
 
 -- a taxon's set is its code alone
 unfoldable pub only : ℤ → Span

@@ -5,9 +5,8 @@ use Prim.Native.Nat.{ℕ}
 use lib.Dec.{eqb}
 use lib.IntN.{ℤ}
 use borrow.Author.Tests.{eq-eqb}
-use Rattle.difference.specs.Rows.{apart}
 use Rattle.fitting.specs.Clades.{Clade, tip, fork}
-use Rattle.fitting.proofs.Laws.Basic.{cost, Keeps}
+use Rattle.fitting.proofs.Laws.Cost.{Keeps, cost}
 use Rattle.fitting.proofs.Laws.Nodes.{has, Parts, differ, not-left, has-top, has-left, has-right}
 
 -- two assignments agree on the nodes of a clade
@@ -23,11 +22,15 @@ pub agree-right : (f g : ℕ → ℤ) (v : ℕ) (a b : Clade) → Agree f g (for
 agree-right f g v a b h w p = h w (has-right v a b w p)
 
 -- assignments that agree on a clade give it the same cost
-pub cost-agree : (f g : ℕ → ℤ) (y : ℤ) (t : Clade) → Agree f g t → cost f y t ≡ cost g y t
+pub cost-agree : (step : ℤ → ℤ → ℕ) (f g : ℕ → ℤ) (y : ℤ) (t : Clade) → Agree f g t → cost step f y t ≡ cost step g y t
 unfolding cost has
-cost-agree f g y (tip v) h = ap (λ s. apart y s) (h v (eq-eqb v v refl))
-cost-agree f g y (fork v a b) h =
-    rw (h v (has-top v a b), cost-agree f g (g v) a (agree-left f g v a b h), cost-agree f g (g v) b (agree-right f g v a b h))
+cost-agree step f g y (tip v) h = ap (λ s. step s y) (h v (eq-eqb v v refl))
+cost-agree step f g y (fork v a b) h =
+    rw (
+      h v (has-top v a b),
+      cost-agree step f g (g v) a (agree-left f g v a b h),
+      cost-agree step f g (g v) b (agree-right f g v a b h),
+    )
 
 -- and keep the same codes
 pub keeps-agree : (code f g : ℕ → ℤ) (t : Clade) → Agree f g t → Keeps code g t → Keeps code f t

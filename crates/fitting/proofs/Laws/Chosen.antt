@@ -3,10 +3,13 @@ use mathlib.Core.Path.{_≡_, refl, sym, _∙_, ap}
 use Prim.Native.Nat.{ℕ, _+_}
 use native.Mathlib.Omega.{arith}
 use lib.IntN.{ℤ}
+use Rattle.difference.specs.Rows.{apart}
+use Rattle.difference.proofs.Laws.Codes.{apart-sym}
 use Rattle.fitting.specs.Clades.{Clade, tip, fork}
 use Rattle.fitting.specs.Character.{valueAt, up, chosen}
 use Rattle.fitting.proofs.Laws.Sets.{offset, offset-only}
-use Rattle.fitting.proofs.Laws.Basic.{cost, Keeps, leastCost, basic-step}
+use Rattle.fitting.proofs.Laws.Cost.{Keeps, cost}
+use Rattle.fitting.proofs.Laws.Basic.{leastCost, basic-step}
 use Rattle.fitting.proofs.Laws.Nodes.{Parts, Distinct}
 use Rattle.fitting.proofs.Laws.Agree.{Agree, cost-agree, keeps-agree}
 use Rattle.fitting.proofs.Laws.Downward.{downward, stateFrom, chosen-downward, downward-top, downward-left, downward-right}
@@ -54,12 +57,13 @@ module _ (code : ℕ → ℤ) where
       )
 
   -- the chosen states cost the least
-  pub fit-cost : (y : ℤ) (t : Clade) → Distinct t → cost (fit y t) y t ≡ leastCost code t + offset y (up code t)
+  pub fit-cost : (y : ℤ) (t : Clade) → Distinct t → cost apart (fit y t) y t ≡ leastCost code t + offset y (up code t)
   unfolding stateFrom
-  fit-cost y (tip v) d = unfold fit chosen valueAt cost leastCost up in rw (offset-only y (code v)) (omega arith)
+  fit-cost y (tip v) d = unfold fit chosen valueAt cost leastCost up in
+      rw (offset-only y (code v)) (omega (arith, apart-sym (code v) y))
   fit-cost y (fork v a b) d =
       let f = fit y (fork v a b) in
       let top = fit-top y v a b in
       basic-step code y v a b f top
-      (cost-agree f (fit (own y v a b) a) (f v) a (fit-left y v a b (d .0)) ∙ rw top (fit-cost (own y v a b) a (d .1)))
-      (cost-agree f (fit (own y v a b) b) (f v) b (fit-right y v a b (d .0)) ∙ rw top (fit-cost (own y v a b) b (d .2)))
+      (cost-agree apart f (fit (own y v a b) a) (f v) a (fit-left y v a b (d .0)) ∙ rw top (fit-cost (own y v a b) a (d .1)))
+      (cost-agree apart f (fit (own y v a b) b) (f v) b (fit-right y v a b (d .0)) ∙ rw top (fit-cost (own y v a b) b (d .2)))

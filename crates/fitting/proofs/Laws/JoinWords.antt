@@ -7,9 +7,9 @@ use native.Mathlib.Nat.{max-comm, min-comm}
 use native.Mathlib.Omega.{arith}
 use lib.IntN.{ℤ}
 use Rattle.difference.proofs.Laws.Places.{place, everywhere}
-use Rattle.fitting.specs.Sets.{Span, join, nearestMember}
+use Rattle.fitting.specs.Sets.{In, Span, join, nearestMember}
 use Rattle.fitting.proofs.Laws.Ends.{either}
-use Rattle.fitting.proofs.Laws.Sets.{Nonempty, In, span, join-places, nearestMember-places, nonempty-places, in-places, places-in}
+use Rattle.fitting.proofs.Laws.Sets.{Nonempty, span, join-places, nearestMember-places, nonempty-places, in-places, places-in}
 use Rattle.fitting.proofs.Laws.Sets.{nearestMember-in}
 
 -- two sets touch if they have a state in common

@@ -15,7 +15,7 @@ use Rattle.fitting.specs.Clades.{Clade, tip, fork}
 use Rattle.fitting.specs.Character.{ByNode, valueAt, chosen, ranges}
 use Rattle.fitting.specs.Assignments.{character}
 use Rattle.fitting.specs.Fit.{chosenState, range}
-use Rattle.fitting.proofs.Laws.Basic.{Keeps}
+use Rattle.fitting.proofs.Laws.Cost.{Keeps}
 use Rattle.fitting.proofs.Laws.ValuesByNode.{keys, valueAt-absent, valueAt-present}
 use Rattle.fitting.proofs.Laws.Nodes.{has, htus}
 use Rattle.fitting.proofs.Laws.Downward.{chosen-htus, ranges-htus}
@@ -65,6 +65,10 @@ pub keeps-of : (n : ℕ) (tree : List ℕ) (code f : ℕ → ℤ) (t : Clade) �
 keeps-of n tree code f (tip v) made h = h v (made .0) (made .1)
 keeps-of n tree code f (fork v a b) made h = (keeps-of n tree code f a (made .4) h, keeps-of n tree code f b (made .5) h)
 
+-- nodes n+1 to 2n-2 are the HTUs of a branching's clade
+pub htu-of : (n : ℕ) (tree : List ℕ) (cladeOf : CladeOf n tree) (v : ℕ) → n < v → v ≤ 2 * n - 2 → List·Memᴰ v (htus (cladeOf .clade))
+htu-of n tree cladeOf v p q = above-htus n tree (cladeOf .clade) (cladeOf .isMade) v p (cladeOf .hasAll v (omega arith) q)
+
 module _ (n : ℕ) (tree : List ℕ) (rows : List (List ℤ)) (cladeOf : CladeOf n tree) where
   -- the clade
   abbrev clade : Clade
@@ -89,12 +93,9 @@ module _ (n : ℕ) (tree : List ℕ) (rows : List (List ℤ)) (cladeOf : CladeOf
       (λ m. omega (arith, htus-above n tree clade (cladeOf .isMade) v (subst (λ us. List·Memᴰ v us) e m)))
 
   -- and each HTU one
-  htu-present : {A : Type 0} (otherwise : A) (values : ByNode A) → keys values ≡ htus clade → (v : ℕ) → n < v → v ≤ 2 * n - 2 →
+  htu-present : {A : Type 0} (otherwise : A) (values : ByNode A) → keys values ≡ htus clade → (v : ℕ) → List·Memᴰ v (htus clade) →
       List·Memᴰ (v, valueAt otherwise values v) values
-  htu-present otherwise values e v p q =
-      valueAt-present otherwise values v
-      (subst (λ us. List·Memᴰ v us) (sym e)
-      (above-htus n tree clade (cladeOf .isMade) v p (cladeOf .hasAll v (omega arith) q)))
+  htu-present otherwise values e v htu = valueAt-present otherwise values v (subst (λ us. List·Memᴰ v us) (sym e) htu)
 
   module _ (v j : ℕ) where
     -- the codes of character j
@@ -119,10 +120,10 @@ module _ (n : ℕ) (tree : List ℕ) (rows : List (List ℤ)) (cladeOf : CladeOf
     range-taxon h = range-clade v j ∙ taxon-absent (only (code v)) spans (ranges-htus code (only (code 1)) clade) v h
 
     -- the chosen state of an HTU is an entry of the chosen states of the clade
-    pub chosenState-entry : n < v → v ≤ 2 * n - 2 → List·Memᴰ (v, chosenState tree rows n v j) states
+    pub chosenState-entry : List·Memᴰ v (htus clade) → List·Memᴰ (v, chosenState tree rows n v j) states
     unfolding fit
-    chosenState-entry p q = rw (chosenState-fit v j) (htu-present (code v) states (chosen-htus code (code 1) clade) v p q)
+    chosenState-entry htu = rw (chosenState-fit v j) (htu-present (code v) states (chosen-htus code (code 1) clade) v htu)
 
     -- the range of an HTU is an entry of the ranges of the clade
-    pub range-entry : n < v → v ≤ 2 * n - 2 → List·Memᴰ (v, range tree rows n v j) spans
-    range-entry p q = rw (range-clade v j) (htu-present (only (code v)) spans (ranges-htus code (only (code 1)) clade) v p q)
+    pub range-entry : List·Memᴰ v (htus clade) → List·Memᴰ (v, range tree rows n v j) spans
+    range-entry htu = rw (range-clade v j) (htu-present (only (code v)) spans (ranges-htus code (only (code 1)) clade) v htu)

@@ -8,29 +8,19 @@ use native.Mathlib.Nat.{le-antisymm}
 use native.Mathlib.Omega.{arith}
 use lib.IntN.{ℤ}
 use Rattle.difference.specs.Rows.{apart}
-use Rattle.difference.proofs.Laws.Codes.{apart-sym, apart-self}
-use Rattle.fitting.specs.Sets.{Span, only, join, nearestMember, middle}
+use Rattle.difference.proofs.Laws.Codes.{apart-self}
+use Rattle.fitting.specs.Sets.{In, Span, only, join, nearestMember, middle}
 use Rattle.fitting.specs.Clades.{Clade, tip, fork}
 use Rattle.fitting.specs.Character.{up, ranges}
-use Rattle.fitting.proofs.Laws.Sets.{Nonempty, In, offset, gap, gap-comm, gap-only, only-nonempty, join-nonempty, nearestMember-in}
+use Rattle.fitting.proofs.Laws.Sets.{Nonempty, offset, gap, gap-comm, gap-only, only-nonempty, join-nonempty, nearestMember-in}
 use Rattle.fitting.proofs.Laws.Sets.{offset-triangle, offset-only, offset-join, offset-in-join}
 use Rattle.fitting.proofs.Laws.Three.{leastSum, leastSum-least, leastSum-turn, leastSum-swap, middle-least, least-middle}
-use Rattle.fitting.proofs.Laws.Basic.{cost, Keeps, leastCost, up-nonempty, basic-lemma}
+use Rattle.fitting.proofs.Laws.Cost.{Keeps, cost, within, cost-top}
+use Rattle.fitting.proofs.Laws.Basic.{leastCost, up-nonempty, basic-lemma}
 use Rattle.fitting.proofs.Laws.Nodes.{has, Parts, Distinct, parts-swap, htus-has, top}
 use Rattle.fitting.proofs.Laws.Agree.{Agree, cost-agree, keeps-agree, combined, combined-top, combined-left, combined-right}
 use Rattle.fitting.proofs.Laws.Downward.{ranges-htus}
 use Rattle.fitting.proofs.Laws.Chosen.{fit, fit-keeps, fit-cost}
-
--- the cost of a clade under an assignment, without the branch above it
-unfoldable pub within : (ℕ → ℤ) → Clade → ℕ
-within f (tip v) = 0
-within f (fork v a b) = cost f (f v) a + cost f (f v) b
-
--- with that branch it is the cost
-pub cost-top : (f : ℕ → ℤ) (y : ℤ) (t : Clade) → cost f y t ≡ apart y (f (top t)) + within f t
-unfolding cost top within
-cost-top f y (tip v) = omega arith
-cost-top f y (fork v a b) = refl
 
 module _ (code : ℕ → ℤ) where
   -- the least cost of a clade together with its top node's distance from what is outside
@@ -39,7 +29,7 @@ module _ (code : ℕ → ℤ) where
 
   -- the cost of a clade under an assignment, together with that distance
   unfoldable pub costWith : Span → (ℕ → ℤ) → Clade → ℕ
-  costWith outside f t = offset (f (top t)) outside + within f t
+  costWith outside f t = offset (f (top t)) outside + within apart f t
 
   -- in a fork it is the least sum of distances from the two descendants' sets and the outside
   leastWith-fork : (outside : Span) (v : ℕ) (a b : Clade) →
@@ -48,9 +38,9 @@ module _ (code : ℕ → ℤ) where
   leastWith-fork outside v a b = omega arith
 
   -- below row 1 of state y they are the cost and the least cost with the branch to row 1
-  pub cost-row1 : (f : ℕ → ℤ) (y : ℤ) (t : Clade) → cost f y t ≡ costWith (only y) f t
+  pub cost-row1 : (f : ℕ → ℤ) (y : ℤ) (t : Clade) → cost apart f y t ≡ costWith (only y) f t
   unfolding costWith
-  cost-row1 f y t = omega (arith, cost-top f y t, offset-only (f (top t)) y, apart-sym y (f (top t)))
+  cost-row1 f y t = omega (arith, cost-top apart f y t, offset-only (f (top t)) y)
 
   -- and the least cost
   pub least-row1 : (y : ℤ) (t : Clade) → leastCost code t + offset y (up code t) ≡ leastWith (only y) t
@@ -115,11 +105,10 @@ module _ (code : ℕ → ℤ) where
         omega (
           arith,
           leastWith-side,
-          cost-top f (f v) a,
+          cost-top apart f (f v) a,
           basic-lemma code f (f v) b (k .1),
           offset-join (f v) (up code b) outside (up-nonempty code b) nonempty,
           offset-triangle (f (top a)) (f v) j js,
-          apart-sym (f (top a)) (f v),
         ))
         (costWith-least j js f a (k .0))
 
@@ -174,9 +163,9 @@ module _ (code : ℕ → ℤ) where
           rw own
           (omega (
             arith,
-            cost-agree f (fit code s a) s a left,
+            cost-agree apart f (fit code s a) s a left,
             fit-cost code s a da,
-            cost-agree f (fit code s b) s b right,
+            cost-agree apart f (fit code s b) s b right,
             fit-cost code s b db,
             leastWith-fork outside v a b,
             middle-least (up code a) (up code b) outside (up-nonempty code a) (up-nonempty code b) nonempty s i,
@@ -207,9 +196,9 @@ module _ (code : ℕ → ℤ) where
           rw own
           (omega (
             arith,
-            cost-agree f g u a left,
-            cost-top g u a,
-            cost-agree f (fit code u b) u b right,
+            cost-agree apart f g u a left,
+            cost-top apart g u a,
+            cost-agree apart f (fit code u b) u b right,
             fit-cost code u b db,
             leastWith-side outside nonempty v a b,
             attains .isLeast,
@@ -228,8 +217,8 @@ module _ (code : ℕ → ℤ) where
         member : In u (join (up code b) outside)
         member = nearestMember-in (g (top a)) (join (up code b) outside) (join-nonempty (up code b) outside)
 
-        distance : apart u (g (top a)) ≡ offset (g (top a)) (join (up code b) outside)
-        distance = unfold offset in apart-sym u (g (top a))
+        distance : apart (g (top a)) u ≡ offset (g (top a)) (join (up code b) outside)
+        distance = unfold offset in refl
 
         f : ℕ → ℤ
         f = combined v u a g (fit code u b)

@@ -9,17 +9,12 @@ use lib.Signed.{_≤ℤ_, ≤ℤ-refl}
 use Rattle.difference.specs.Rows.{apart, lower, higher}
 use Rattle.difference.proofs.Laws.Codes.{apart-sym}
 use Rattle.difference.proofs.Laws.Places.{place, apart-place, lower-place, higher-place, le-place, place-le, everywhere}
-use Rattle.fitting.specs.Sets.{Span, only, join, nearestMember}
+use Rattle.fitting.specs.Sets.{Span, In, only, join, nearestMember}
 use Rattle.fitting.proofs.Laws.Ends.{either-side, join-apart, in-join, nearest-apart}
 
 -- a set has at least one member
 pub record Nonempty (a : Span) : Type 0 where
   pub ordered : a .low ≤ℤ a .high
-
--- a state is a member of a set
-pub record In (s : ℤ) (a : Span) : Type 0 where
-  pub fromLow : a .low ≤ℤ s
-  pub toHigh : s ≤ℤ a .high
 
 -- how far a state lies from a set: its difference from the nearest member
 unfoldable pub offset : ℤ → Span → ℕ

@@ -11,8 +11,6 @@ use lib.ListN.{length}
 use borrow.Author.Tests.{eq-eqb}
 use Rattle.lists.specs.Numbers.{numbers}
 use Rattle.lists.proofs.Numbers.{numbers-within}
-use Rattle.difference.specs.Rows.{apart}
-use Rattle.difference.proofs.Laws.Codes.{apart-sym}
 use Rattle.branching.specs.Ancestors.{ancestor, descendants}
 use Rattle.branching.specs.Nodes.{otherNodes}
 use Rattle.lists.specs.Sums.{sumOver}
@@ -21,7 +19,7 @@ use Rattle.lists.proofs.Sums.{pick, sum-outside, sum-one}
 use Rattle.branching.proofs.Descendants.{mem-descendants}
 use Rattle.fitting.specs.Clades.{Clade, tip, fork, above, cladeAt, cladesBelow}
 use Rattle.fitting.proofs.Laws.Ends.{either}
-use Rattle.fitting.proofs.Laws.Basic.{cost}
+use Rattle.fitting.proofs.Laws.Cost.{cost}
 use Rattle.fitting.proofs.Laws.Nodes.{has, Distinct, top}
 use Rattle.fitting.proofs.Laws.Walks.{sumClade, sumClade-all, climbs-unique}
 use Rattle.fitting.proofs.Laws.Branching.{Climbs, one-below, none-below, two-below, steps-up}
@@ -107,17 +105,16 @@ Made n tree (fork v a b) =
     (n < v) × (v ≤ 2 * n - 2) × (ancestor tree (top a) ≡ v) ×
     (ancestor tree (top b) ≡ v) × Made n tree a × Made n tree b
 
--- the cost of such a clade is the sum, over its nodes, of the difference from their ancestors
-pub cost-sumClade : (n : ℕ) (tree : List ℕ) (f : ℕ → ℤ) (y : ℤ) (t : Clade) → Made n tree t → f (ancestor tree (top t)) ≡ y →
-    cost f y t ≡ sumClade (λ v. apart (f v) (f (ancestor tree v))) t
+-- the cost of such a clade is the sum, over its nodes, of what the steps from their ancestors cost
+pub cost-sumClade : (step : ℤ → ℤ → ℕ) (n : ℕ) (tree : List ℕ) (f : ℕ → ℤ) (y : ℤ) (t : Clade) → Made n tree t → f (ancestor tree (top t)) ≡ y →
+    cost step f y t ≡ sumClade (λ v. step (f v) (f (ancestor tree v))) t
 unfolding cost sumClade top
-cost-sumClade n tree f y (tip v) m e = rw (e, apart-sym y (f v))
-cost-sumClade n tree f y (fork v a b) m e =
+cost-sumClade step n tree f y (tip v) m e = rw e
+cost-sumClade step n tree f y (fork v a b) m e =
     rw (
       e,
-      apart-sym y (f v),
-      cost-sumClade n tree f (f v) a (m .4) (ap f (m .2)),
-      cost-sumClade n tree f (f v) b (m .5) (ap f (m .3)),
+      cost-sumClade step n tree f (f v) a (m .4) (ap f (m .2)),
+      cost-sumClade step n tree f (f v) b (m .5) (ap f (m .3)),
     )
 
 -- the top node of the clade of node v is v

@@ -20,13 +20,14 @@ use Rattle.fitting.specs.Assignments.{total}
 use Rattle.fitting.specs.Fit.{chosenState, fittedTotal}
 use Rattle.fitting.specs.Rival.{FitIsLeast}
 use Rattle.fitting.proofs.Laws.Shape.{clade-of}
+use Rattle.fitting.proofs.Laws.IntervalFit.{interval-fit}
 use Rattle.fitting.proofs.Laws.Matrix.{lengths-total, fit-is-least}
 
 -- row 1 alone: no branch, no HTU, and a total of 0
-alone : (m : ℕ) (tree : List ℕ) (rows : List (List ℤ)) → FitIsLeast (plain .step) tree rows 1 m
-alone m tree rows = record {
+alone : (step : ℕ → ℤ → ℤ → ℕ) (m : ℕ) (tree : List ℕ) (rows : List (List ℤ)) → FitIsLeast step tree rows 1 m
+alone step m tree rows = record {
   assigns = record { keeps = λ v j p q r s. unfold chosenState cladesBelow otherNodes numbers descendants keep flatMap valueAt in refl };
-  lengths = lengths-total 1 m tree rows;
+  lengths = lengths-total step 1 m tree rows;
   least = λ states h. unfold fittedTotal total otherNodes numbers sumOver in omega arith;
   ranges = λ v j s p q r l. absurd (omega arith);
 }
@@ -36,5 +37,7 @@ pub third-rival : (n m : ℕ) (tree : List ℕ) (rows : List (List ℤ)) → 1 �
 third-rival n m tree rows taxa branching =
     by-cases
     (decLe 2 n)
-    (λ two. fit-is-least n m tree rows two (clade-of n tree (branching-grown n tree two branching)))
-    (λ one. subst (λ k. FitIsLeast (plain .step) tree rows k m) (omega arith) (alone m tree rows))
+    (λ two.
+    let clade = clade-of n tree (branching-grown n tree two branching) in
+    fit-is-least (plain .step) n m tree rows two clade (λ j r l. interval-fit n tree rows taxa clade j))
+    (λ one. subst (λ k. FitIsLeast (plain .step) tree rows k m) (omega arith) (alone (plain .step) m tree rows))

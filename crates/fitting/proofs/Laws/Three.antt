@@ -6,9 +6,9 @@ use native.Mathlib.Nat.{le-antisymm}
 use native.Mathlib.Omega.{arith}
 use lib.IntN.{ℤ}
 use Rattle.difference.specs.Rows.{apart}
-use Rattle.fitting.specs.Sets.{Span, join, nearestMember, inOrder, sixEnds, middle}
+use Rattle.fitting.specs.Sets.{In, Span, join, nearestMember, inOrder, sixEnds, middle}
 use Rattle.fitting.proofs.Laws.Order.{spread, rising-inOrder, spread-inOrder, length-inOrder, third-to-fourth, third-to-fourth-of}
-use Rattle.fitting.proofs.Laws.Sets.{Nonempty, In, offset, gap, join-nonempty, nearestMember-in, offset-join, offset-in-join}
+use Rattle.fitting.proofs.Laws.Sets.{Nonempty, offset, gap, join-nonempty, nearestMember-in, offset-join, offset-in-join}
 use Rattle.fitting.proofs.Laws.Sets.{offset-nearestMember, offset-ends}
 
 -- the least sum of a state's distances from three sets

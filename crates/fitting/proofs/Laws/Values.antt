@@ -21,7 +21,7 @@ use Rattle.fitting.specs.Fit.{chosenState, range}
 use Rattle.fitting.proofs.Laws.Ends.{either}
 use Rattle.fitting.proofs.Laws.Order.{length-inOrder}
 use Rattle.fitting.proofs.Laws.Shape.{Made, CladeOf, clade-of}
-use Rattle.fitting.proofs.Laws.OneClade.{chosenState-taxon, range-taxon, chosenState-entry, range-entry}
+use Rattle.fitting.proofs.Laws.OneClade.{htu-of, chosenState-taxon, range-taxon, chosenState-entry, range-entry}
 
 module _ (P : ℤ → Type 0) where
   -- of both ends of a set
@@ -139,11 +139,11 @@ module _ (P : ℤ → Type 0) where
     chosenState-each = either v n
         (λ l. rw (chosenState-taxon n tree rows cladeOf v j l) (each v first l))
         (λ l. chosen-each n tree code each (code 1) (each 1 (omega arith) one-taxon) (cladeOf .clade) (cladeOf .isMade)
-        (v, chosenState tree rows n v j) (chosenState-entry n tree rows cladeOf v j l last))
+        (v, chosenState tree rows n v j) (chosenState-entry n tree rows cladeOf v j (htu-of n tree cladeOf v l last)))
 
     -- and of both ends of its range
     pub range-each : Each (range tree rows n v j)
     range-each = either v n
         (λ l. rw (range-taxon n tree rows cladeOf v j l) (only-each n tree code each v first l))
         (λ l. ranges-each n tree code each (only (code 1)) (only-each n tree code each 1 (omega arith) one-taxon)
-        (cladeOf .clade) (cladeOf .isMade) (v, range tree rows n v j) (range-entry n tree rows cladeOf v j l last))
+        (cladeOf .clade) (cladeOf .isMade) (v, range tree rows n v j) (range-entry n tree rows cladeOf v j (htu-of n tree cladeOf v l last)))
