@@ -32,6 +32,6 @@ module _ (step : ℕ → ℤ → ℤ → ℕ) (tree : List ℕ) (rows : List (Li
   unfoldable pub fittedTotal : ℕ
   fittedTotal = total step tree n m (chosenState tree rows n)
 
--- a branch is marked `+` if its fitted length is above 0, else `-`
-unfoldable pub markedPlus : ℕ → Bool
-markedPlus length = ltb 0 length
+  -- the branch from node v to its immediate ancestor is marked `+` if its fitted length is above 0, else `-`
+  unfoldable pub marked : ℕ → Bool
+  marked v = ltb 0 (fittedLength v)

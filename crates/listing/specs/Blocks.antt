@@ -11,7 +11,7 @@ use Rattle.prim.specs.Network.{Link}
 use Rattle.wagner.specs.declared.placement.Placement.{Placement}
 use Rattle.branching.specs.Ancestors.{ancestor}
 use Rattle.branching.specs.Nodes.{otherNodes}
-use Rattle.fitting.specs.Fit.{chosenState, range, fittedLength, markedPlus}
+use Rattle.fitting.specs.Fit.{chosenState, range, fittedLength, marked}
 use Rattle.listing.specs.Lines.{line, nodeName}
 
 -- the line of a block's total, with the letter that begins it
@@ -44,13 +44,12 @@ module _ (n : ℕ) (names : List (List ℕ)) where
     -- `T`: node, immediate ancestor, fitted length, mark; `step j a b` is what a change between states a and b costs in character j
     unfoldable pub fittedLine : (ℕ → ℤ → ℤ → ℕ) → ℕ → List ℕ
     fittedLine step v =
-        let length = fittedLength step tree rows n m v in
         line
         (bytes "T"
         ∷ nodeName n names v
         ∷ nodeName n names (ancestor tree v)
-        ∷ digitsOf length
-        ∷ mark (markedPlus length)
+        ∷ digitsOf (fittedLength step tree rows n m v)
+        ∷ mark (marked step tree rows n m v)
         ∷ [])
 
     -- `H`: HTU, character, lowest and highest state, chosen state
