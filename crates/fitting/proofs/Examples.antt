@@ -15,7 +15,7 @@ use Rattle.fitting.specs.Clades.{tip, fork, above, cladeAt, cladesBelow}
 use Rattle.fitting.specs.Character.{valueAt, up, chosen, ranges}
 use Rattle.fitting.specs.Assignments.{character, branchLength, total}
 use Rattle.fitting.specs.Fit.{chosenState, range, fittedLength, fittedTotal, marked}
-use Rattle.fitting.proofs.Laws.Sets.{span}
+use Rattle.fitting.proofs.Sets.Distance.{span}
 
 -- [0,1] with [2,2] gives [1,2]
 pub join-apart : join (span (pos 0) (pos 1)) (span (pos 2) (pos 2)) ≡ span (pos 1) (pos 2)

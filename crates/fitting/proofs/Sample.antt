@@ -1,5 +1,5 @@
--- The claim about the third rival at document 01's example: its tree is a branching, every assignment has a total of at least
--- 9, and #1 has state 0 or 1, and no other, in character 3 of an assignment of least length.
+-- The claim about the third rival at document 01's example: its tree is a branching, every assignment has a total of at least 9,
+-- and in character 3 of an assignment of least length #1 has state 0 or 1, and no other.
 use mathlib.Core.Path.{refl}
 use mathlib.Core.Logic.{_↔_}
 use Prim.Native.Nat.{ℕ, _≤_}
@@ -19,8 +19,8 @@ use Rattle.branching.proofs.Test.{branching-iff}
 use Rattle.fitting.specs.Sets.{In}
 use Rattle.fitting.specs.Assignments.{total, IsAssignment, Occurs}
 use Rattle.fitting.proofs.Examples.{rowsABCD, treeABCD, printed}
-use Rattle.fitting.proofs.Laws.Sets.{span}
-use Rattle.fitting.proofs.Laws.ThirdRival.{third-rival}
+use Rattle.fitting.proofs.Sets.Distance.{span}
+use Rattle.fitting.proofs.Matrix.ThirdRival.{third-rival}
 
 -- document 01's tree is a branching
 branching-ABCD : Branching 4 treeABCD

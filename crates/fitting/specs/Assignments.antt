@@ -1,6 +1,6 @@
 -- Assignments of states to the HTUs of a branching (document 01, "The three rivals"): what they are, their totals, and least length.
--- `rows` holds the taxa's codes, row by row; `states v j` is the state of node v in character j; `step j a b` is what a change between
--- states a and b costs in character j.
+-- `rows` holds the taxa's codes, row by row; `states v j` is the state of node v in character j;
+-- `step j a b` is what a change between states a and b costs in character j.
 use mathlib.Core.Path.{_≡_}
 use mathlib.Core.List.{List, []}
 use Prim.Native.Nat.{ℕ, _-_, _≤_}

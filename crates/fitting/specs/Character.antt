@@ -32,8 +32,8 @@ module _ (code : ℕ → ℤ) where
       let own = nearestMember state (join (up a) (up b)) in
       (v, own) ∷ (chosen own a ++ chosen own b)
 
-  -- the range of each HTU, from the sets of its two descendants and `outside`, the set of all nodes that are not in the clade: row 1's
-  -- code if the clade hangs from row 1, else the join of its sister's set and the `outside` of its ancestor's clade
+  -- the range of each HTU, from the sets of its two descendants and `outside`, the set of all nodes that are not in the clade:
+  -- row 1's code if the clade hangs from row 1, else the join of its sister's set and the `outside` of its ancestor's clade
   unfoldable pub ranges : Span → Clade → ByNode Span
   ranges outside (tip v) = []
   ranges outside (fork v a b) =

@@ -1,5 +1,5 @@
--- The claim about the third rival (document 01, "The three rivals"): chosen states have least length, and the ranges are those of all
--- assignments of least length.
+-- The claim about the third rival (document 01, "The three rivals"): the chosen states have least length,
+-- and the ranges are those of all assignments of least length.
 use mathlib.Core.Path.{_≡_}
 use mathlib.Core.Logic.{_↔_}
 use mathlib.Core.List.{List}
@@ -11,8 +11,8 @@ use Rattle.fitting.specs.Sets.{In}
 use Rattle.fitting.specs.Assignments.{total, IsAssignment, Occurs}
 use Rattle.fitting.specs.Fit.{chosenState, range, fittedLength, fittedTotal}
 
--- the claim, for a branching of n taxa and the m characters of their rows, where `step j a b` is what a change between states a and b costs
--- in character j
+-- the claim, for a branching of n taxa and the m characters of their rows;
+-- `step j a b` is what a change between states a and b costs in character j
 pub record FitIsLeast (step : ℕ → ℤ → ℤ → ℕ) (tree : List ℕ) (rows : List (List ℤ)) (n m : ℕ) : Type 0 where
   -- our chosen states are an assignment
   pub assigns : IsAssignment rows n m (chosenState tree rows n)

@@ -19,7 +19,7 @@ use Rattle.wagner.proofs.Build.{wagner-branching}
 use Rattle.branching.proofs.Test.{branching-iff}
 use Rattle.wagner.specs.Nodes.{nodeDifference}
 use Rattle.fitting.specs.Rival.{FitIsLeast}
-use Rattle.fitting.proofs.Laws.ThirdRival.{third-rival}
+use Rattle.fitting.proofs.Matrix.ThirdRival.{third-rival}
 use Rattle.rivals.specs.Accepted.{Accepted}
 use Rattle.rivals.specs.Demand.{NoRivalDoesBetter}
 use Rattle.rivals.proofs.Rows.{accepted-rows}

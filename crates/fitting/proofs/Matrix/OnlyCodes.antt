@@ -1,5 +1,5 @@
--- Fitting makes no new values: what holds of the codes of the n taxa of a branching in one character holds of both ends of every set, of
--- the chosen state of every node and of both ends of its range.
+-- Fitting makes no new values: what holds of the codes of the n taxa of a branching in one character holds of both ends of every set,
+-- of the chosen state of every node, and of both ends of its range.
 use mathlib.Core.Path.{sym, subst}
 use mathlib.Core.Logic.{⊎-elim}
 use mathlib.Core.List.{List, [], _∷_, List·Memᴰ, List·Memᴰ·not-nil, List·Memᴰ·cases-cons}
@@ -18,18 +18,19 @@ use Rattle.fitting.specs.Clades.{Clade, tip, fork}
 use Rattle.fitting.specs.Character.{up, chosen, ranges}
 use Rattle.fitting.specs.Assignments.{character}
 use Rattle.fitting.specs.Fit.{chosenState, range}
-use Rattle.fitting.proofs.Laws.Ends.{either}
-use Rattle.fitting.proofs.Laws.Order.{length-inOrder}
-use Rattle.fitting.proofs.Laws.Shape.{Made, CladeOf, clade-of}
-use Rattle.fitting.proofs.Laws.OneClade.{htu-of, chosenState-taxon, range-taxon, chosenState-entry, range-entry}
+use Rattle.fitting.proofs.Cases.{either}
+use Rattle.fitting.proofs.Sets.Order.{length-inOrder}
+use Rattle.fitting.proofs.Clades.Built.{Made, CladeOf, clade-of}
+use Rattle.fitting.proofs.Clades.Taxa.{htu-of}
+use Rattle.fitting.proofs.Matrix.OneClade.{chosenState-taxon, range-taxon, chosenState-entry, range-entry}
 
 module _ (P : ℤ → Type 0) where
-  -- of both ends of a set
+  -- it holds of both ends of a set
   pub record Each (a : Span) : Type 0 where
     pub atLow : P (a .low)
     pub atHigh : P (a .high)
 
-  -- of a join
+  -- it holds of the join of two sets
   pub join-each : (a b : Span) → Each a → Each b → Each (join a b)
   unfolding join
   join-each a b p q =
@@ -37,17 +38,17 @@ module _ (P : ℤ → Type 0) where
       let end = lower-keeps P (a .high) (b .high) (p .atHigh) (q .atHigh) in
       record { atLow = lower-keeps P _ _ start end; atHigh = higher-keeps P _ _ start end }
 
-  -- of the nearest member
+  -- it holds of the member of a set nearest to a state
   pub nearestMember-each : (s : ℤ) (a : Span) → P s → Each a → P (nearestMember s a)
   unfolding nearestMember
   nearestMember-each s a p q = higher-keeps P (a .low) (lower s (a .high)) (q .atLow) (lower-keeps P s (a .high) p (q .atHigh))
 
-  -- of every state of a list
+  -- it holds of every state of a list
   abbrev All : List ℤ → Type 0
   All [] = Unit {0}
   All (x ∷ xs) = P x × All xs
 
-  -- with one more written in
+  -- it holds of every state of a list with one more written in
   insert-each : (x : ℤ) (ys : List ℤ) → P x → All ys → All (insert x ys)
   unfolding insert
   insert-each x [] p q = (p, tt)
@@ -57,19 +58,19 @@ module _ (P : ℤ → Type 0) where
       go true later = (p, q)
       go false later = (q .0, later)
 
-  -- put in order
+  -- it holds of every state of a list put in order
   inOrder-each : (xs : List ℤ) → All xs → All (inOrder xs)
   unfolding inOrder
   inOrder-each [] q = tt
   inOrder-each (x ∷ xs) q = insert-each x (inOrder xs) (q .0) (inOrder-each xs (q .1))
 
-  -- at each place
+  -- it holds of the state at each place of a list
   getD-each : (xs : List ℤ) (i : ℕ) → All xs → i < length xs → P (getD xs i (pos 0))
   getD-each [] i q l = absurd (omega arith)
   getD-each (x ∷ xs) zero q l = q .0
   getD-each (x ∷ xs) (suc i) q l = getD-each xs i (q .1) (omega arith)
 
-  -- of the third and the fourth of six ends
+  -- it holds of the middle of three sets
   pub middle-each : (a b c : Span) → Each a → Each b → Each c → Each (middle a b c)
   unfolding middle
   middle-each a b c p q r =
@@ -80,18 +81,18 @@ module _ (P : ℤ → Type 0) where
       }
 
   module _ (n : ℕ) (tree : List ℕ) (code : ℕ → ℤ) (each : (u : ℕ) → 1 ≤ u → u ≤ n → P (code u)) where
-    -- of a taxon's set
+    -- it holds of a taxon's set
     only-each : (u : ℕ) → 1 ≤ u → u ≤ n → Each (only (code u))
     unfolding only
     only-each u p q = record { atLow = each u p q; atHigh = each u p q }
 
-    -- of the set of a clade
+    -- it holds of the set of a clade
     pub up-each : (t : Clade) → Made n tree t → Each (up code t)
     unfolding up
     up-each (tip v) made = only-each v (omega arith) (made .1)
     up-each (fork v a b) made = join-each (up code a) (up code b) (up-each a (made .4)) (up-each b (made .5))
 
-    -- of the chosen states of a clade
+    -- it holds of the chosen states of a clade
     chosen-each : (y : ℤ) → P y → (t : Clade) → Made n tree t → (entry : ℕ × ℤ) → List·Memᴰ entry (chosen code y t) → P (entry .1)
     unfolding chosen up
     chosen-each y p (tip v) made entry m = absurd (List·Memᴰ·not-nil m)
@@ -104,7 +105,7 @@ module _ (P : ℤ → Type 0) where
         (List·Memᴰ·append-cases (chosen code s a) rest))
         (List·Memᴰ·cases-cons m)
 
-    -- of the ranges of a clade
+    -- it holds of the ranges of a clade
     ranges-each : (outside : Span) → Each outside → (t : Clade) → Made n tree t → (entry : ℕ × Span) →
         List·Memᴰ entry (ranges code outside t) → Each (entry .1)
     unfolding ranges
@@ -134,14 +135,14 @@ module _ (P : ℤ → Type 0) where
     one-taxon : 1 ≤ n
     one-taxon = omega (arith, grown .atLeastTwo)
 
-    -- of the chosen state of each node of a branching
+    -- it holds of the chosen state of each node of a branching
     pub chosenState-each : P (chosenState tree rows n v j)
     chosenState-each = either v n
         (λ l. rw (chosenState-taxon n tree rows cladeOf v j l) (each v first l))
         (λ l. chosen-each n tree code each (code 1) (each 1 (omega arith) one-taxon) (cladeOf .clade) (cladeOf .isMade)
         (v, chosenState tree rows n v j) (chosenState-entry n tree rows cladeOf v j (htu-of n tree cladeOf v l last)))
 
-    -- and of both ends of its range
+    -- it holds of the range of each node of a branching
     pub range-each : Each (range tree rows n v j)
     range-each = either v n
         (λ l. rw (range-taxon n tree rows cladeOf v j l) (only-each n tree code each v first l))

@@ -1,4 +1,4 @@
--- Look-ups in values by node.
+-- Looking up the values of nodes.
 use mathlib.Core.Path.{_≡_, refl, sym, ap}
 use mathlib.Core.Logic.{⊎-elim}
 use mathlib.Core.List.{List, [], _∷_, _++_, map, List·Memᴰ, List·Memᴰ·head, List·Memᴰ·tail, List·Memᴰ·not-nil, List·Memᴰ·cases-cons}
@@ -12,14 +12,14 @@ use Rattle.fitting.specs.Character.{ByNode, valueAt}
 abbrev pub keys : {A : Type 0} → ByNode A → List ℕ
 keys {A} values = map (λ (entry : ℕ × A). entry .0) values
 
--- a look-up in the values of two clades, one behind the other
+-- the value of a node in one list of values and another behind it
 pub valueAt-append : {A : Type 0} (otherwise : A) (s t : ByNode A) (w : ℕ) →
     valueAt otherwise (s ++ t) w ≡ valueAt (valueAt otherwise t w) s w
 unfolding valueAt
 valueAt-append otherwise [] t w = refl
 valueAt-append otherwise (entry ∷ s) t w = ap (λ x. cond (eqb (entry .0) w) (entry .1) x) (valueAt-append otherwise s t w)
 
--- a node that is not named has no value
+-- a node that is not among those that have a value has none
 pub valueAt-absent : {A : Type 0} (otherwise : A) (values : ByNode A) (w : ℕ) → (List·Memᴰ w (keys values) → ⊥) →
     valueAt otherwise values w ≡ otherwise
 unfolding valueAt
@@ -27,7 +27,7 @@ valueAt-absent otherwise [] w h = refl
 valueAt-absent otherwise (entry ∷ values) w h =
     rw (ne-eqb (entry .0) w (λ e. h (List·Memᴰ·head (sym e)))) (valueAt-absent otherwise values w (λ m. h (List·Memᴰ·tail m)))
 
--- a node that is named has its value there
+-- a node that has a value stands with it in the list
 pub valueAt-present : {A : Type 0} (otherwise : A) (values : ByNode A) (w : ℕ) → List·Memᴰ w (keys values) →
     List·Memᴰ (w, valueAt otherwise values w) values
 unfolding valueAt

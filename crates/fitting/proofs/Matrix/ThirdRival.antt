@@ -19,9 +19,9 @@ use Rattle.fitting.specs.Character.{valueAt}
 use Rattle.fitting.specs.Assignments.{total}
 use Rattle.fitting.specs.Fit.{chosenState, fittedTotal}
 use Rattle.fitting.specs.Rival.{FitIsLeast}
-use Rattle.fitting.proofs.Laws.Shape.{clade-of}
-use Rattle.fitting.proofs.Laws.IntervalFit.{interval-fit}
-use Rattle.fitting.proofs.Laws.Matrix.{lengths-total, fit-is-least}
+use Rattle.fitting.proofs.Clades.Built.{clade-of}
+use Rattle.fitting.proofs.Matrix.IntervalFit.{interval-fit}
+use Rattle.fitting.proofs.Matrix.EachFitted.{lengths-total, fit-is-least}
 
 -- row 1 alone: no branch, no HTU, and a total of 0
 alone : (step : ℕ → ℤ → ℤ → ℕ) (m : ℕ) (tree : List ℕ) (rows : List (List ℤ)) → FitIsLeast step tree rows 1 m

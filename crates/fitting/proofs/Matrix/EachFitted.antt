@@ -1,5 +1,5 @@
--- The third rival, for a whole matrix and a branching of two taxa or more: if each character is fitted, the chosen states have least
--- length, and the ranges are those of all assignments of least length.
+-- The third rival, for a whole matrix and a branching of two taxa or more: if each character is fitted,
+-- the chosen states have least length, and the ranges are those of all assignments of least length.
 use mathlib.Core.Path.{_≡_, refl, sym, _∙_, ap, subst}
 use mathlib.Core.Logic.{by-cases}
 use mathlib.Core.List.{List, List·Memᴰ}
@@ -22,11 +22,11 @@ use Rattle.fitting.specs.Clades.{Clade}
 use Rattle.fitting.specs.Assignments.{character, branchLength, total, IsAssignment, IsLeast, Occurs}
 use Rattle.fitting.specs.Fit.{chosenState, range, fittedLength, fittedTotal}
 use Rattle.fitting.specs.Rival.{FitIsLeast}
-use Rattle.fitting.proofs.Laws.Cost.{Keeps, cost}
-use Rattle.fitting.proofs.Laws.Agree.{Agree, cost-agree}
-use Rattle.fitting.proofs.Laws.Shape.{CladeOf, cost-sumClade}
-use Rattle.fitting.proofs.Laws.OneClade.{htu-of, keeps-taxon, keeps-of}
-use Rattle.fitting.proofs.Laws.CharacterFit.{CharacterFit, Attained}
+use Rattle.fitting.proofs.Clades.Cost.{Keeps, cost}
+use Rattle.fitting.proofs.Clades.Agree.{Agree, cost-agree}
+use Rattle.fitting.proofs.Clades.Built.{CladeOf, cost-sumClade}
+use Rattle.fitting.proofs.Clades.Taxa.{htu-of, keeps-taxon, keeps-of}
+use Rattle.fitting.proofs.OneCharacter.CharacterFit.{CharacterFit, Attained}
 
 -- the fitted lengths of the branches add up to the fitted total
 pub lengths-total : (step : ℕ → ℤ → ℤ → ℕ) (n m : ℕ) (tree : List ℕ) (rows : List (List ℤ)) →
@@ -85,7 +85,7 @@ module _ (step : ℕ → ℤ → ℤ → ℕ) (n m : ℕ) (tree : List ℕ) (row
     keeps-character =
         keeps-of n tree (character rows j) (λ v. states v j) clade (cladeOf .isMade) (λ v p q. assignment .keeps v j (omega arith) q r l)
 
-    -- and that of row 1
+    -- in an assignment character j costs what it costs below row 1's code
     cost-character : costOf states j ≡ cost (step j) (λ v. states v j) (character rows j 1) clade
     cost-character = ap (λ y. cost (step j) (λ v. states v j) y clade) (assignment .keeps 1 j (omega arith) (omega arith) r l)
 
@@ -93,7 +93,7 @@ module _ (step : ℕ → ℤ → ℤ → ℕ) (n m : ℕ) (tree : List ℕ) (row
   chosen-cost : (j : ℕ) (r : 1 ≤ j) (l : j ≤ m) → costOf ours j ≡ fits j r l .least
   chosen-cost j r l = cost-character ours fit-assigns j r l ∙ fits j r l .costs
 
-  -- in every assignment it costs at least as much
+  -- in every assignment a character costs at least as much
   cost-least : (states : ℕ → ℕ → ℤ) → IsAssignment rows n m states → (j : ℕ) → List·Memᴰ j (numbers 1 m) →
       costOf ours j ≤ costOf states j
   cost-least states assignment j i =
@@ -127,7 +127,7 @@ module _ (step : ℕ → ℤ → ℤ → ℕ) (n m : ℕ) (tree : List ℕ) (row
       (cost-least states (isLeast .assigns) j i)
       ∙ chosen-cost j r l
 
-  -- so an HTU has in it a state of its range
+  -- in an assignment of least length an HTU has a state of its range
   occurs-in : (v j : ℕ) (s : ℤ) → n < v → v ≤ 2 * n - 2 → 1 ≤ j → j ≤ m → Occurs step tree rows n m v j s →
       In s (range tree rows n v j)
   occurs-in v j s p q r l occurs =
@@ -142,7 +142,7 @@ module _ (step : ℕ → ℤ → ℤ → ℕ) (n m : ℕ) (tree : List ℕ) (row
     inCharacter : ℕ → ℤ
     inCharacter w = cond (leb w n) (character rows j w) (attained .states w)
 
-    -- a taxon has its code
+    -- in it a taxon has its code
     inCharacter-taxon : (w : ℕ) → w ≤ n → inCharacter w ≡ character rows j w
     unfolding inCharacter
     inCharacter-taxon w h = rw (le-leb w n h)
@@ -157,7 +157,7 @@ module _ (step : ℕ → ℤ → ℤ → ℕ) (n m : ℕ) (tree : List ℕ) (row
             (leb-true w n e) h)
         go false e = refl
 
-    -- and costs as much as the chosen states
+    -- it costs as much as the chosen states
     inCharacter-cost : cost (step j) inCharacter (inCharacter 1) clade ≡ costOf ours j
     inCharacter-cost =
         ap (λ y. cost (step j) inCharacter y clade) (inCharacter-taxon 1 (omega arith))
@@ -165,11 +165,11 @@ module _ (step : ℕ → ℤ → ℤ → ℕ) (n m : ℕ) (tree : List ℕ) (row
         ∙ attained .costs
         ∙ sym (chosen-cost j r l)
 
-    -- the chosen states in all other characters
+    -- that assignment in character j, and the chosen states in all other characters
     together : ℕ → ℕ → ℤ
     together w i = cond (eqb i j) (inCharacter w) (ours w i)
 
-    -- they keep the codes of all taxa
+    -- this keeps the codes of all taxa
     together-assigns : IsAssignment rows n m together
     unfolding together
     together-assigns = record { keeps = λ w i a b c d. go w i b (fit-assigns .keeps w i a b c d) (eqb i j) refl }
@@ -179,7 +179,7 @@ module _ (step : ℕ → ℤ → ℤ → ℕ) (n m : ℕ) (tree : List ℕ) (row
         go w i h keeps true e = inCharacter-taxon w h ∙ ap (λ k. character rows k w) (sym (eqb-true i j e))
         go w i h keeps false e = keeps
 
-    -- every character costs as much as under the chosen states
+    -- under it every character costs as much as under the chosen states
     together-cost : (i : ℕ) → costOf together i ≡ costOf ours i
     unfolding together
     together-cost i = go (eqb i j) refl
@@ -189,13 +189,13 @@ module _ (step : ℕ → ℤ → ℤ → ℕ) (n m : ℕ) (tree : List ℕ) (row
         go true e = subst (λ k. cost (step k) inCharacter (inCharacter 1) clade ≡ costOf ours k) (sym (eqb-true i j e)) inCharacter-cost
         go false e = refl
 
-    -- so their total is the fitted total
+    -- its total is the fitted total
     together-total : total step tree n m together ≡ fittedTotal step tree rows n m
     together-total = total-cost together
         ∙ sum-same (costOf together) (costOf ours) (numbers 1 m) (λ i m. together-cost i)
         ∙ sym fittedTotal-cost
 
-    -- together they are an assignment of least length
+    -- it is an assignment of least length in which node v has state s
     occurs-of : Occurs step tree rows n m v j s
     occurs-of = record {
       states = together;

@@ -9,16 +9,16 @@ use Rattle.fitting.specs.Clades.{Clade}
 use Rattle.fitting.specs.Character.{up}
 use Rattle.fitting.specs.Assignments.{character}
 use Rattle.fitting.specs.Fit.{chosenState, range}
-use Rattle.fitting.proofs.Laws.Sets.{offset, only-nonempty}
-use Rattle.fitting.proofs.Laws.Nodes.{htus}
-use Rattle.fitting.proofs.Laws.Cost.{Keeps, cost}
-use Rattle.fitting.proofs.Laws.Agree.{keeps-agree, cost-agree}
-use Rattle.fitting.proofs.Laws.Basic.{leastCost, basic-lemma}
-use Rattle.fitting.proofs.Laws.Chosen.{fit-keeps, fit-cost, fit}
-use Rattle.fitting.proofs.Laws.Range.{cost-row1, least-row1, range-holds, range-attained}
-use Rattle.fitting.proofs.Laws.Shape.{CladeOf}
-use Rattle.fitting.proofs.Laws.OneClade.{chosenState-fit, chosenState-taxon, range-entry}
-use Rattle.fitting.proofs.Laws.CharacterFit.{CharacterFit, Attained}
+use Rattle.fitting.proofs.Sets.Distance.{offset, only-nonempty}
+use Rattle.fitting.proofs.Clades.Nodes.{htus}
+use Rattle.fitting.proofs.Clades.Cost.{Keeps, cost}
+use Rattle.fitting.proofs.Clades.Agree.{keeps-agree, cost-agree}
+use Rattle.fitting.proofs.OneCharacter.Basic.{leastCost, basic-lemma}
+use Rattle.fitting.proofs.OneCharacter.Chosen.{fit-keeps, fit-cost, fit}
+use Rattle.fitting.proofs.OneCharacter.Range.{cost-row1, least-row1, range-holds, range-attained}
+use Rattle.fitting.proofs.Clades.Built.{CladeOf}
+use Rattle.fitting.proofs.Matrix.OneClade.{chosenState-fit, chosenState-taxon, range-entry}
+use Rattle.fitting.proofs.OneCharacter.CharacterFit.{CharacterFit, Attained}
 
 module _ (n : ℕ) (tree : List ℕ) (rows : List (List ℤ)) (taxa : 1 ≤ n) (cladeOf : CladeOf n tree) (j : ℕ) where
   -- the clade below row 1

@@ -8,9 +8,9 @@ use native.Mathlib.Omega.{arith}
 use lib.IntN.{ℤ}
 use Rattle.difference.proofs.Laws.Places.{place, everywhere}
 use Rattle.fitting.specs.Sets.{In, Span, join, nearestMember}
-use Rattle.fitting.proofs.Laws.Ends.{either}
-use Rattle.fitting.proofs.Laws.Sets.{Nonempty, span, join-places, nearestMember-places, nonempty-places, in-places, places-in}
-use Rattle.fitting.proofs.Laws.Sets.{nearestMember-in}
+use Rattle.fitting.proofs.Cases.{either}
+use Rattle.fitting.proofs.Sets.Distance.{Nonempty, span, join-places, nearestMember-places, nonempty-places, in-places, places-in}
+use Rattle.fitting.proofs.Sets.Distance.{nearestMember-in}
 
 -- two sets touch if they have a state in common
 pub record Touches (a b : Span) : Type 0 where
@@ -68,7 +68,7 @@ join-touches-first a b p q =
 pub join-touches : (a b : Span) → Nonempty a → Nonempty b → Touches (join a b) a × Touches (join a b) b
 join-touches a b p q = (join-touches-first a b p q, rw (join-comm a b) (join-touches-first b a q p))
 
--- of two sets that do not touch it is the smallest interval that does: every interval that touches both contains it
+-- the join of two sets that do not touch is the smallest interval that touches both: every such interval contains it
 pub join-smallest : (a b : Span) → Disjoint a b → (c : Span) → Touches c a → Touches c b → (s : ℤ) → In s (join a b) → In s c
 join-smallest a b d c t u s = everywhere
     (λ z. Disjoint (span (z 1) (z 2)) (span (z 3) (z 4)) →

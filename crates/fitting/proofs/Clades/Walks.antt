@@ -1,7 +1,7 @@
 -- A branching of two taxa or more and the clade built from it: every node below row 1 stands in the clade exactly once.
 use mathlib.Core.Path.{_≡_, refl, sym, _∙_, ap, subst}
 use mathlib.Core.Logic.{_⊎_, inl, inr, ⊎-elim}
-use mathlib.Core.List.{List, [], _∷_, map}
+use mathlib.Core.List.{List}
 use mathlib.Core.Bool.{Bool, true, false}
 use Prim.Native.Nat.{ℕ, zero, suc, _+_, _*_, _-_, _≤_, _<_}
 use native.Mathlib.Omega.{arith}
@@ -17,33 +17,29 @@ use Rattle.lists.specs.Sums.{sumOver}
 use Rattle.branching.specs.Facts.{Grown}
 use Rattle.lists.proofs.Sums.{pick, sum-same, sum-plus, sum-swap, sum-outside, sum-one}
 use Rattle.branching.proofs.Descendants.{sum-descendants}
-use Rattle.fitting.specs.Clades.{Clade, tip, fork, above, cladeAt}
-use Rattle.fitting.proofs.Laws.Ends.{either}
-use Rattle.fitting.proofs.Laws.Branching.{Climbs, no-ancestor, none-below, two-below, steps-up}
+use Rattle.fitting.specs.Clades.{cladeAt}
+use Rattle.fitting.proofs.Cases.{either}
+use Rattle.fitting.proofs.Clades.Sums.{sumClade, sumClade-above}
+use Rattle.fitting.proofs.Clades.Branching.{Climbs, no-ancestor, none-below, two-below, steps-up}
 
--- the sum of a quantity over the nodes of a clade
-unfoldable pub sumClade : (ℕ → ℕ) → Clade → ℕ
-sumClade q (tip v) = q v
-sumClade q (fork v a b) = q v + (sumClade q a + sumClade q b)
-
--- x as often as going up from node v, at most `steps` steps, comes to node u
+-- x, as often as going up from node v, at most `steps` steps, comes to node u
 unfoldable pub along : List ℕ → ℕ → ℕ → ℕ → ℕ → ℕ
 along tree zero v u x = pick (eqb v u) x
 along tree (suc steps) v u x = pick (eqb v u) x + along tree steps (ancestor tree v) u x
 
--- a number with two tests, in either order
+-- of two tests of a number either may come first
 pick-swap : (p q : Bool) (x : ℕ) → pick p (pick q x) ≡ pick q (pick p x)
 pick-swap true true x = refl
 pick-swap true false x = refl
 pick-swap false true x = refl
 pick-swap false false x = refl
 
--- the last of the nodes below row 1
+-- node 2n-2 is the last of the nodes below row 1
 below-last : (n v : ℕ) → 2 ≤ n → v ≤ 2 * n - 2 → v < 2 + (2 * n - 3)
 below-last n v p q = omega arith
 
 module _ (n : ℕ) (tree : List ℕ) (grown : Grown n n tree) where
-  -- a node's ancestor is u, or the node is one of u's descendants: counted over all nodes below row 1
+  -- node v is one of u's descendants exactly if its ancestor is u
   descends : (u v x : ℕ) → 1 ≤ u → sumOver (λ a. pick (eqb v a) x) (descendants tree (otherNodes n) u)
       ≡ pick (eqb (ancestor tree v) u) x
   unfolding otherNodes
@@ -73,15 +69,6 @@ module _ (n : ℕ) (tree : List ℕ) (grown : Grown n n tree) where
       sum-plus (λ a. pick (eqb v a) x) (λ a. along tree steps (ancestor tree v) a x) (descendants tree (otherNodes n) u)
       ∙ omega (arith, descends u v x h, along-descends steps u (ancestor tree v) x h)
 
-  -- the sum over a node and its descendants' clades
-  sumClade-above : (q : ℕ → ℕ) (v : ℕ) (clade : ℕ → Clade) (us : List ℕ) → (length us ≡ 1 → ⊥) → length us ≤ 2 →
-      sumClade q (above v (map clade us)) ≡ q v + sumOver (λ u. sumClade q (clade u)) us
-  unfolding above sumClade sumOver
-  sumClade-above q v clade [] h l = omega arith
-  sumClade-above q v clade (a ∷ []) h l = absurd (h refl)
-  sumClade-above q v clade (a ∷ b ∷ []) h l = omega arith
-  sumClade-above q v clade (a ∷ b ∷ c ∷ us) h l = absurd (omega arith)
-
   -- a node below row 1 has no descendant or two
   descendant-number : (v : ℕ) → 2 ≤ v → v ≤ 2 * n - 2 →
       (length (descendants tree (otherNodes n) v) ≡ 1 → ⊥) × (length (descendants tree (otherNodes n) v) ≤ 2)
@@ -100,11 +87,11 @@ module _ (n : ℕ) (tree : List ℕ) (grown : Grown n n tree) where
       ap (λ x. pick (eqb (ancestor tree a) u) x) (e a (w .0) (omega arith)))
       ∙ sym (sum-descendants g tree (numbers 2 (2 * n - 3)) u)
 
-  -- the sum over the clade of node u, if it is the sum over all nodes from which going up comes to u
+  -- the sum over the clade of node u is the sum over all nodes from which going up comes to u
   Gathers : (ℕ → ℕ) → ℕ → ℕ → Type 0
   Gathers q depth u = sumClade q (cladeAt tree (otherNodes n) depth u) ≡ sumOver (λ v. along tree depth v u (q v)) (otherNodes n)
 
-  -- then the sum over the clades of u's descendants is the sum over all nodes from whose ancestors it comes to u
+  -- if it is so for u's descendants, the sum over their clades is the sum over all nodes from whose ancestors it comes to u
   gathers-below : (q : ℕ → ℕ) (depth u : ℕ) → 1 ≤ u → ((a : ℕ) → 2 ≤ a → a ≤ 2 * n - 2 → Gathers q depth a) →
       sumOver (λ a. sumClade q (cladeAt tree (otherNodes n) depth a)) (descendants tree (otherNodes n) u)
       ≡ sumOver (λ v. along tree depth (ancestor tree v) u (q v)) (otherNodes n)
@@ -116,12 +103,12 @@ module _ (n : ℕ) (tree : List ℕ) (grown : Grown n n tree) where
       ∙ sum-same (λ v. sumOver (λ a. along tree depth v a (q v)) (descendants tree (otherNodes n) u))
       (λ v. along tree depth (ancestor tree v) u (q v)) (otherNodes n) (λ v m. along-descends depth u v (q v) h)
 
-  -- over all nodes below row 1, those equal to one of them are that one
+  -- over all nodes below row 1, node u alone is equal to u
   own-node : (q : ℕ → ℕ) (u : ℕ) → 2 ≤ u → u ≤ 2 * n - 2 → sumOver (λ v. pick (eqb v u) (q v)) (otherNodes n) ≡ q u
   unfolding otherNodes
   own-node q u p h = sum-one 2 (2 * n - 3) u q p (below-last n u (grown .atLeastTwo) h)
 
-  -- and it always is
+  -- the sum over the clade of every node is so
   gathers : (q : ℕ → ℕ) (depth u : ℕ) → 2 ≤ u → u ≤ 2 * n - 2 → Gathers q depth u
   unfolding Gathers cladeAt sumClade along
   gathers q zero u p h = sym (own-node q u p h)
@@ -148,17 +135,17 @@ module _ (n : ℕ) (tree : List ℕ) (grown : Grown n n tree) where
   never-climbs zero e = omega arith
   never-climbs (suc k) c = never-climbs k (subst (λ v. Climbs tree k v) zero-top c)
 
-  -- nor does it come to row 1
+  -- going up from 0 does not come to row 1
   along-zero : (steps x : ℕ) → along tree steps 0 1 x ≡ 0
   unfolding along
   along-zero zero x = refl
   along-zero (suc steps) x = rw zero-top (omega (arith, along-zero steps x))
 
-  -- a node from which k steps up reach row 1 is not row 1 itself, unless k is 0
+  -- a node from which one step up or more reach row 1 is not row 1 itself
   climbs-not-row1 : (k v : ℕ) → Climbs tree (suc k) v → v ≡ 1 → ⊥
   climbs-not-row1 k v c e = never-climbs k (subst (λ u. Climbs tree k u) (ap (ancestor tree) e ∙ row1-top) c)
 
-  -- going up from such a node comes to row 1 exactly once
+  -- going up from a node from which row 1 is reached comes to row 1 exactly once
   along-climbs : (k steps v x : ℕ) → Climbs tree k v → k ≤ steps → along tree steps v 1 x ≡ x
   unfolding along
   along-climbs zero zero v x c h = rw (eq-eqb v 1 c)
@@ -167,7 +154,7 @@ module _ (n : ℕ) (tree : List ℕ) (grown : Grown n n tree) where
   along-climbs (suc k) (suc steps) v x c h =
       rw (ne-eqb v 1 (climbs-not-row1 k v c)) (omega (arith, along-climbs k steps (ancestor tree v) x c (omega arith)))
 
-  -- the number of steps is unique
+  -- the number of steps up to row 1 is unique
   pub climbs-unique : (j k v : ℕ) → Climbs tree j v → Climbs tree k v → j ≡ k
   climbs-unique zero zero v c d = refl
   climbs-unique zero (suc k) v c d = absurd (climbs-not-row1 k v d c)

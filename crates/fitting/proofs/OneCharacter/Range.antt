@@ -12,15 +12,15 @@ use Rattle.difference.proofs.Laws.Codes.{apart-self}
 use Rattle.fitting.specs.Sets.{In, Span, only, join, nearestMember, middle}
 use Rattle.fitting.specs.Clades.{Clade, tip, fork}
 use Rattle.fitting.specs.Character.{up, ranges}
-use Rattle.fitting.proofs.Laws.Sets.{Nonempty, offset, gap, gap-comm, gap-only, only-nonempty, join-nonempty, nearestMember-in}
-use Rattle.fitting.proofs.Laws.Sets.{offset-triangle, offset-only, offset-join, offset-in-join}
-use Rattle.fitting.proofs.Laws.Three.{leastSum, leastSum-least, leastSum-turn, leastSum-swap, middle-least, least-middle}
-use Rattle.fitting.proofs.Laws.Cost.{Keeps, cost, within, cost-top}
-use Rattle.fitting.proofs.Laws.Basic.{leastCost, up-nonempty, basic-lemma}
-use Rattle.fitting.proofs.Laws.Nodes.{has, Parts, Distinct, parts-swap, htus-has, top}
-use Rattle.fitting.proofs.Laws.Agree.{Agree, cost-agree, keeps-agree, combined, combined-top, combined-left, combined-right}
-use Rattle.fitting.proofs.Laws.Downward.{ranges-htus}
-use Rattle.fitting.proofs.Laws.Chosen.{fit, fit-keeps, fit-cost}
+use Rattle.fitting.proofs.Sets.Distance.{Nonempty, offset, gap, gap-comm, gap-only, only-nonempty, join-nonempty, nearestMember-in}
+use Rattle.fitting.proofs.Sets.Distance.{offset-triangle, offset-only, offset-join, offset-in-join}
+use Rattle.fitting.proofs.Sets.Three.{leastSum, leastSum-least, leastSum-turn, leastSum-swap, middle-least, least-middle}
+use Rattle.fitting.proofs.Clades.Cost.{Keeps, cost, within, cost-top}
+use Rattle.fitting.proofs.OneCharacter.Basic.{leastCost, up-nonempty, basic-lemma}
+use Rattle.fitting.proofs.Clades.Nodes.{has, Separate, Distinct, separate-swap, htus-has, top}
+use Rattle.fitting.proofs.Clades.Agree.{Agree, cost-agree, keeps-agree, combined, combined-top, combined-left, combined-right}
+use Rattle.fitting.proofs.OneCharacter.Passes.{ranges-htus}
+use Rattle.fitting.proofs.OneCharacter.Chosen.{fit, fit-keeps, fit-cost}
 
 module _ (code : ℕ → ℤ) where
   -- the least cost of a clade together with its top node's distance from what is outside
@@ -31,18 +31,18 @@ module _ (code : ℕ → ℤ) where
   unfoldable pub costWith : Span → (ℕ → ℤ) → Clade → ℕ
   costWith outside f t = offset (f (top t)) outside + within apart f t
 
-  -- in a fork it is the least sum of distances from the two descendants' sets and the outside
+  -- the least cost of a fork is that of its descendants' clades and the least sum of distances from their sets and the outside
   leastWith-fork : (outside : Span) (v : ℕ) (a b : Clade) →
       leastWith outside (fork v a b) ≡ leastCost code a + leastCost code b + leastSum (up code a) (up code b) outside
   unfolding leastWith leastCost up leastSum
   leastWith-fork outside v a b = omega arith
 
-  -- below row 1 of state y they are the cost and the least cost with the branch to row 1
+  -- below row 1 of state y, the cost with the branch to row 1
   pub cost-row1 : (f : ℕ → ℤ) (y : ℤ) (t : Clade) → cost apart f y t ≡ costWith (only y) f t
   unfolding costWith
   cost-row1 f y t = omega (arith, cost-top apart f y t, offset-only (f (top t)) y)
 
-  -- and the least cost
+  -- below row 1 of state y, the least cost with the branch to row 1
   pub least-row1 : (y : ℤ) (t : Clade) → leastCost code t + offset y (up code t) ≡ leastWith (only y) t
   unfolding leastWith
   least-row1 y t = ap (λ k. leastCost code t + k) (sym (gap-only y (up code t) (up-nonempty code t)))
@@ -70,7 +70,7 @@ module _ (code : ℕ → ℤ) where
       )
 
   module _ (outside : Span) (nonempty : Nonempty outside) (v : ℕ) (a b : Clade) where
-    -- the two descendants may change sides
+    -- the least cost of a fork is the same with its sides changed
     leastWith-swap : leastWith outside (fork v a b) ≡ leastWith outside (fork v b a)
     leastWith-swap = omega (
       arith,
@@ -79,7 +79,7 @@ module _ (code : ℕ → ℤ) where
       leastSum-swap (up code a) (up code b) outside (up-nonempty code a) (up-nonempty code b) nonempty,
     )
 
-    -- the cost is the same with the sides changed
+    -- the cost of a fork is the same with its sides changed
     costWith-swap : (f : ℕ → ℤ) → costWith outside f (fork v a b) ≡ costWith outside f (fork v b a)
     unfolding costWith top within
     costWith-swap f = omega arith
@@ -94,7 +94,7 @@ module _ (code : ℕ → ℤ) where
           gap-comm (up code a) (join (up code b) outside),
         )
 
-    -- an assignment of least cost has least cost in that descendant's clade with its outside
+    -- an assignment of least cost has least cost in a descendant's clade with the descendant's outside
     least-side : (f : ℕ → ℤ) → Keeps code f (fork v a b) → costWith outside f (fork v a b) ≡ leastWith outside (fork v a b) →
         costWith (join (up code b) outside) f a ≡ leastWith (join (up code b) outside) a
     least-side f k e =
@@ -112,7 +112,7 @@ module _ (code : ℕ → ℤ) where
         ))
         (costWith-least j js f a (k .0))
 
-    -- and its top node has a state of its range
+    -- in an assignment of least cost the HTU of a fork has a state of its range
     least-own : (f : ℕ → ℤ) → Keeps code f (fork v a b) → costWith outside f (fork v a b) ≡ leastWith outside (fork v a b) →
         In (f v) (middle (up code a) (up code b) outside)
     least-own f k e = least-middle (up code a) (up code b) outside (up-nonempty code a) (up-nonempty code b) nonempty (f v)
@@ -150,7 +150,7 @@ module _ (code : ℕ → ℤ) where
   ranges-has outside t entry m =
       htus-has t (entry .0) (subst (λ us. List·Memᴰ (entry .0) us) (ranges-htus code outside t) (Memᴰ·map (λ (e : ℕ × Span). e .0) m))
 
-  module _ (outside : Span) (nonempty : Nonempty outside) (v : ℕ) (a b : Clade) (parts : Parts v a b) where
+  module _ (outside : Span) (nonempty : Nonempty outside) (v : ℕ) (a b : Clade) (parts : Separate v a b) where
     -- a state of the range of the top node is attained: the chosen states follow from it on both sides
     attain-own : Distinct a → Distinct b → (s : ℤ) → In s (middle (up code a) (up code b) outside) → Attains outside (fork v a b) v s
     attain-own da db s i = record {
@@ -232,7 +232,7 @@ module _ (code : ℕ → ℤ) where
         right : Agree f (fit code u b) b
         right = combined-right v u a b g (fit code u b) parts
 
-    -- the two descendants may change sides
+    -- a state attained in a fork is attained with its sides changed
     attain-swap : (w : ℕ) (s : ℤ) → Attains outside (fork v b a) w s → Attains outside (fork v a b) w s
     attain-swap w s attains = record {
       states = attains .states;
@@ -253,7 +253,7 @@ module _ (code : ℕ → ℤ) where
       (λ l. attain-side outside nonempty v a b (d .0) (d .2) (entry .0) s (ranges-has (join (up code b) outside) a entry l)
       (range-attained (join (up code b) outside) (join-nonempty (up code b) outside) a (d .1) entry l s i))
       (λ r. attain-swap outside nonempty v a b (d .0) (entry .0) s
-      (attain-side outside nonempty v b a (parts-swap v a b (d .0)) (d .1) (entry .0) s (ranges-has (join (up code a) outside) b entry r)
+      (attain-side outside nonempty v b a (separate-swap v a b (d .0)) (d .1) (entry .0) s (ranges-has (join (up code a) outside) b entry r)
       (range-attained (join (up code a) outside) (join-nonempty (up code a) outside) b (d .2) entry r s i)))
       (List·Memᴰ·append-cases (ranges code (join (up code b) outside) a) rest))
       (List·Memᴰ·cases-cons m)

@@ -1,5 +1,5 @@
--- The Basic Lemma of Swofford and Maddison (1987) for one character: the least cost of a clade that hangs from a node of state y is the cost
--- within the clade and the distance of y from the clade's set.
+-- The Basic Lemma of Swofford and Maddison (1987) for one character: the least cost of a clade that hangs from a node of state y
+-- is the least cost within the clade and the distance of y from the clade's set.
 use mathlib.Core.Path.{_≡_, _∙_, ap}
 use Prim.Native.Nat.{ℕ, _+_, _≤_}
 use native.Mathlib.Omega.{arith}
@@ -9,9 +9,9 @@ use Rattle.difference.proofs.Laws.Codes.{apart-sym}
 use Rattle.fitting.specs.Sets.{In, join, nearestMember}
 use Rattle.fitting.specs.Clades.{Clade, tip, fork}
 use Rattle.fitting.specs.Character.{up}
-use Rattle.fitting.proofs.Laws.Cost.{Keeps, cost}
-use Rattle.fitting.proofs.Laws.Sets.{Nonempty, offset, gap, join-nonempty, only-nonempty, nearestMember-in, offset-triangle}
-use Rattle.fitting.proofs.Laws.Sets.{offset-only, offset-join, offset-in-join}
+use Rattle.fitting.proofs.Clades.Cost.{Keeps, cost}
+use Rattle.fitting.proofs.Sets.Distance.{Nonempty, offset, gap, join-nonempty, only-nonempty, nearestMember-in, offset-triangle}
+use Rattle.fitting.proofs.Sets.Distance.{offset-only, offset-join, offset-in-join}
 
 module _ (code : ℕ → ℤ) where
   -- the least cost within a clade: the gaps between the sets of sisters
@@ -25,7 +25,7 @@ module _ (code : ℕ → ℤ) where
   up-nonempty (tip v) = only-nonempty (code v)
   up-nonempty (fork v a b) = join-nonempty (up code a) (up code b)
 
-  -- every assignment costs at least that
+  -- every assignment that keeps the codes costs at least that and the distance of the state above from the clade's set
   pub basic-lemma : (f : ℕ → ℤ) (y : ℤ) (t : Clade) → Keeps code f t → leastCost t + offset y (up code t) ≤ cost apart f y t
   unfolding cost leastCost up
   basic-lemma f y (tip v) k = rw (k, offset-only y (code v), apart-sym y (code v)) (omega arith)

@@ -10,7 +10,7 @@ use Rattle.difference.specs.Rows.{apart, lower, higher}
 use Rattle.difference.proofs.Laws.Codes.{apart-sym}
 use Rattle.difference.proofs.Laws.Places.{place, apart-place, lower-place, higher-place, le-place, place-le, everywhere}
 use Rattle.fitting.specs.Sets.{Span, In, only, join, nearestMember}
-use Rattle.fitting.proofs.Laws.Ends.{either-side, join-apart, in-join, nearest-apart}
+use Rattle.fitting.proofs.Sets.Ends.{either-side, join-apart, in-join, nearest-apart}
 
 -- a set has at least one member
 pub record Nonempty (a : Span) : Type 0 where
@@ -46,12 +46,12 @@ module _ (K : ℕ) where
   unfolding gap
   gap-places l h l′ h′ = simp (lower-place, higher-place, apart-place) (omega arith)
 
-  -- their join
+  -- the join of two such sets
   pub join-places : (l h l′ h′ : ℕ) → join (places l h) (places l′ h′) ≡ places (min (max l l′) (min h h′)) (max (max l l′) (min h h′))
   unfolding join
   join-places l h l′ h′ = simp (lower-place, higher-place)
 
-  -- the member nearest to a place
+  -- the member of such a set nearest to a place
   pub nearestMember-places : (s l h : ℕ) → nearestMember (place K s) (places l h) ≡ place K (max l (min s h))
   unfolding nearestMember
   nearestMember-places s l h = simp (lower-place, higher-place)
@@ -64,7 +64,7 @@ module _ (K : ℕ) where
   pub in-places : {s l h : ℕ} → l ≤ s → s ≤ h → In (place K s) (places l h)
   in-places {s} {l} {h} p q = record { fromLow = le-place K l s p; toHigh = le-place K s h q }
 
-  -- and only such a place is
+  -- a place that is a member stands between the ends of such a set
   pub places-in : (s l h : ℕ) → In (place K s) (places l h) → (l ≤ s) × (s ≤ h)
   places-in s l h i = (place-le K l s (i .fromLow), place-le K s h (i .toHigh))
 
@@ -113,7 +113,7 @@ offset-ends s a = everywhere
     (either-side (n 0) (n 1) (n 2) q))
     (s ∷ a .low ∷ a .high ∷ [])
 
--- two sets are as far apart seen from either
+-- two sets are as far from each other in either order
 pub gap-comm : (a b : Span) → gap a b ≡ gap b a
 gap-comm a b = everywhere (λ z. gap (span (z 0) (z 1)) (span (z 2) (z 3)) ≡ gap (span (z 2) (z 3)) (span (z 0) (z 1)))
     (λ K n.

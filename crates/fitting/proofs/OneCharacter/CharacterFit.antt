@@ -4,8 +4,8 @@ use mathlib.Core.List.{List·Memᴰ}
 use Prim.Native.Nat.{ℕ, _≤_}
 use lib.IntN.{ℤ}
 use Rattle.fitting.specs.Clades.{Clade}
-use Rattle.fitting.proofs.Laws.Cost.{Keeps, cost}
-use Rattle.fitting.proofs.Laws.Nodes.{htus}
+use Rattle.fitting.proofs.Clades.Cost.{Keeps, cost}
+use Rattle.fitting.proofs.Clades.Nodes.{htus}
 
 -- an assignment that keeps the codes of a clade below row 1 and costs so much, in which node v has state s
 pub record Attained (step : ℤ → ℤ → ℕ) (code : ℕ → ℤ) (clade : Clade) (amount v : ℕ) (s : ℤ) : Type 0 where

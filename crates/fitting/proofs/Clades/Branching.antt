@@ -1,5 +1,5 @@
--- What fitting uses of a branching of two taxa or more, which is a tree of all its n taxa: the lists of descendants, and the steps from a
--- node up to row 1.
+-- What fitting uses of a branching of two taxa or more, which is a tree of all its n taxa: the numbers of descendants, and the steps
+-- from a node up to row 1.
 use mathlib.Core.Path.{_≡_}
 use mathlib.Core.Logic.{_⊎_, ⊎-elim}
 use mathlib.Core.List.{List}
@@ -21,7 +21,7 @@ abbrev pub Climbs : List ℕ → ℕ → ℕ → Type 0
 Climbs tree zero v = v ≡ 1
 Climbs tree (suc k) v = Climbs tree k (ancestor tree v)
 
--- what climbs within some steps does so in one number of them
+-- a node that reaches node 1 within some steps does so in one number of them
 climbs-steps : (tree : List ℕ) (steps v : ℕ) → climbs tree steps v ≡ true → (k : ℕ) × (k ≤ steps) × Climbs tree k v
 unfolding climbs
 climbs-steps tree zero v c = (0, omega arith, eqb-true v 1 c)
@@ -36,7 +36,7 @@ module _ (n : ℕ) (tree : List ℕ) (grown : Grown n n tree) where
   pub only-nodes : (v : ℕ) → 1 ≤ ancestor tree v → (2 ≤ v) × (v ≤ 2 * n - 2)
   only-nodes = growing-within n tree (several grown)
 
-  -- any other number has none
+  -- any other number has no immediate ancestor
   pub no-ancestor : (v : ℕ) → (v < 2) ⊎ (2 * n - 2 < v) → ancestor tree v ≡ 0
   no-ancestor = growing-outside n tree (several grown)
 
@@ -49,12 +49,12 @@ module _ (n : ℕ) (tree : List ℕ) (grown : Grown n n tree) where
   unfolding descendantCount
   one-below = branching-root n tree (grown .atLeastTwo) (several grown)
 
-  -- each other taxon none
+  -- each other taxon has no descendant
   pub none-below : (v : ℕ) → 2 ≤ v → v ≤ n → length (descendants tree (otherNodes n) v) ≡ 0
   unfolding descendantCount
   none-below = branching-taxon n tree (grown .atLeastTwo) (several grown)
 
-  -- each HTU two
+  -- each HTU has two descendants
   pub two-below : (v : ℕ) → n < v → v ≤ 2 * n - 2 → length (descendants tree (otherNodes n) v) ≡ 2
   unfolding descendantCount
   two-below = branching-htu n tree (grown .atLeastTwo) (several grown)
