@@ -5,3 +5,4 @@ pub mod Places
 pub mod Codes
 pub mod Rows
 pub mod Parts
+pub mod Measure

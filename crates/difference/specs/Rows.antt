@@ -26,6 +26,15 @@ difference [] ys = 0
 difference (x ∷ xs) [] = 0
 difference (x ∷ xs) (y ∷ ys) = apart x y + difference xs ys
 
+-- how change is measured: the difference of two rows, and what one step between two states costs in character j
+pub record Measure : Type 0 where
+  pub rows : List ℤ → List ℤ → ℕ
+  pub step : ℕ → ℤ → ℤ → ℕ
+
+-- document 01's measure: absolute differences, every character alike
+abbrev pub plain : Measure
+plain = record { rows = difference; step = λ j a b. apart a b }
+
 -- the median of three rows, character by character
 unfoldable pub medians : List ℤ → List ℤ → List ℤ → List ℤ
 medians [] ys zs = []

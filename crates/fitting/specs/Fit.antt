@@ -5,7 +5,7 @@ use Prim.Native.Nat.{ℕ}
 use lib.Dec.{ltb}
 use lib.IntN.{ℤ}
 use Rattle.fitting.specs.Sets.{Span, only}
-use Rattle.fitting.specs.Trees.{treesBelow}
+use Rattle.fitting.specs.Clades.{cladesBelow}
 use Rattle.fitting.specs.Character.{valueAt, chosen, ranges}
 use Rattle.fitting.specs.Assignments.{character, branchLength, total}
 
@@ -14,22 +14,24 @@ module _ (tree : List ℕ) (rows : List (List ℤ)) (n : ℕ) where
   unfoldable pub chosenState : ℕ → ℕ → ℤ
   chosenState v j =
       let code = character rows j in
-      valueAt (code v) (flatMap (chosen code (code 1)) (treesBelow tree n)) v
+      valueAt (code v) (flatMap (chosen code (code 1)) (cladesBelow tree n)) v
 
   -- the range of HTU v in character j, lowest to highest state; a taxon's is its code
   unfoldable pub range : ℕ → ℕ → Span
   range v j =
       let code = character rows j in
-      valueAt (only (code v)) (flatMap (ranges code (only (code 1))) (treesBelow tree n)) v
+      valueAt (only (code v)) (flatMap (ranges code (only (code 1))) (cladesBelow tree n)) v
 
+-- `step j a b` is what a change between states a and b costs in character j
+module _ (step : ℕ → ℤ → ℤ → ℕ) (tree : List ℕ) (rows : List (List ℤ)) (n m : ℕ) where
   -- the fitted length of the branch from node v to its immediate ancestor, over m characters
-  unfoldable pub fittedLength : ℕ → ℕ → ℕ
-  fittedLength m v = branchLength tree m chosenState v
+  unfoldable pub fittedLength : ℕ → ℕ
+  fittedLength v = branchLength step tree m (chosenState tree rows n) v
 
   -- the fitted total: the total of the chosen states
-  unfoldable pub fittedTotal : ℕ → ℕ
-  fittedTotal m = total tree n m chosenState
+  unfoldable pub fittedTotal : ℕ
+  fittedTotal = total step tree n m (chosenState tree rows n)
 
--- a branch is marked `+` if its fitted length is above 0, else `-`
-unfoldable pub markedPlus : ℕ → Bool
-markedPlus length = ltb 0 length
+  -- the branch from node v to its immediate ancestor is marked `+` if its fitted length is above 0, else `-`
+  unfoldable pub marked : ℕ → Bool
+  marked v = ltb 0 (fittedLength v)

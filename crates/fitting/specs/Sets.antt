@@ -3,13 +3,18 @@ use mathlib.Core.List.{List, [], _∷_}
 use mathlib.Core.Bool.{cond}
 use lib.IntN.{ℤ, pos}
 use lib.ListN.{getD}
-use lib.Signed.{leZ}
+use lib.Signed.{leZ, _≤ℤ_}
 use Rattle.difference.specs.Rows.{lower, higher}
 
 -- the states from low to high
 pub record Span : Type 0 where
   pub low : ℤ
   pub high : ℤ
+
+-- a state is a member of a set
+pub record In (state : ℤ) (a : Span) : Type 0 where
+  pub fromLow : a .low ≤ℤ state
+  pub toHigh : state ≤ℤ a .high
 
 -- a taxon's set is its code alone
 unfoldable pub only : ℤ → Span
@@ -23,8 +28,8 @@ join a b =
     record { low = lower start end; high = higher start end }
 
 -- the member of a set nearest to a state
-unfoldable pub nearest : ℤ → Span → ℤ
-nearest state a = higher (a .low) (lower state (a .high))
+unfoldable pub nearestMember : ℤ → Span → ℤ
+nearestMember state a = higher (a .low) (lower state (a .high))
 
 -- a state written into a list in rising order, at its place
 unfoldable pub insert : ℤ → List ℤ → List ℤ
@@ -39,11 +44,11 @@ inOrder [] = []
 inOrder (state ∷ states) = insert state (inOrder states)
 
 -- the six ends of three sets
-abbrev pub ends : Span → Span → Span → List ℤ
-ends a b c = a .low ∷ a .high ∷ b .low ∷ b .high ∷ c .low ∷ c .high ∷ []
+abbrev pub sixEnds : Span → Span → Span → List ℤ
+sixEnds a b c = a .low ∷ a .high ∷ b .low ∷ b .high ∷ c .low ∷ c .high ∷ []
 
 -- the third to the fourth of the six ends of three sets, in order
 unfoldable pub middle : Span → Span → Span → Span
 middle a b c =
-    let sorted = inOrder (ends a b c) in
+    let sorted = inOrder (sixEnds a b c) in
     record { low = getD sorted 2 (pos 0); high = getD sorted 3 (pos 0) }

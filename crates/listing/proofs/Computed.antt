@@ -26,7 +26,7 @@ use Rattle.wagner.specs.Nodes as wagner-Nodes
 use Rattle.wagner.specs.Placing as wagner-Placing
 use Rattle.wagner.specs.Build as wagner-Build
 use Rattle.fitting.specs.Sets as fitting-Sets
-use Rattle.fitting.specs.Trees as fitting-Trees
+use Rattle.fitting.specs.Clades as fitting-Clades
 use Rattle.fitting.specs.Character as fitting-Character
 use Rattle.fitting.specs.Assignments as fitting-Assignments
 use Rattle.fitting.specs.Fit as fitting-Fit
@@ -66,11 +66,11 @@ unfolding flatMap matrix-Shape.row matrix-Shape.inRange matrix-Shape.lastNode li
     difference-Rows.intervalBy wagner-Nodes.nodeInterval wagner-Nodes.advancement wagner-Nodes.lengthUnder wagner-Placing.medianRow
     wagner-Placing.fromInterval wagner-Placing.nearestInterval wagner-Placing.link wagner-Placing.hang wagner-Placing.placeOn
     wagner-Placing.place wagner-Build.byAdvancement wagner-Build.addedLength wagner-Build.buildOn wagner-Build.build wagner-Build.wagner
-    wagner-Build.wagnerLength wagner-Build.wagnerBranches fitting-Sets.only fitting-Sets.join fitting-Sets.nearest fitting-Sets.insert
-    fitting-Sets.inOrder fitting-Sets.middle fitting-Trees.above fitting-Trees.treeAt fitting-Trees.treesBelow fitting-Character.valueAt
+    wagner-Build.wagnerLength wagner-Build.wagnerBranches fitting-Sets.only fitting-Sets.join fitting-Sets.nearestMember fitting-Sets.insert
+    fitting-Sets.inOrder fitting-Sets.middle fitting-Clades.above fitting-Clades.cladeAt fitting-Clades.cladesBelow fitting-Character.valueAt
     fitting-Character.up fitting-Character.chosen fitting-Character.ranges fitting-Assignments.character
     fitting-Assignments.branchLength fitting-Assignments.total fitting-Fit.chosenState fitting-Fit.range fitting-Fit.fittedLength
-    fitting-Fit.fittedTotal fitting-Fit.markedPlus listing-Lines.line listing-Lines.hyphen listing-Lines.htuName listing-Lines.nodeName
+    fitting-Fit.fittedTotal fitting-Fit.marked listing-Lines.line listing-Lines.hyphen listing-Lines.htuName listing-Lines.nodeName
     listing-Blocks.totalLine listing-Blocks.mark listing-Blocks.primLine listing-Blocks.wagnerLine listing-Blocks.fittedLine
     listing-Blocks.rangeLine listing-Blocks.fittedLines listing-Blocks.rangeLines listing-Listing.primBlock listing-Listing.wagnerBlock
     listing-Listing.fittedBlock listing-Listing.rangeBlock listing-Listing.listing listing-Listing.refusalLine listing-Listing.printed

@@ -11,7 +11,7 @@ use Rattle.prim.specs.Network.{Link}
 use Rattle.wagner.specs.declared.placement.Placement.{Placement}
 use Rattle.branching.specs.Ancestors.{ancestor}
 use Rattle.branching.specs.Nodes.{otherNodes}
-use Rattle.fitting.specs.Fit.{chosenState, range, fittedLength, markedPlus}
+use Rattle.fitting.specs.Fit.{chosenState, range, fittedLength, marked}
 use Rattle.listing.specs.Lines.{line, nodeName}
 
 -- the line of a block's total, with the letter that begins it
@@ -41,16 +41,15 @@ module _ (n : ℕ) (names : List (List ℕ)) where
       ∷ [])
 
   module _ (tree : List ℕ) (rows : List (List ℤ)) (m : ℕ) where
-    -- `T`: node, immediate ancestor, fitted length, mark
-    unfoldable pub fittedLine : ℕ → List ℕ
-    fittedLine v =
-        let length = fittedLength tree rows n m v in
+    -- `T`: node, immediate ancestor, fitted length, mark; `step j a b` is what a change between states a and b costs in character j
+    unfoldable pub fittedLine : (ℕ → ℤ → ℤ → ℕ) → ℕ → List ℕ
+    fittedLine step v =
         line
         (bytes "T"
         ∷ nodeName n names v
         ∷ nodeName n names (ancestor tree v)
-        ∷ digitsOf length
-        ∷ mark (markedPlus length)
+        ∷ digitsOf (fittedLength step tree rows n m v)
+        ∷ mark (marked step tree rows n m v)
         ∷ [])
 
     -- `H`: HTU, character, lowest and highest state, chosen state
@@ -67,8 +66,8 @@ module _ (n : ℕ) (names : List (List ℕ)) where
         ∷ [])
 
     -- the `T` lines, by node number from 2
-    unfoldable pub fittedLines : List (List ℕ)
-    fittedLines = map fittedLine (otherNodes n)
+    unfoldable pub fittedLines : (ℕ → ℤ → ℤ → ℕ) → List (List ℕ)
+    fittedLines step = map (fittedLine step) (otherNodes n)
 
     -- the `H` lines, by node number and character
     unfoldable pub rangeLines : List (List ℕ)

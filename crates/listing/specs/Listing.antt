@@ -8,7 +8,7 @@ use Rattle.matrix_file.specs.Decimal.{digitsOf}
 use Rattle.matrix_file.specs.Text.{bytes}
 use Rattle.matrix_file.specs.Job.{Job}
 use Rattle.matrix_file.specs.Reading.{ReadAnswer, accepted, refused, readAnswer}
-use Rattle.difference.specs.Rows.{difference, nodeDifference}
+use Rattle.difference.specs.Rows.{Measure, plain, nodeDifference}
 use Rattle.prim.specs.Network.{network, networkLength}
 use Rattle.wagner.specs.Build.{Built, wagner, wagnerLength}
 use Rattle.fitting.specs.Fit.{fittedTotal}
@@ -16,31 +16,33 @@ use Rattle.listing.specs.Lines.{line}
 use Rattle.listing.specs.Blocks.{totalLine, primLine, wagnerLine, fittedLines, rangeLines}
 
 -- the Prim Network: its `P` lines, and `p`
-unfoldable pub primBlock : Job → List (List ℕ)
-primBlock job =
-    let links = network (nodeDifference difference (rowOf (job .rows))) (job .n) in
+unfoldable pub primBlock : Measure → Job → List (List ℕ)
+primBlock measure job =
+    let links = network (nodeDifference (measure .rows) (rowOf (job .rows))) (job .n) in
     map (primLine (job .n) (job .names)) links ++ (totalLine "p" (networkLength links) ∷ [])
 
 -- the Wagner tree: its `W` lines, and `w`
-unfoldable pub wagnerBlock : Job → Built → List (List ℕ)
-wagnerBlock job built =
-    map (wagnerLine (job .n) (job .names)) (built .placements) ++ (totalLine "w" (wagnerLength (job .n) built) ∷ [])
+unfoldable pub wagnerBlock : Measure → Job → Built → List (List ℕ)
+wagnerBlock measure job built =
+    map (wagnerLine (job .n) (job .names)) (built .placements)
+    ++ (totalLine "w" (wagnerLength (measure .rows) (job .n) built) ∷ [])
 
 -- the fitted tree: its `T` lines, and `t`
-unfoldable pub fittedBlock : Job → List ℕ → List (List ℕ)
-fittedBlock job tree =
-    fittedLines (job .n) (job .names) tree (job .rows) (job .m)
-    ++ (totalLine "t" (fittedTotal tree (job .rows) (job .n) (job .m)) ∷ [])
+unfoldable pub fittedBlock : Measure → Job → List ℕ → List (List ℕ)
+fittedBlock measure job tree =
+    fittedLines (job .n) (job .names) tree (job .rows) (job .m) (measure .step)
+    ++ (totalLine "t" (fittedTotal (measure .step) tree (job .rows) (job .n) (job .m)) ∷ [])
 
 -- the ranges: the `H` lines
 unfoldable pub rangeBlock : Job → List ℕ → List (List ℕ)
 rangeBlock job tree = rangeLines (job .n) (job .names) tree (job .rows) (job .m)
 
--- the listing of a job, line by line
-unfoldable pub listing : Job → List (List ℕ)
-listing job =
-    let built = wagner (job .n) (job .rows) in
-    primBlock job ++ (wagnerBlock job built ++ (fittedBlock job (built .tree) ++ rangeBlock job (built .tree)))
+-- the listing of a job as change is measured, line by line
+unfoldable pub listing : Measure → Job → List (List ℕ)
+listing measure job =
+    let built = wagner (measure .rows) (job .n) (job .rows) in
+    primBlock measure job
+    ++ (wagnerBlock measure job built ++ (fittedBlock measure job (built .tree) ++ rangeBlock job (built .tree)))
 
 -- the one line of a refusal: `R`, its number, the line of the file
 unfoldable pub refusalLine : Refusal → ℕ → List ℕ
@@ -48,7 +50,7 @@ refusalLine refusal at = line (bytes "R" ∷ digitsOf (refusalNumber refusal) �
 
 -- the lines printed for an answer
 unfoldable pub printed : ReadAnswer → List (List ℕ)
-printed (accepted job) = listing job
+printed (accepted job) = listing plain job
 printed (refused refusal at) = refusalLine refusal at ∷ []
 
 -- the lines printed for a file's bytes

@@ -8,7 +8,7 @@ use Rattle.matrix.specs.NodeRows.{rowOf}
 use Rattle.matrix.specs.Questions.{withinLimits, oneTo}
 use Rattle.lists.proofs.Both.{and-left, and-right}
 use Rattle.matrix.proofs.Passing.{oneTo-true}
-use Rattle.difference.specs.Rows.{difference, nodeDifference}
+use Rattle.difference.specs.Rows.{difference, plain, nodeDifference}
 use Rattle.difference.proofs.Laws.Rows.{difference-sym}
 use Rattle.prim.specs.Rival.{Shortest}
 use Rattle.prim.proofs.Shortest.{shortest}
@@ -18,7 +18,7 @@ use Rattle.wagner.specs.Build.{wagner}
 use Rattle.wagner.proofs.Build.{wagner-branching}
 use Rattle.branching.proofs.Test.{branching-iff}
 use Rattle.fitting.specs.Rival.{FitIsLeast}
-use Rattle.fitting.proofs.Laws.ThirdRival.{third-rival}
+use Rattle.fitting.proofs.Matrix.ThirdRival.{third-rival}
 use Rattle.rivals.specs.Accepted.{Accepted}
 use Rattle.rivals.specs.Demand.{NoRivalDoesBetter}
 use Rattle.rivals.proofs.Rows.{accepted-rows}
@@ -35,11 +35,11 @@ unfolding nodeDifference
 network-shortest rows n = shortest (nodeDifference difference (rowOf rows)) (λ x y. difference-sym (rowOf rows x) (rowOf rows y)) n
 
 -- the fit
-fit-least : (n m : ℕ) (tree : List ℕ) (rows : List (List ℤ)) → 1 ≤ n → branching n tree ≡ true → FitIsLeast tree rows n m
+fit-least : (n m : ℕ) (tree : List ℕ) (rows : List (List ℤ)) → 1 ≤ n → branching n tree ≡ true → FitIsLeast (plain .step) tree rows n m
 fit-least n m tree rows taxa b = third-rival n m tree rows taxa (branching-iff tree n taxa .0 b)
 
 -- for every accepted matrix
-pub no-rival : (n m : ℕ) (rows : List (List ℤ)) → Accepted n m rows → NoRivalDoesBetter n m rows
+pub no-rival : (n m : ℕ) (rows : List (List ℤ)) → Accepted n m rows → NoRivalDoesBetter plain n m rows
 unfolding lentBranching
 no-rival n m rows a =
     let matrix = accepted-rows a in
@@ -48,7 +48,7 @@ no-rival n m rows a =
       network = network-shortest rows n;
       placement = handed-least n m (limits .0) (limits .1) rows matrix;
       build = wagner-least n m (limits .0) (limits .1) rows matrix;
-      whole = branching-iff (wagner n rows .tree) n (limits .0) .1 (wagner-branching n (limits .0) (limits .1) rows);
+      whole = branching-iff (wagner difference n rows .tree) n (limits .0) .1 (wagner-branching difference n (limits .0) (limits .1) rows);
       fit = λ tree b. fit-least n m tree rows (limits .0) b;
       lentFit = λ records b.
           fit-least n m (ancestorsOf n records) rows (limits .0) (and-right (namedInOrder n records) (branching n (ancestorsOf n records)) b);

@@ -64,7 +64,7 @@ module _ (n m : ℕ) (taxa : 1 ≤ n) (most : n ≤ 64) where
   module _ (next : ℕ → List ℕ → List (List ℤ) → ℕ) (chooses : Chooses next n) where
     -- each placement of a build from a growing tree of at least two taxa on
     each-least : (count k : ℕ) (tree : List ℕ) (rows : List (List ℤ)) → Growth n m k tree rows → 2 ≤ k → count + k ≤ n
-        → EachIsLeast n m tree rows
+        → EachIsLeast difference n m tree rows
         (buildOn difference next n count tree rows .placements)
         (buildOn difference next n count tree rows .tree)
         (buildOn difference next n count tree rows .rows)
@@ -78,7 +78,7 @@ module _ (n m : ℕ) (taxa : 1 ≤ n) (most : n ≤ 64) where
 
     -- a whole build, so many placements from row 1 alone
     build-least : (count : ℕ) (rows : List (List ℤ)) → Growth n m 1 noBranches rows → count + 1 ≡ n
-        → BuildIsLeast n m rows (buildOn difference next n count noBranches rows)
+        → BuildIsLeast difference n m rows (buildOn difference next n count noBranches rows)
     unfolding buildOn link
     build-least zero rows g e = oneTaxon (sym e)
     build-least (suc count) rows g e =
@@ -89,7 +89,7 @@ module _ (n m : ℕ) (taxa : 1 ≤ n) (most : n ≤ 64) where
         rw first (severalTaxa b chosen (each-least count 2 _ _ after (omega arith) (omega arith)))
 
   -- the build of the Wagner tree
-  pub wagner-least : (rows : List (List ℤ)) → MatrixRows n m rows → BuildIsLeast n m rows (wagner n rows)
+  pub wagner-least : (rows : List (List ℤ)) → MatrixRows n m rows → BuildIsLeast difference n m rows (wagner difference n rows)
   unfolding wagner build
   wagner-least rows a =
       let start : Growth n m 1 noBranches rows =

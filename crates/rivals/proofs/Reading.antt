@@ -9,6 +9,7 @@ use lib.Seq.{ext-getD}
 use Rattle.matrix.specs.NodeRows.{rowsOf}
 use Rattle.matrix.specs.Shape.{matrixSize}
 use Rattle.matrix.proofs.Passing.{matrix-passes}
+use Rattle.difference.specs.Rows.{plain}
 use Rattle.matrix_file.specs.Reading.{readAnswer, jobIn}
 use Rattle.matrix_file.specs.Report.{reported, ReadDone}
 use Rattle.matrix_file.specs.Written.{matrixWritten}
@@ -40,7 +41,7 @@ read-rows file n m e old full = ext-getD [] (rowsOf written m n) rows (length-ro
 
 -- no rival does better on a matrix that the call has read
 pub no-rival-read : (file : List ℕ) (oldMatrix : List ℤ) (oldNames : List ℕ) (newMatrix : List ℤ) (newNames : List ℕ) (r : Read) (n m : ℕ)
-    → ReadDone file oldMatrix oldNames newMatrix newNames r → r ≡ Read.Accepted n m → NoRivalDoesBetter n m (rowsOf newMatrix m n)
+    → ReadDone file oldMatrix oldNames newMatrix newNames r → r ≡ Read.Accepted n m → NoRivalDoesBetter plain n m (rowsOf newMatrix m n)
 no-rival-read file oldMatrix oldNames newMatrix newNames r n m done e =
     let accepting = read-accepting file oldMatrix oldNames newMatrix newNames r n m done e in
     let lent = read-lent file n m (accepting .said) oldMatrix (accepting .full) in

@@ -5,7 +5,7 @@ use mathlib.Core.List.{List, [], _∷_, _++_}
 use Prim.Native.Nat.{ℕ}
 use lib.IntN.{ℤ}
 use Rattle.matrix.specs.NodeRows.{rowOf}
-use Rattle.difference.specs.Rows.{difference, nodeDifference}
+use Rattle.difference.specs.Rows.{Measure, nodeDifference}
 use Rattle.prim.specs.Rival.{Shortest}
 use Rattle.wagner.specs.declared.placement.Placement.{Placement}
 use Rattle.branching.specs.declared.branch.Branch.{Branch}
@@ -19,33 +19,33 @@ use Rattle.wagner.specs.Rival.{PlacementIsLeast}
 use Rattle.fitting.specs.Rival.{FitIsLeast}
 use Rattle.rivals.specs.Accepted.{HandedIn}
 
--- placements in turn, from a tree with its rows to another with its rows: each of them is least
-pub data EachIsLeast (n m : ℕ) : List ℕ → List (List ℤ) → List Placement → List ℕ → List (List ℤ) → Type 0 where
-  done : {tree : List ℕ} {rows : List (List ℤ)} → EachIsLeast n m tree rows [] tree rows
+-- placements in turn, by a difference d of rows, from a tree with its rows to another with its rows: each of them is least
+pub data EachIsLeast (d : List ℤ → List ℤ → ℕ) (n m : ℕ) : List ℕ → List (List ℤ) → List Placement → List ℕ → List (List ℤ) → Type 0 where
+  done : {tree : List ℕ} {rows : List (List ℤ)} → EachIsLeast d n m tree rows [] tree rows
   more : {tree last : List ℕ} {rows lastRows : List (List ℤ)} {placements : List Placement} (b : ℕ) (placed : Placed)
-      → Unplaced n tree b → PlacementIsLeast difference n m tree rows b placed
-      → EachIsLeast n m (placed .tree) (placed .rows) placements last lastRows
-      → EachIsLeast n m tree rows (placed .placement ∷ placements) last lastRows
+      → Unplaced n tree b → PlacementIsLeast d n m tree rows b placed
+      → EachIsLeast d n m (placed .tree) (placed .rows) placements last lastRows
+      → EachIsLeast d n m tree rows (placed .placement ∷ placements) last lastRows
 
 -- a build from row 1 alone: no placement for n = 1; else a taxon is linked to row 1, and each placement after it is least
-pub data BuildIsLeast (n m : ℕ) (rows : List (List ℤ)) : Built → Type 0 where
-  oneTaxon : n ≡ 1 → BuildIsLeast n m rows (record { tree = noBranches; rows = rows; placements = [] })
+pub data BuildIsLeast (d : List ℤ → List ℤ → ℕ) (n m : ℕ) (rows : List (List ℤ)) : Built → Type 0 where
+  oneTaxon : n ≡ 1 → BuildIsLeast d n m rows (record { tree = noBranches; rows = rows; placements = [] })
   severalTaxa : {last : List ℕ} {lastRows : List (List ℤ)} {placements : List Placement} (b : ℕ) → Unplaced n noBranches b
-      → EachIsLeast n m (linked noBranches b) rows placements last lastRows
-      → BuildIsLeast n m rows
-      (record { tree = last; rows = lastRows; placements = link difference noBranches rows b .placement ∷ placements })
+      → EachIsLeast d n m (linked noBranches b) rows placements last lastRows
+      → BuildIsLeast d n m rows
+      (record { tree = last; rows = lastRows; placements = link d noBranches rows b .placement ∷ placements })
 
--- ours against the three rivals, for a matrix of n taxa and m characters with these rows
-pub record NoRivalDoesBetter (n m : ℕ) (rows : List (List ℤ)) : Type 0 where
+-- ours against the three rivals, as change is measured, for a matrix of n taxa and m characters with these rows
+pub record NoRivalDoesBetter (measure : Measure) (n m : ℕ) (rows : List (List ℤ)) : Type 0 where
   -- our network is a connected one, of length `p`, and no connected network of the taxa is shorter
-  pub network : Shortest (nodeDifference difference (rowOf rows)) n
+  pub network : Shortest (nodeDifference (measure .rows) (rowOf rows)) n
   -- our placement of a taxon on a tree handed in is a hanging on one of its intervals, adds its interval difference, and none adds less
   pub placement : (tree : List ℕ) (htus : List (List ℤ)) → HandedIn n m tree htus → (b : ℕ) → Unplaced n tree b
-      → PlacementIsLeast difference n m tree (rows ++ htus) b (place difference n tree (rows ++ htus) b)
+      → PlacementIsLeast (measure .rows) n m tree (rows ++ htus) b (place (measure .rows) n tree (rows ++ htus) b)
   -- so is each placement of our Wagner tree, which is a branching of all n taxa
-  pub build : BuildIsLeast n m rows (wagner n rows)
-  pub whole : branching n (wagner n rows .tree) ≡ true
+  pub build : BuildIsLeast (measure .rows) n m rows (wagner (measure .rows) n rows)
+  pub whole : branching n (wagner (measure .rows) n rows .tree) ≡ true
   -- on any branching our chosen states have the least total, and a range has exactly the states of assignments of least length
-  pub fit : (tree : List ℕ) → branching n tree ≡ true → FitIsLeast tree rows n m
+  pub fit : (tree : List ℕ) → branching n tree ≡ true → FitIsLeast (measure .step) tree rows n m
   -- a branching may be lent as branch records
-  pub lentFit : (records : List Branch) → lentBranching n records ≡ true → FitIsLeast (ancestorsOf n records) rows n m
+  pub lentFit : (records : List Branch) → lentBranching n records ≡ true → FitIsLeast (measure .step) (ancestorsOf n records) rows n m

@@ -7,9 +7,9 @@ use native.Mathlib.Omega.{arith}
 use native.Mathlib.Nat.{zero-add}
 use lib.IntN.{ℤ}
 use lib.ListN.{length, length-set}
+use Rattle.difference.specs.Rows.{nodeDifference}
 use Rattle.matrix.specs.NodeRows.{rowOf}
 use Rattle.lists.specs.Numbers.{numbers}
-use Rattle.difference.specs.Rows.{difference, nodeDifference}
 use Rattle.branching.specs.Nodes.{taxaPlaced, nodesOut, Unplaced}
 use Rattle.branching.specs.Facts.{GrowingTree, alone, Branching}
 use Rattle.branching.specs.Hanging.{noBranches, linked, hung}
@@ -68,13 +68,13 @@ module _ (d : List ℤ → List ℤ → ℕ) (next : ℕ → List ℕ → List (
       let all : n - 1 + 1 ≡ n = omega arith in
       rw all at (buildOn-grows (n - 1) 1 noBranches rows (alone noBranches-none) (omega arith) (rw noBranches-places (omega arith)))
 
--- the Wagner tree of 1 to 64 rows is a branching
-pub wagner-branching : (n : ℕ) → 1 ≤ n → n ≤ 64 → (rows : List (List ℤ)) → Branching n (wagner n rows .tree)
-unfolding wagner
-wagner-branching n taxa h rows = build-branching difference (byAdvancement difference) n taxa (advancement-chooses difference n) h rows
+module _ (d : List ℤ → List ℤ → ℕ) (n : ℕ) (taxa : 1 ≤ n) (most : n ≤ 64) (rows : List (List ℤ)) where
+  -- the Wagner tree of 1 to 64 rows is a branching
+  pub wagner-branching : Branching n (wagner d n rows .tree)
+  unfolding wagner
+  wagner-branching = build-branching d (byAdvancement d) n taxa (advancement-chooses d n) most rows
 
--- its branch records, lent again, are a branching
-pub wagner-lent : (n : ℕ) → 1 ≤ n → n ≤ 64 → (rows : List (List ℤ)) → lentBranching n (wagnerBranches n (wagner n rows)) ≡ true
-unfolding wagnerBranches
-wagner-lent n taxa h rows =
-    records-lent (nodeDifference difference (rowOf (wagner n rows .rows))) n (wagner n rows .tree) (wagner-branching n taxa h rows) taxa
+  -- its branch records, lent again, are a branching
+  pub wagner-lent : lentBranching n (wagnerBranches d n (wagner d n rows)) ≡ true
+  unfolding wagnerBranches
+  wagner-lent = records-lent (nodeDifference d (rowOf (wagner d n rows .rows))) n (wagner d n rows .tree) wagner-branching taxa

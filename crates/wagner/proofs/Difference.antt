@@ -36,13 +36,13 @@ difference-laws m =
 -- n rows of m codes, n from 1 to 64
 module _ (n m : ℕ) (taxa : 1 ≤ n) (most : n ≤ 64) (rows : List (List ℤ)) (all : length rows ≡ n) (each : OfLength m rows) where
   -- the Wagner tree: its tree, its rows and its length
-  pub wagner-sound : Sound difference n m n noBranches rows (wagner n rows)
+  pub wagner-sound : Sound difference n m n noBranches rows (wagner difference n rows)
   unfolding wagner
   wagner-sound =
       build-sound difference (byAdvancement difference) n m taxa (advancement-chooses difference n) (difference-laws m) most rows all each
 
   -- its length is the sum of the lengths added
-  pub wagner-length : wagnerLength n (wagner n rows) ≡ addedLength (wagner n rows .placements)
+  pub wagner-length : wagnerLength difference n (wagner difference n rows) ≡ addedLength (wagner difference n rows .placements)
   unfolding wagner wagnerLength
   wagner-length =
       build-length difference (byAdvancement difference) n m taxa (advancement-chooses difference n) (difference-laws m) most rows all each

@@ -45,11 +45,11 @@ unfolding apart lower higher median medians difference numbers firstLeast lastNo
     lengthUnder medianRow fromInterval nearestInterval link hang placeOn place byAdvancement buildOn build wagner wagnerLength
     wagnerBranches
 shown n rows =
-    let built : Built = wagner n rows in
+    let built : Built = wagner difference n rows in
     record {
       placements = built .placements;
       ancestors = take (2 * n - 1) (built .tree);
-      total = wagnerLength n built;
+      total = wagnerLength difference n built;
       isBranching = branching n (built .tree);
     }
 
@@ -129,7 +129,7 @@ handed-row = refl
 -- the branches of document 01's tree, with their lengths under the median codes; handed back, they are a branching
 branches : List Branch
 unfolding shown
-branches = wagnerBranches 4 (wagner 4 fourTaxa)
+branches = wagnerBranches difference 4 (wagner difference 4 fourTaxa)
 
 abbrev branch : ℕ → ℕ → ℕ → Branch
 branch v a l = record { node = v; ancestor = a; length = l }

@@ -2,9 +2,9 @@
 use mathlib.Core.List.{List, [], _∷_}
 use Prim.Native.Nat.{ℕ, zero, suc, _-_}
 use lib.IntN.{ℤ}
+use Rattle.difference.specs.Rows.{nodeDifference}
 use Rattle.matrix.specs.NodeRows.{rowOf}
 use Rattle.lists.specs.Numbers.{numbers}
-use Rattle.difference.specs.Rows.{difference, nodeDifference}
 use Rattle.wagner.specs.declared.placement.Placement.{Placement}
 use Rattle.branching.specs.declared.branch.Branch.{Branch}
 use Rattle.branching.specs.Nodes.{nodesOut}
@@ -43,14 +43,15 @@ module _ (d : List ℤ → List ℤ → ℕ) (next : ℕ → List ℕ → List (
   unfoldable pub build : ℕ → List (List ℤ) → Built
   build n rows = buildOn n (n - 1) noBranches rows
 
--- the Wagner tree of n rows: taxa are placed by rising advancement, the lower row first among equals
-unfoldable pub wagner : ℕ → List (List ℤ) → Built
-wagner n rows = build difference (byAdvancement difference) n rows
+module _ (d : List ℤ → List ℤ → ℕ) where
+  -- the Wagner tree of n rows: taxa are placed by rising advancement, the lower row first among equals
+  unfoldable pub wagner : ℕ → List (List ℤ) → Built
+  wagner n rows = build d (byAdvancement d) n rows
 
--- the length of a finished tree under the median codes
-unfoldable pub wagnerLength : ℕ → Built → ℕ
-wagnerLength n built = lengthUnder difference n (built .tree) (built .rows)
+  -- the length of a finished tree under the median codes
+  unfoldable pub wagnerLength : ℕ → Built → ℕ
+  wagnerLength n built = lengthUnder d n (built .tree) (built .rows)
 
--- the finished tree as branch records
-unfoldable pub wagnerBranches : ℕ → Built → List Branch
-wagnerBranches n built = branchRecords (nodeDifference difference (rowOf (built .rows))) n (built .tree)
+  -- the finished tree as branch records
+  unfoldable pub wagnerBranches : ℕ → Built → List Branch
+  wagnerBranches n built = branchRecords (nodeDifference d (rowOf (built .rows))) n (built .tree)

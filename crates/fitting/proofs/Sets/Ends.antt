@@ -1,30 +1,12 @@
--- Arithmetic of the ends of two sets l to h and l′ to h′ of natural numbers: the start of their intersection is the higher low end, its end
--- the lower high end. How far s lies from l to h is (l - s) + (s - h).
-use mathlib.Core.Path.{_≡_, refl, subst}
-use mathlib.Core.Bool.{Bool, true, false}
-use Prim.Native.Nat.{ℕ, _+_, _*_, _-_, _≤_, _<_, min, max}
+-- Arithmetic of the ends of two sets l to h and l′ to h′ of natural numbers.
+-- Their intersection starts at the higher low end and ends at the lower high end; s lies (l - s) + (s - h) from l to h.
+use mathlib.Core.Path.{_≡_}
+use Prim.Native.Nat.{ℕ, _+_, _*_, _-_, _≤_, min, max}
 use native.Mathlib.Nat.{le-trans, le-of-lt, min-eq-left, min-eq-right, max-eq-left, max-eq-right}
 use native.Mathlib.Omega.{arith}
-use lib.Dec.{leb}
-use borrow.Author.Tests.{leb-true, leb-false}
+use Rattle.fitting.proofs.Cases.{either, min-cases, max-cases, between}
 
--- of two numbers one is at most the other
-pub either : (a b : ℕ) {P : Type 0} → (a ≤ b → P) → (b < a → P) → P
-either a b {P} f g = go (leb a b) refl
-  where
-    go : (t : Bool) → leb a b ≡ t → P
-    go true e = f (leb-true a b e)
-    go false e = g (leb-false a b e)
-
--- a statement about the lower or the higher of two numbers, by cases
-pub min-cases : (P : ℕ → Type 0) (a b : ℕ) → (a ≤ b → P a) → (b < a → P b) → P (min a b)
-min-cases P a b f g = either a b (λ h. subst P (omega arith) (f h)) (λ h. subst P (omega arith) (g h))
-
--- the same of the higher one
-pub max-cases : (P : ℕ → Type 0) (a b : ℕ) → (a ≤ b → P b) → (b < a → P a) → P (max a b)
-max-cases P a b f g = either a b (λ h. subst P (omega arith) (f h)) (λ h. subst P (omega arith) (g h))
-
--- the differences from both ends of a set
+-- the differences of s from both ends of a set are twice its distance from the set, and the set's width
 pub either-side : (s l h : ℕ) → l ≤ h → ((s - l) + (l - s)) + ((s - h) + (h - s)) ≡ 2 * ((l - s) + (s - h)) + ((l - h) + (h - l))
 either-side s l h p = either s l (λ c. omega arith) (λ c. omega arith)
 
@@ -49,12 +31,6 @@ pub join-apart : (s l h l′ h′ : ℕ) →
     (max l l′ - min h h′) + ((min (max l l′) (min h h′) - s) + (s - max (max l l′) (min h h′)))
     ≤ ((l - s) + (s - h)) + ((l′ - s) + (s - h′))
 join-apart s l h l′ h′ = le-trans (between-apart s (max l l′) (min h h′)) (ends-apart s l h l′ h′)
-
--- a number between two others, by their order
-between : (s x y : ℕ) {P : Type 0} → (x ≤ y → x ≤ s → s ≤ y → P) → (y < x → y ≤ s → s ≤ x → P) → min x y ≤ s → s ≤ max x y → P
-between s x y f g p q = either x y
-    (λ h. f h (rw (min-eq-left h) at p) (rw (max-eq-right h) at q))
-    (λ h. g h (rw (min-eq-right (le-of-lt h)) at p) (rw (max-eq-left (le-of-lt h)) at q))
 
 -- a member of the join is together as far from two sets as one set is from the other
 pub in-join : (s l h l′ h′ : ℕ) → l ≤ h → l′ ≤ h′ → min (max l l′) (min h h′) ≤ s → s ≤ max (max l l′) (min h h′) →

@@ -7,33 +7,37 @@ use native.Mathlib.Omega.{arith}
 use native.Mathlib.Decide.{decLe}
 use lib.IntN.{ℤ}
 use Rattle.lists.specs.Numbers.{numbers}
+use Rattle.difference.specs.Rows.{plain}
 use Rattle.branching.specs.Ancestors.{descendants}
 use Rattle.branching.specs.Nodes.{otherNodes}
 use Rattle.branching.specs.Facts.{Branching}
 use Rattle.lists.specs.Sums.{sumOver}
 use Rattle.branching.proofs.Whole.{branching-grown}
 use Rattle.lists.specs.Filters.{keep}
-use Rattle.fitting.specs.Trees.{treesBelow}
+use Rattle.fitting.specs.Clades.{cladesBelow}
 use Rattle.fitting.specs.Character.{valueAt}
 use Rattle.fitting.specs.Assignments.{total}
 use Rattle.fitting.specs.Fit.{chosenState, fittedTotal}
 use Rattle.fitting.specs.Rival.{FitIsLeast}
-use Rattle.fitting.proofs.Laws.Shape.{tree-of}
-use Rattle.fitting.proofs.Laws.Matrix.{lengths-total, fit-is-least}
+use Rattle.fitting.proofs.Clades.Built.{clade-of}
+use Rattle.fitting.proofs.Matrix.IntervalFit.{interval-fit}
+use Rattle.fitting.proofs.Matrix.EachFitted.{lengths-total, fit-is-least}
 
 -- row 1 alone: no branch, no HTU, and a total of 0
-alone : (m : ℕ) (ancestors : List ℕ) (rows : List (List ℤ)) → FitIsLeast ancestors rows 1 m
-alone m ancestors rows = record {
-  assigns = record { keeps = λ v j p q r s. unfold chosenState treesBelow otherNodes numbers descendants keep flatMap valueAt in refl };
-  lengths = lengths-total 1 m ancestors rows;
+alone : (step : ℕ → ℤ → ℤ → ℕ) (m : ℕ) (tree : List ℕ) (rows : List (List ℤ)) → FitIsLeast step tree rows 1 m
+alone step m tree rows = record {
+  assigns = record { keeps = λ v j p q r s. unfold chosenState cladesBelow otherNodes numbers descendants keep flatMap valueAt in refl };
+  lengths = lengths-total step 1 m tree rows;
   least = λ states h. unfold fittedTotal total otherNodes numbers sumOver in omega arith;
   ranges = λ v j s p q r l. absurd (omega arith);
 }
 
 -- the chosen states have least length and the ranges are those of all assignments of least length, for every branching of n taxa
-pub third-rival : (n m : ℕ) (ancestors : List ℕ) (rows : List (List ℤ)) → 1 ≤ n → Branching n ancestors → FitIsLeast ancestors rows n m
-third-rival n m ancestors rows taxa branching =
+pub third-rival : (n m : ℕ) (tree : List ℕ) (rows : List (List ℤ)) → 1 ≤ n → Branching n tree → FitIsLeast (plain .step) tree rows n m
+third-rival n m tree rows taxa branching =
     by-cases
     (decLe 2 n)
-    (λ two. fit-is-least n m ancestors rows two (tree-of n ancestors (branching-grown n ancestors two branching)))
-    (λ one. subst (λ k. FitIsLeast ancestors rows k m) (omega arith) (alone m ancestors rows))
+    (λ two.
+    let clade = clade-of n tree (branching-grown n tree two branching) in
+    fit-is-least (plain .step) n m tree rows two clade (λ j r l. interval-fit n tree rows taxa clade j))
+    (λ one. subst (λ k. FitIsLeast (plain .step) tree rows k m) (omega arith) (alone (plain .step) m tree rows))

@@ -7,10 +7,10 @@ use native.Mathlib.Nat.{max-comm, min-comm}
 use native.Mathlib.Omega.{arith}
 use lib.IntN.{ℤ}
 use Rattle.difference.proofs.Laws.Places.{place, everywhere}
-use Rattle.fitting.specs.Sets.{Span, join, nearest}
-use Rattle.fitting.proofs.Laws.Ends.{either}
-use Rattle.fitting.proofs.Laws.Sets.{Nonempty, In, span, join-places, nearest-places, nonempty-places, in-places, places-in}
-use Rattle.fitting.proofs.Laws.Sets.{nearest-in}
+use Rattle.fitting.specs.Sets.{In, Span, join, nearestMember}
+use Rattle.fitting.proofs.Cases.{either}
+use Rattle.fitting.proofs.Sets.Distance.{Nonempty, span, join-places, nearestMember-places, nonempty-places, in-places, places-in}
+use Rattle.fitting.proofs.Sets.Distance.{nearestMember-in}
 
 -- two sets touch if they have a state in common
 pub record Touches (a b : Span) : Type 0 where
@@ -49,26 +49,26 @@ join-comm a b = everywhere (λ z. join (span (z 0) (z 1)) (span (z 2) (z 3)) ≡
     (a .low ∷ a .high ∷ b .low ∷ b .high ∷ [])
 
 -- the member of a set nearest to the other set's low end is in their join
-nearest-in-join : (a b : Span) → Nonempty a → Nonempty b → In (nearest (b .low) a) (join a b)
-nearest-in-join a b = everywhere
+nearestMember-in-join : (a b : Span) → Nonempty a → Nonempty b → In (nearestMember (b .low) a) (join a b)
+nearestMember-in-join a b = everywhere
     (λ z. Nonempty (span (z 0) (z 1)) → Nonempty (span (z 2) (z 3)) →
-    In (nearest (z 2) (span (z 0) (z 1))) (join (span (z 0) (z 1)) (span (z 2) (z 3))))
+    In (nearestMember (z 2) (span (z 0) (z 1))) (join (span (z 0) (z 1)) (span (z 2) (z 3))))
     (λ K n p q.
     let p′ = nonempty-places K (n 0) (n 1) p in
     let q′ = nonempty-places K (n 2) (n 3) q in
-    rw (nearest-places K (n 2) (n 0) (n 1), join-places K (n 0) (n 1) (n 2) (n 3)) (in-places K (omega arith) (omega arith)))
+    rw (nearestMember-places K (n 2) (n 0) (n 1), join-places K (n 0) (n 1) (n 2) (n 3)) (in-places K (omega arith) (omega arith)))
     (a .low ∷ a .high ∷ b .low ∷ b .high ∷ [])
 
 -- the join of two sets touches the first
 join-touches-first : (a b : Span) → Nonempty a → Nonempty b → Touches (join a b) a
 join-touches-first a b p q =
-    record { state = nearest (b .low) a; inFirst = nearest-in-join a b p q; inSecond = nearest-in (b .low) a p }
+    record { state = nearestMember (b .low) a; inFirst = nearestMember-in-join a b p q; inSecond = nearestMember-in (b .low) a p }
 
 -- the join of two sets touches both
 pub join-touches : (a b : Span) → Nonempty a → Nonempty b → Touches (join a b) a × Touches (join a b) b
 join-touches a b p q = (join-touches-first a b p q, rw (join-comm a b) (join-touches-first b a q p))
 
--- of two sets that do not touch it is the smallest interval that does: every interval that touches both contains it
+-- the join of two sets that do not touch is the smallest interval that touches both: every such interval contains it
 pub join-smallest : (a b : Span) → Disjoint a b → (c : Span) → Touches c a → Touches c b → (s : ℤ) → In s (join a b) → In s c
 join-smallest a b d c t u s = everywhere
     (λ z. Disjoint (span (z 1) (z 2)) (span (z 3) (z 4)) →

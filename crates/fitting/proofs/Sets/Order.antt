@@ -1,5 +1,5 @@
--- States in rising order, and the states from which the absolute differences to six states add up to the least: those from the third to
--- the fourth of the six.
+-- States in rising order, and the states whose absolute differences from six states add up to the least:
+-- those from the third to the fourth of the six.
 use mathlib.Core.Path.{_≡_, refl, _∙_, ap}
 use mathlib.Core.List.{List, [], _∷_}
 use mathlib.Core.Bool.{Bool, true, false, cond}
@@ -54,7 +54,7 @@ unfoldable pub spread : ℤ → List ℤ → ℕ
 spread s [] = 0
 spread s (x ∷ xs) = apart s x + spread s xs
 
--- writing a state in adds its difference
+-- writing a state into a list adds its difference to the sum
 spread-insert : (s x : ℤ) (ys : List ℤ) → spread s (insert x ys) ≡ apart s x + spread s ys
 unfolding insert spread
 spread-insert s x [] = refl
@@ -65,13 +65,13 @@ spread-insert s x (y ∷ ys) = go (leZ x y) (spread-insert s x ys)
     go true h = refl
     go false h = omega arith
 
--- the order does not change the sum
+-- putting states in order does not change the sum
 pub spread-inOrder : (s : ℤ) (xs : List ℤ) → spread s (inOrder xs) ≡ spread s xs
 unfolding inOrder spread
 spread-inOrder s [] = refl
 spread-inOrder s (x ∷ xs) = spread-insert s x (inOrder xs) ∙ ap (λ k. apart s x + k) (spread-inOrder s xs)
 
--- writing a state in adds one
+-- writing a state into a list makes it one longer
 length-insert : (x : ℤ) (ys : List ℤ) → length (insert x ys) ≡ suc (length ys)
 unfolding insert
 length-insert x [] = refl
@@ -98,11 +98,11 @@ six P h (a ∷ b ∷ c ∷ d ∷ x ∷ []) e = absurd (omega arith)
 six P h (a ∷ b ∷ c ∷ d ∷ x ∷ y ∷ []) e = h a b c d x y
 six P h (a ∷ b ∷ c ∷ d ∷ x ∷ y ∷ z ∷ zs) e = absurd (omega arith)
 
--- the third and the fourth of a list
+-- the third of a list
 abbrev pub third : List ℤ → ℤ
 third xs = getD xs 2 (pos 0)
 
--- the fourth
+-- the fourth of a list
 abbrev pub fourth : List ℤ → ℤ
 fourth xs = getD xs 3 (pos 0)
 
@@ -125,7 +125,7 @@ third-to-fourth = six (λ xs. Rising xs → (s other : ℤ) → third xs ≤ℤ 
       apart-from other c d,
     ))
 
--- and only from there
+-- a state whose differences add up to no more stands from the third to the fourth of the six
 pub third-to-fourth-of : (xs : List ℤ) → length xs ≡ 6 → Rising xs → (s : ℤ) →
     spread s xs ≤ spread (third xs) xs → (third xs ≤ℤ s) × (s ≤ℤ fourth xs)
 third-to-fourth-of = six (λ xs. Rising xs → (s : ℤ) → spread s xs ≤ spread (third xs) xs → (third xs ≤ℤ s) × (s ≤ℤ fourth xs))

@@ -9,21 +9,16 @@ use lib.Signed.{_≤ℤ_, ≤ℤ-refl}
 use Rattle.difference.specs.Rows.{apart, lower, higher}
 use Rattle.difference.proofs.Laws.Codes.{apart-sym}
 use Rattle.difference.proofs.Laws.Places.{place, apart-place, lower-place, higher-place, le-place, place-le, everywhere}
-use Rattle.fitting.specs.Sets.{Span, only, join, nearest}
-use Rattle.fitting.proofs.Laws.Ends.{either-side, join-apart, in-join, nearest-apart}
+use Rattle.fitting.specs.Sets.{Span, In, only, join, nearestMember}
+use Rattle.fitting.proofs.Sets.Ends.{either-side, join-apart, in-join, nearest-apart}
 
 -- a set has at least one member
 pub record Nonempty (a : Span) : Type 0 where
   pub ordered : a .low ≤ℤ a .high
 
--- a state is a member of a set
-pub record In (s : ℤ) (a : Span) : Type 0 where
-  pub fromLow : a .low ≤ℤ s
-  pub toHigh : s ≤ℤ a .high
-
 -- how far a state lies from a set: its difference from the nearest member
 unfoldable pub offset : ℤ → Span → ℕ
-offset s a = apart s (nearest s a)
+offset s a = apart s (nearestMember s a)
 
 -- how far two sets lie from each other; 0 if they meet
 unfoldable pub gap : Span → Span → ℕ
@@ -43,7 +38,7 @@ module _ (K : ℕ) where
 
   -- how far a place lies from such a set
   offset-places : (s l h : ℕ) → l ≤ h → offset (place K s) (places l h) ≡ (l - s) + (s - h)
-  unfolding offset nearest
+  unfolding offset nearestMember
   offset-places s l h p = simp (lower-place, higher-place, apart-place) (omega arith)
 
   -- how far two such sets lie from each other
@@ -51,15 +46,15 @@ module _ (K : ℕ) where
   unfolding gap
   gap-places l h l′ h′ = simp (lower-place, higher-place, apart-place) (omega arith)
 
-  -- their join
+  -- the join of two such sets
   pub join-places : (l h l′ h′ : ℕ) → join (places l h) (places l′ h′) ≡ places (min (max l l′) (min h h′)) (max (max l l′) (min h h′))
   unfolding join
   join-places l h l′ h′ = simp (lower-place, higher-place)
 
-  -- the member nearest to a place
-  pub nearest-places : (s l h : ℕ) → nearest (place K s) (places l h) ≡ place K (max l (min s h))
-  unfolding nearest
-  nearest-places s l h = simp (lower-place, higher-place)
+  -- the member of such a set nearest to a place
+  pub nearestMember-places : (s l h : ℕ) → nearestMember (place K s) (places l h) ≡ place K (max l (min s h))
+  unfolding nearestMember
+  nearestMember-places s l h = simp (lower-place, higher-place)
 
   -- such a set has a member only if its ends are in order
   pub nonempty-places : (l h : ℕ) → Nonempty (places l h) → l ≤ h
@@ -69,7 +64,7 @@ module _ (K : ℕ) where
   pub in-places : {s l h : ℕ} → l ≤ s → s ≤ h → In (place K s) (places l h)
   in-places {s} {l} {h} p q = record { fromLow = le-place K l s p; toHigh = le-place K s h q }
 
-  -- and only such a place is
+  -- a place that is a member stands between the ends of such a set
   pub places-in : (s l h : ℕ) → In (place K s) (places l h) → (l ≤ s) × (s ≤ h)
   places-in s l h i = (place-le K l s (i .fromLow), place-le K s h (i .toHigh))
 
@@ -85,11 +80,11 @@ unfolding only
 only-nonempty s = record { ordered = ≤ℤ-refl s }
 
 -- the nearest member is a member
-pub nearest-in : (s : ℤ) (a : Span) → Nonempty a → In (nearest s a) a
-nearest-in s a = everywhere (λ z. Nonempty (span (z 1) (z 2)) → In (nearest (z 0) (span (z 1) (z 2))) (span (z 1) (z 2)))
+pub nearestMember-in : (s : ℤ) (a : Span) → Nonempty a → In (nearestMember s a) a
+nearestMember-in s a = everywhere (λ z. Nonempty (span (z 1) (z 2)) → In (nearestMember (z 0) (span (z 1) (z 2))) (span (z 1) (z 2)))
     (λ K n p.
     let q = nonempty-places K (n 1) (n 2) p in
-    rw (nearest-places K (n 0) (n 1) (n 2)) (in-places K (omega arith) (omega arith)))
+    rw (nearestMember-places K (n 0) (n 1) (n 2)) (in-places K (omega arith) (omega arith)))
     (s ∷ a .low ∷ a .high ∷ [])
 
 -- from a state to a set it is at most as far as over another state
@@ -118,7 +113,7 @@ offset-ends s a = everywhere
     (either-side (n 0) (n 1) (n 2) q))
     (s ∷ a .low ∷ a .high ∷ [])
 
--- two sets are as far apart seen from either
+-- two sets are as far from each other in either order
 pub gap-comm : (a b : Span) → gap a b ≡ gap b a
 gap-comm a b = everywhere (λ z. gap (span (z 0) (z 1)) (span (z 2) (z 3)) ≡ gap (span (z 2) (z 3)) (span (z 0) (z 1)))
     (λ K n.
@@ -160,15 +155,15 @@ offset-in-join s a b = everywhere
     (s ∷ a .low ∷ a .high ∷ b .low ∷ b .high ∷ [])
 
 -- the member of a set nearest to another set's low end is as far from that set as the two sets are
-pub offset-nearest : (a b : Span) → Nonempty a → Nonempty b → offset (nearest (b .low) a) b ≡ gap a b
-offset-nearest a b = everywhere
+pub offset-nearestMember : (a b : Span) → Nonempty a → Nonempty b → offset (nearestMember (b .low) a) b ≡ gap a b
+offset-nearestMember a b = everywhere
     (λ z. Nonempty (span (z 0) (z 1)) → Nonempty (span (z 2) (z 3)) →
-    offset (nearest (z 2) (span (z 0) (z 1))) (span (z 2) (z 3)) ≡ gap (span (z 0) (z 1)) (span (z 2) (z 3)))
+    offset (nearestMember (z 2) (span (z 0) (z 1))) (span (z 2) (z 3)) ≡ gap (span (z 0) (z 1)) (span (z 2) (z 3)))
     (λ K n p q.
     let p′ = nonempty-places K (n 0) (n 1) p in
     let q′ = nonempty-places K (n 2) (n 3) q in
     rw (
-      nearest-places K (n 2) (n 0) (n 1),
+      nearestMember-places K (n 2) (n 0) (n 1),
       gap-places K (n 0) (n 1) (n 2) (n 3),
       offset-places K (max (n 0) (min (n 2) (n 1))) (n 2) (n 3) q′,
     )
@@ -178,5 +173,5 @@ offset-nearest a b = everywhere
 -- a set is as far from one state's set as from the state
 pub gap-only : (s : ℤ) (a : Span) → Nonempty a → gap a (only s) ≡ offset s a
 unfolding only
-gap-only s a p = sym (offset-nearest a (only s) p (only-nonempty s)) ∙ offset-only (nearest s a) s
-    ∙ unfold offset in apart-sym (nearest s a) s
+gap-only s a p = sym (offset-nearestMember a (only s) p (only-nonempty s)) ∙ offset-only (nearestMember s a) s
+    ∙ unfold offset in apart-sym (nearestMember s a) s
