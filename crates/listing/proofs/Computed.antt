@@ -64,7 +64,7 @@ unfolding flatMap matrix-Shape.row matrix-Shape.inRange matrix-Shape.lastNode li
     branching-Branches.branchOf branching-Branches.branchRecords branching-Branches.branchesRead branching-Branches.ancestorsOf
     branching-Branches.namedInOrder branching-Branches.lentBranching matrix-NodeRows.rowOf lists-Least.leastOf
     difference-Rows.intervalBy wagner-Nodes.nodeInterval wagner-Nodes.advancement wagner-Nodes.lengthUnder wagner-Placing.medianRow
-    wagner-Placing.fromInterval wagner-Placing.nearestInterval wagner-Placing.link wagner-Placing.hang wagner-Placing.placeOn
+    wagner-Placing.fromInterval wagner-Placing.nearestInterval wagner-Placing.linkFirst wagner-Placing.hang wagner-Placing.placeOn
     wagner-Placing.place wagner-Build.byAdvancement wagner-Build.addedLength wagner-Build.buildOn wagner-Build.build wagner-Build.wagner
     wagner-Build.wagnerLength wagner-Build.wagnerBranches fitting-Sets.only fitting-Sets.join fitting-Sets.nearestMember fitting-Sets.insert
     fitting-Sets.inOrder fitting-Sets.middle fitting-Clades.above fitting-Clades.cladeAt fitting-Clades.cladesBelow fitting-Character.valueAt

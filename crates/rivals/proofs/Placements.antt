@@ -13,7 +13,7 @@ use Rattle.branching.specs.Nodes.{Unplaced, taxaPlaced}
 use Rattle.branching.specs.Hanging.{noBranches}
 use Rattle.branching.proofs.Nodes.{noBranches-none, noBranches-places}
 use Rattle.branching.proofs.Test.{alone-iff, growing-fact, growing-placed}
-use Rattle.wagner.specs.Placing.{link, place}
+use Rattle.wagner.specs.Placing.{linkFirst, place}
 use Rattle.wagner.proofs.Placing.{place-first}
 use Rattle.wagner.specs.Build.{byAdvancement, buildOn, build, wagner}
 use Rattle.wagner.specs.Rival.{PlacementIsLeast}
@@ -79,7 +79,7 @@ module _ (n m : ℕ) (taxa : 1 ≤ n) (most : n ≤ 64) where
     -- a whole build, so many placements from row 1 alone
     build-least : (count : ℕ) (rows : List (List ℤ)) → Growth n m 1 noBranches rows → count + 1 ≡ n
         → BuildIsLeast difference n m rows (buildOn difference next n count noBranches rows)
-    unfolding buildOn link
+    unfolding buildOn linkFirst
     build-least zero rows g e = oneTaxon (sym e)
     build-least (suc count) rows g e =
         let b : ℕ = next n noBranches rows in

@@ -13,7 +13,7 @@ use Rattle.branching.specs.Growing.{branching}
 use Rattle.branching.specs.Nodes.{Unplaced}
 use Rattle.branching.specs.Hanging.{noBranches, linked}
 use Rattle.branching.specs.Branches.{lentBranching, ancestorsOf}
-use Rattle.wagner.specs.Placing.{Placed, link, place}
+use Rattle.wagner.specs.Placing.{AfterPlacing, linkFirst, place}
 use Rattle.wagner.specs.Build.{Built, wagner}
 use Rattle.wagner.specs.Rival.{PlacementIsLeast}
 use Rattle.fitting.specs.Rival.{FitIsLeast}
@@ -22,7 +22,7 @@ use Rattle.rivals.specs.Accepted.{HandedIn}
 -- placements in turn, by a difference d of rows, from a tree with its rows to another with its rows: each of them is least
 pub data EachIsLeast (d : List ℤ → List ℤ → ℕ) (n m : ℕ) : List ℕ → List (List ℤ) → List Placement → List ℕ → List (List ℤ) → Type 0 where
   done : {tree : List ℕ} {rows : List (List ℤ)} → EachIsLeast d n m tree rows [] tree rows
-  more : {tree last : List ℕ} {rows lastRows : List (List ℤ)} {placements : List Placement} (b : ℕ) (placed : Placed)
+  more : {tree last : List ℕ} {rows lastRows : List (List ℤ)} {placements : List Placement} (b : ℕ) (placed : AfterPlacing)
       → Unplaced n tree b → PlacementIsLeast d n m tree rows b placed
       → EachIsLeast d n m (placed .tree) (placed .rows) placements last lastRows
       → EachIsLeast d n m tree rows (placed .placement ∷ placements) last lastRows
@@ -33,7 +33,7 @@ pub data BuildIsLeast (d : List ℤ → List ℤ → ℕ) (n m : ℕ) (rows : Li
   severalTaxa : {last : List ℕ} {lastRows : List (List ℤ)} {placements : List Placement} (b : ℕ) → Unplaced n noBranches b
       → EachIsLeast d n m (linked noBranches b) rows placements last lastRows
       → BuildIsLeast d n m rows
-      (record { tree = last; rows = lastRows; placements = link d noBranches rows b .placement ∷ placements })
+      (record { tree = last; rows = lastRows; placements = linkFirst d noBranches rows b .placement ∷ placements })
 
 -- ours against the three rivals, as change is measured, for a matrix of n taxa and m characters with these rows
 pub record NoRivalDoesBetter (measure : Measure) (n m : ℕ) (rows : List (List ℤ)) : Type 0 where

@@ -19,7 +19,7 @@ use Rattle.branching.proofs.Counts.{some-unplaced, unplaced-taxon}
 use Rattle.branching.proofs.Test.{growing-placed}
 use Rattle.branching.proofs.Records.{records-lent}
 use Rattle.wagner.specs.Nodes.{advancement}
-use Rattle.wagner.specs.Placing.{Placed, nearestInterval, link, hang, placeOn, place}
+use Rattle.wagner.specs.Placing.{AfterPlacing, nearestInterval, linkFirst, hang, placeOn, place}
 use Rattle.wagner.specs.Build.{byAdvancement, buildOn, build, wagner, wagnerBranches}
 use Rattle.lists.proofs.Least.{leastOf-mem}
 use Rattle.wagner.proofs.Placing.{place-grows}
@@ -39,7 +39,7 @@ advancement-chooses d n tree rows h =
 -- a placement keeps the number of places of the tree
 pub place-places : (d : List ℤ → List ℤ → ℕ) (n : ℕ) (tree : List ℕ) (rows : List (List ℤ)) (b : ℕ)
     → length (place d n tree rows b .tree) ≡ length tree
-unfolding place placeOn link hang linked hung
+unfolding place placeOn linkFirst hang linked hung
 place-places d n tree rows b = on (nearestInterval d n tree rows b)
   where
     on : (c : ℕ) → length (placeOn d n tree rows b c .tree) ≡ length tree
@@ -54,7 +54,7 @@ module _ (d : List ℤ → List ℤ → ℕ) (next : ℕ → List ℕ → List (
   buildOn-grows zero k tree rows g h room = rw zero-add g
   buildOn-grows (suc count) k tree rows g h room =
       let b : ℕ = next n tree rows in
-      let placed : Placed = place d n tree rows b in
+      let placed : AfterPlacing = place d n tree rows b in
       let chosen = chooses tree rows (omega (arith, growing-placed tree n taxa g)) in
       let grows = place-grows d n tree rows b g room chosen in
       let larger = buildOn-grows count (suc k) (placed .tree) (placed .rows) grows (omega arith) (rw (place-places d n tree rows b) room) in

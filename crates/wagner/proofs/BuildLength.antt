@@ -20,7 +20,7 @@ use Rattle.branching.proofs.Test.{growing-placed}
 use Rattle.branching.proofs.Lengths.{alone-length}
 use Rattle.difference.specs.Rows.{nodeDifference}
 use Rattle.wagner.specs.Nodes.{lengthUnder}
-use Rattle.wagner.specs.Placing.{Placed, medianRow, nearestInterval, link, hang, place}
+use Rattle.wagner.specs.Placing.{AfterPlacing, medianRow, nearestInterval, linkFirst, hang, place}
 use Rattle.wagner.specs.Build.{Built, addedLength, buildOn, build}
 use Rattle.wagner.proofs.Placing.{place-first, place-later, nearest-node, place-grows}
 use Rattle.wagner.proofs.Build.{Chooses, place-places}
@@ -38,23 +38,23 @@ rows-more m rows r each long v l h =
 module _ (d : List ℤ → List ℤ → ℕ) (n m k : ℕ) (tree : List ℕ) (rows : List (List ℤ)) (g : Growth n m k tree rows) (laws : MedianLaws d m)
     (b : ℕ) (u : Unplaced n tree b) where
   -- what comes out of the placement
-  abbrev placed : Placed
+  abbrev placed : AfterPlacing
   placed = place d n tree rows b
 
   -- the rows are those before, and after the first link the HTU's behind them
   rows-after : ((placed .rows ≡ rows) × (k ≡ 1)) ⊎ ((r : List ℤ) × (placed .rows ≡ rows ++ (r ∷ [])) × (length r ≡ m) × (2 ≤ k))
-  unfolding link hang
+  unfolding linkFirst hang
   rows-after = go (g .growing) (g .full)
     where
       go : {j : ℕ} → GrowingTree n tree j → length rows ≡ n + (j - 2)
           → ((placed .rows ≡ rows) × (j ≡ 1)) ⊎ ((r : List ℤ) × (placed .rows ≡ rows ++ (r ∷ [])) × (length r ≡ m) × (2 ≤ j))
-      go (alone none) full = inl (ap (λ (p : Placed). p .rows) (place-first d n tree rows b none), refl)
+      go (alone none) full = inl (ap (λ (p : AfterPlacing). p .rows) (place-first d n tree rows b none), refl)
       go (several {k = j} h) full =
           let c : ℕ = nearestInterval d n tree rows b in
           let inside = nearest-node d n tree rows b j h .1 in
           inr (
             medianRow rows b c (ancestor tree c),
-            ap (λ (p : Placed). p .rows) (place-later d n tree rows b j h),
+            ap (λ (p : AfterPlacing). p .rows) (place-later d n tree rows b j h),
             medianRow-sized d n j tree rows h (g .room) (omega (arith, h .atLeastTwo)) b u m laws (g .each) c inside,
             h .atLeastTwo,
           )
@@ -98,7 +98,7 @@ module _ (d : List ℤ → List ℤ → ℕ) (next : ℕ → List ℕ → List (
   buildOn-sound zero k tree rows g h = record { growth = rw zero-add g; kept = λ v l h. refl; total = omega arith }
   buildOn-sound (suc count) k tree rows g h =
       let b : ℕ = next n tree rows in
-      let placed : Placed = place d n tree rows b in
+      let placed : AfterPlacing = place d n tree rows b in
       let chosen = chooses tree rows (omega (arith, growing-placed tree n taxa (g .growing))) in
       let after = place-growth d n m k tree rows g laws b chosen in
       let rest = buildOn-sound count (suc k) (placed .tree) (placed .rows) after (omega arith) in

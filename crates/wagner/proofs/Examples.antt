@@ -22,7 +22,7 @@ use Rattle.branching.specs.Hanging.{noBranches, linked, hung, nextHtu}
 use Rattle.branching.specs.Branches.{treeLength, branchOf, branchRecords, branchesRead, ancestorsOf, namedInOrder, lentBranching}
 use Rattle.lists.specs.Sums.{sumOver}
 use Rattle.wagner.specs.Nodes.{nodeInterval, advancement, lengthUnder}
-use Rattle.wagner.specs.Placing.{Placed, medianRow, fromInterval, nearestInterval, link, hang, placeOn, place}
+use Rattle.wagner.specs.Placing.{AfterPlacing, medianRow, fromInterval, nearestInterval, linkFirst, hang, placeOn, place}
 use Rattle.wagner.specs.Build.{Built, byAdvancement, buildOn, build, wagner, wagnerLength, wagnerBranches}
 
 -- taxon, lower end, upper end, HTU, length added
@@ -42,7 +42,7 @@ unfolding apart lower higher median medians difference numbers firstLeast lastNo
     nodesIn nodesOut otherNodes taxaPlaced every descendantCount descendantsWanted climbs rowOneAlone nodesOnly htusIn ancestorsIn
     descendantsRight allClimb grown growingTree branching noBranches linked hung nextHtu sumOver treeLength branchOf branchRecords
     branchesRead ancestorsOf sameNumbers namedInOrder lentBranching rowOf leastOf nodeDifference intervalBy nodeInterval advancement
-    lengthUnder medianRow fromInterval nearestInterval link hang placeOn place byAdvancement buildOn build wagner wagnerLength
+    lengthUnder medianRow fromInterval nearestInterval linkFirst hang placeOn place byAdvancement buildOn build wagner wagnerLength
     wagnerBranches
 shown n rows =
     let built : Built = wagner difference n rows in
@@ -108,7 +108,7 @@ unfolding shown
 equally-near = refl
 
 -- a tree handed in: taxa 1, 2 and 4 of document 01's matrix, with an HTU 5 whose codes are not the medians
-handed : ℕ → Placed
+handed : ℕ → AfterPlacing
 unfolding shown
 handed b =
     place difference 4 (0 ∷ 0 ∷ 5 ∷ 0 ∷ 5 ∷ 1 ∷ 0 ∷ []) (take 4 fourTaxa ++ (pos 1 ∷ pos 1 ∷ pos 1 ∷ []) ∷ []) b

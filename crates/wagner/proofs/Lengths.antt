@@ -16,7 +16,7 @@ use Rattle.branching.specs.Hanging.{hung, nextHtu}
 use Rattle.branching.proofs.Hanging.{hung-joint, htu-out}
 use Rattle.branching.proofs.Lengths.{treeLength-same, alone-length, linked-length, hung-length}
 use Rattle.wagner.specs.Nodes.{nodeInterval, lengthUnder}
-use Rattle.wagner.specs.Placing.{Placed, medianRow, fromInterval, nearestInterval, link, hang, place}
+use Rattle.wagner.specs.Placing.{AfterPlacing, medianRow, fromInterval, nearestInterval, linkFirst, hang, place}
 use Rattle.wagner.proofs.Placing.{place-first, place-later, nearest-node, nearest-least}
 
 -- the row of a node is not changed by a row behind the others
@@ -164,7 +164,7 @@ pub place-added : (d : List ℤ → List ℤ → ℕ) (n m k : ℕ) (tree : List
     → MedianLaws d m → (b : ℕ) → Unplaced n tree b
     → lengthUnder d n (place d n tree rows b .tree) (place d n tree rows b .rows)
     ≡ lengthUnder d n tree rows + place d n tree rows b .placement .added
-unfolding link hang lengthUnder
+unfolding linkFirst hang lengthUnder
 place-added d n m k tree rows s laws b u = go (s .growing) (s .full)
   where
     go : {j : ℕ} → GrowingTree n tree j → length rows ≡ n + (j - 2)
@@ -176,4 +176,4 @@ place-added d n m k tree rows s laws b u = go (s .growing) (s .full)
         rw (place-first d n tree rows b none) (omega arith)
     go (several {k = j} g) full =
         place-later-length d n j tree rows g (s .room) (omega (arith, g .atLeastTwo)) b u m laws (s .each)
-        ∙ ap (λ (p : Placed). lengthUnder d n tree rows + p .placement .added) (sym (place-later d n tree rows b j g))
+        ∙ ap (λ (p : AfterPlacing). lengthUnder d n tree rows + p .placement .added) (sym (place-later d n tree rows b j g))

@@ -16,7 +16,7 @@ use Rattle.branching.proofs.Counts.{grown-node, grown-nodes}
 use Rattle.branching.proofs.Test.{growing-fact, growing-placed, growing-test}
 use Rattle.branching.proofs.Hanging.{hung-grown}
 use Rattle.branching.proofs.Linking.{linked-grown}
-use Rattle.wagner.specs.Placing.{fromInterval, nearestInterval, link, hang, placeOn, place}
+use Rattle.wagner.specs.Placing.{fromInterval, nearestInterval, linkFirst, hang, placeOn, place}
 use Rattle.lists.proofs.Least.{leastOf-mem, leastOf-le, leastOf-none}
 
 module _ (d : List ℤ → List ℤ → ℕ) (n : ℕ) (tree : List ℕ) (rows : List (List ℤ)) (b : ℕ) where
@@ -27,7 +27,7 @@ module _ (d : List ℤ → List ℤ → ℕ) (n : ℕ) (tree : List ℕ) (rows :
       leastOf-none (fromInterval d tree rows b) (nodesIn tree (otherNodes n)) (λ u m. omega (arith, node-nodesIn tree n u m, none u))
 
   -- and the taxon is linked to row 1
-  pub place-first : ((v : ℕ) → ancestor tree v ≡ 0) → place d n tree rows b ≡ link d tree rows b
+  pub place-first : ((v : ℕ) → ancestor tree v ≡ 0) → place d n tree rows b ≡ linkFirst d tree rows b
   unfolding place placeOn
   place-first none = ap (placeOn d n tree rows b) (nearest-none none)
 
@@ -59,7 +59,7 @@ module _ (d : List ℤ → List ℤ → ℕ) (n : ℕ) (tree : List ℕ) (rows :
   -- a placement of a taxon that is not in the tree gives a growing tree with one taxon more
   pub place-grows : {k : ℕ} → GrowingTree n tree k → 2 * n - 2 < length tree → Unplaced n tree b
       → GrowingTree n (place d n tree rows b .tree) (suc k)
-  unfolding link hang nextHtu
+  unfolding linkFirst hang nextHtu
   place-grows (alone none) room u = rw (place-first none) (several (linked-grown n tree none room b u))
   place-grows (several {k = k} g) room u =
       rw

@@ -13,7 +13,7 @@ use Rattle.branching.specs.Branches.{branchRecords}
 use Rattle.lists.specs.Sums.{sumOver}
 use Rattle.lists.specs.Least.{leastOf}
 use Rattle.wagner.specs.Nodes.{advancement, lengthUnder}
-use Rattle.wagner.specs.Placing.{Placed, place}
+use Rattle.wagner.specs.Placing.{AfterPlacing, place}
 
 -- what comes out of a build: the tree, the rows of all nodes, and the placements in order
 pub record Built : Type 0 where
@@ -35,7 +35,7 @@ module _ (d : List ℤ → List ℤ → ℕ) (next : ℕ → List ℕ → List (
   unfoldable pub buildOn : ℕ → ℕ → List ℕ → List (List ℤ) → Built
   buildOn n zero tree rows = record { tree = tree; rows = rows; placements = [] }
   buildOn n (suc count) tree rows =
-      let placed : Placed = place d n tree rows (next n tree rows) in
+      let placed : AfterPlacing = place d n tree rows (next n tree rows) in
       let rest : Built = buildOn n count (placed .tree) (placed .rows) in
       record { tree = rest .tree; rows = rest .rows; placements = placed .placement ∷ rest .placements }
 

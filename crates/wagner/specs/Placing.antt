@@ -12,7 +12,7 @@ use Rattle.lists.specs.Least.{leastOf}
 use Rattle.wagner.specs.Nodes.{nodeInterval}
 
 -- what comes out of a placement: the tree one taxon larger, the rows of all nodes, and what was done
-pub record Placed : Type 0 where
+pub record AfterPlacing : Type 0 where
   pub tree : List ℕ
   pub rows : List (List ℤ)
   pub placement : Placement
@@ -32,15 +32,15 @@ module _ (d : List ℤ → List ℤ → ℕ) where
   nearestInterval n tree rows b = leastOf (fromInterval tree rows b) (nodesIn tree (otherNodes n))
 
   -- taxon b linked to row 1
-  unfoldable pub link : List ℕ → List (List ℤ) → ℕ → Placed
-  link tree rows b = record {
+  unfoldable pub linkFirst : List ℕ → List (List ℤ) → ℕ → AfterPlacing
+  linkFirst tree rows b = record {
     tree = linked tree b;
     rows = rows;
     placement = record { taxon = b; lower = 0; upper = 1; htu = 0; added = nodeDifference d (rowOf rows) b 1 };
   }
 
   -- taxon b hung on the interval between c and its immediate ancestor, through a new HTU that takes the median codes
-  unfoldable pub hang : ℕ → List ℕ → List (List ℤ) → ℕ → ℕ → Placed
+  unfoldable pub hang : ℕ → List ℕ → List (List ℤ) → ℕ → ℕ → AfterPlacing
   hang n tree rows b c = record {
     tree = hung tree b c (nextHtu n tree);
     rows = rows ++ (medianRow rows b c (ancestor tree c) ∷ []);
@@ -48,10 +48,10 @@ module _ (d : List ℤ → List ℤ → ℕ) where
   }
 
   -- taxon b placed on the interval with lower end c; 0: there is none
-  unfoldable pub placeOn : ℕ → List ℕ → List (List ℤ) → ℕ → ℕ → Placed
-  placeOn n tree rows b zero = link tree rows b
+  unfoldable pub placeOn : ℕ → List ℕ → List (List ℤ) → ℕ → ℕ → AfterPlacing
+  placeOn n tree rows b zero = linkFirst tree rows b
   placeOn n tree rows b (suc c) = hang n tree rows b (suc c)
 
   -- taxon b placed on its interval
-  unfoldable pub place : ℕ → List ℕ → List (List ℤ) → ℕ → Placed
+  unfoldable pub place : ℕ → List ℕ → List (List ℤ) → ℕ → AfterPlacing
   place n tree rows b = placeOn n tree rows b (nearestInterval n tree rows b)

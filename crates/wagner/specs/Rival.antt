@@ -7,7 +7,7 @@ use lib.ListN.{length}
 use Rattle.branching.specs.Ancestors.{ancestor}
 use Rattle.branching.specs.Hanging.{hung, nextHtu}
 use Rattle.wagner.specs.Nodes.{lengthUnder}
-use Rattle.wagner.specs.Placing.{Placed, medianRow, fromInterval}
+use Rattle.wagner.specs.Placing.{AfterPlacing, medianRow, fromInterval}
 
 module _ (d : List ℤ → List ℤ → ℕ) where
   -- the length with taxon b hung on the interval between c and its immediate ancestor, through a new HTU with row r
@@ -15,7 +15,7 @@ module _ (d : List ℤ → List ℤ → ℕ) where
   hungLength n tree rows b c r = lengthUnder d n (hung tree b c (nextHtu n tree)) (rows ++ (r ∷ []))
 
 -- what came out of a placement of taxon b on a tree with rows of m codes, beside all such hangings
-pub record PlacementIsLeast (d : List ℤ → List ℤ → ℕ) (n m : ℕ) (tree : List ℕ) (rows : List (List ℤ)) (b : ℕ) (placed : Placed)
+pub record PlacementIsLeast (d : List ℤ → List ℤ → ℕ) (n m : ℕ) (tree : List ℕ) (rows : List (List ℤ)) (b : ℕ) (placed : AfterPlacing)
     : Type 0 where
   -- b was hung on an interval of the tree, through an HTU with the median codes
   pub taxon : placed .placement .taxon ≡ b
