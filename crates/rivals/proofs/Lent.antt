@@ -5,18 +5,19 @@ use mathlib.Core.List.{List, [], _++_, map, map-append}
 use Prim.Native.Nat.{ℕ, _+_, _-_, _≤_, _<_}
 use native.Mathlib.Omega.{arith}
 use borrow.Author.Tests.{leb-true, eq-eqb}
-use lib.Dec.{leb}
+use lib.Dec.{leb, eqb}
 use lib.IntN.{ℤ}
 use lib.ListN.{length, getD}
+use Rattle.fitting.specs.Rival.{FitIsLeast}
 use Rattle.matrix.specs.NodeRows.{rowsOf, rowOf}
 use Rattle.lists.specs.Numbers.{numbers}
 use Rattle.lists.specs.Tests.{every}
 use Rattle.matrix.specs.Shape.{row}
 use Rattle.matrix.specs.Questions.{oneTo, allInRange, htuInRange, htusInRange, askMatrix}
 use Rattle.matrix.specs.declared.refusal.Asked.the-variants.{Passed}
-use Rattle.matrix.specs.declared.refusal.Refusal.the-variants.{CodeRange, NotThere, NotBranching}
+use Rattle.matrix.specs.declared.refusal.Refusal.the-variants.{CodeRange, NotThere, NotBranching, ListSize}
 use Rattle.matrix.proofs.Passing.{ask-passed, andThen-passed, oneTo-true, matrix-passes}
-use Rattle.difference.specs.Rows.{difference, nodeDifference}
+use Rattle.difference.specs.Rows.{difference, nodeDifference, plain}
 use Rattle.prim.specs.Network.{network}
 use Rattle.prim.proofs.Agreement.{network-agrees}
 use Rattle.branching.specs.Nodes.{inTree, taxaPlaced, Unplaced}
@@ -26,12 +27,14 @@ use Rattle.lists.proofs.Both.{or-cases}
 use Rattle.lists.proofs.Every.{every-at, every-from}
 use Rattle.matrix.proofs.Row.{row-length}
 use Rattle.matrix_file.specs.Job.{hasCodes}
+use Rattle.branching.specs.declared.branch.Branch.{Branch}
+use Rattle.branching.specs.Branches.{ancestorsOf, lentBranching}
 use Rattle.wagner.specs.Placing.{place}
 use Rattle.wagner.specs.Rival.{PlacementIsLeast}
-use Rattle.rivals.specs.Accepted.{CodeRows, matrixLent}
+use Rattle.rivals.specs.Accepted.{CodeRows, matrixLent, HandedIn}
 use Rattle.rivals.proofs.Demand.{no-rival}
 use Rattle.branching.specs.Growing.{growingTree, rowOneAlone}
-use Rattle.branching.specs.Asking.{htusOf, askPlacement}
+use Rattle.branching.specs.Asking.{htusOf, askPlacement, askBranching, branchesSize}
 use Rattle.matrix.proofs.NodeRows.{rowOf-rowsOf}
 
 -- the network that the call answers is the one that the claim and the listing speak of
@@ -115,19 +118,32 @@ module _ (codes : List ℤ) (n m : ℕ) (tree : List ℕ) (b : ℕ) (asked : Pla
           let known = rw place at (every-at (htuInRange codes n m) (numbers (n + 1) count) (asked .htus) i 0 below) in
           or-cases (leb v n) (allInRange (row codes m v)) known (λ e. absurd (omega (arith, leb-true v n e))) (λ e. e)
 
-  -- on a tree that is not row 1 alone our placement is least
-  pub placement-lent : length tree ≡ 127 → rowOneAlone tree ≡ false
-      → PlacementIsLeast difference n m tree (rowsOf codes m (n + (taxaPlaced n tree - 2))) b
-      (place difference n tree (rowsOf codes m (n + (taxaPlaced n tree - 2))) b)
+  -- a tree that is not row 1 alone is handed in, with the rows of its HTUs, as the claim wants it
+  pub handed-in : length tree ≡ 127 → rowOneAlone tree ≡ false → HandedIn n m tree (map (row codes m) (htusOf n tree))
   unfolding htusOf
-  placement-lent places several =
-      rw (← rows-behind)
-      (no-rival n m (rowsOf codes m n) (matrixLent codes n m (asked .matrix)) .placement tree _
-      (record {
+  handed-in places several =
+      record {
         places = places;
         growing = asked .growing;
         count = length-map-numbers (row codes m) (n + 1) (taxaPlaced n tree - 2);
         codes = htu-rows;
         intervals = several;
-      })
-      b (asked .unplaced))
+      }
+
+  -- on a tree that is not row 1 alone our placement is least
+  pub placement-lent : length tree ≡ 127 → rowOneAlone tree ≡ false
+      → PlacementIsLeast difference n m tree (rowsOf codes m (n + (taxaPlaced n tree - 2))) b
+      (place difference n tree (rowsOf codes m (n + (taxaPlaced n tree - 2))) b)
+  placement-lent places several =
+      rw (← rows-behind)
+      (no-rival n m (rowsOf codes m n) (matrixLent codes n m (asked .matrix)) .placement tree _ (handed-in places several) b (asked .unplaced))
+
+-- a lent branching that no question refuses: the fit on it is least
+pub fit-lent : (codes : List ℤ) (n m : ℕ) (records : List Branch) → askBranching codes n m records ≡ Passed
+    → FitIsLeast (plain .step) (ancestorsOf n records) (rowsOf codes m n) n m
+unfolding askBranching
+fit-lent codes n m records e =
+    let size = ask-passed (eqb (length records) branchesSize) ListSize _ e in
+    let matrix = andThen-passed (askMatrix codes n m) _ (size .1) in
+    let whole = ask-passed (lentBranching n records) NotBranching Passed (matrix .1) in
+    no-rival n m (rowsOf codes m n) (matrixLent codes n m (matrix .0)) .lentFit records (whole .0)

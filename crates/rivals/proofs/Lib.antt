@@ -4,3 +4,4 @@ pub mod Placements
 pub mod Demand
 pub mod Lent
 pub mod Reading
+pub mod InWords

@@ -11,7 +11,7 @@ use Rattle.branching.specs.Hanging.{nextHtu}
 use Rattle.wagner.specs.Placing.{hang, place}
 use Rattle.wagner.specs.Rival.{hungLength, PlacementIsLeast}
 use Rattle.wagner.proofs.Placing.{place-later, nearest-node}
-use Rattle.wagner.proofs.Lengths.{MedianLaws, OfLength, Growth, place-added, place-least}
+use Rattle.wagner.proofs.Lengths.{MedianLaws, OfLength, Growth, place-added, medianRow-sized, place-least}
 
 -- on a growing tree of several taxa, with rows of m codes of all its nodes and of the taxa
 pub second-rival : (d : List ℤ → List ℤ → ℕ) (n m k : ℕ) (tree : List ℕ) (rows : List (List ℤ)) → MedianLaws d m → Grown n k tree
@@ -29,6 +29,7 @@ second-rival d n m k tree rows laws g room full each b u =
       inside = rw later (nearest-node d n tree rows b k g .1);
       hangs = rw later;
       row = rw later;
+      own = rw later (medianRow-sized d n k tree rows g room full b u m laws each _ (nearest-node d n tree rows b k g .1));
       interval = rw later;
       adds = adds;
       least = λ c inside r long.

@@ -24,6 +24,8 @@ pub record PlacementIsLeast (d : List ℤ → List ℤ → ℕ) (n m : ℕ) (tre
   pub inside : 1 ≤ ancestor tree (placed .placement .lower)
   pub hangs : placed .tree ≡ hung tree b (placed .placement .lower) (nextHtu n tree)
   pub row : placed .rows ≡ rows ++ (medianRow rows b (placed .placement .lower) (ancestor tree (placed .placement .lower)) ∷ [])
+  -- with m codes, so ours is one of the hangings below
+  pub own : length (medianRow rows b (placed .placement .lower) (ancestor tree (placed .placement .lower))) ≡ m
   -- it added its interval difference, which is the length of the `W` line
   pub interval : placed .placement .added ≡ fromInterval d tree rows b (placed .placement .lower)
   pub adds : lengthUnder d n (placed .tree) (placed .rows) ≡ lengthUnder d n tree rows + placed .placement .added

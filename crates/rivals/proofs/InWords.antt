@@ -1,0 +1,90 @@
+-- The claim about the three rivals, part by part, in document 01's words. Each theorem uses the claim, so that a weaker claim would not
+-- prove it. `matrix` is an accepted matrix: one that a read accepts, or a lent one that passes its questions.
+use mathlib.Core.Path.{_≡_}
+use mathlib.Core.Logic.{_↔_}
+use mathlib.Core.Bool.{true}
+use mathlib.Core.List.{List, _++_}
+use Prim.Native.Nat.{ℕ, _+_, _*_, _-_, _≤_, _<_}
+use lib.IntN.{ℤ}
+use lib.ListN.{length}
+use Rattle.matrix.specs.NodeRows.{rowOf, rowsOf}
+use Rattle.matrix.specs.Questions.{askMatrix}
+use Rattle.matrix.specs.declared.refusal.Asked.the-variants.{Passed}
+use Rattle.matrix_file.specs.Job.{Job}
+use Rattle.matrix_file.specs.Reading.{readAnswer, accepted}
+use Rattle.difference.specs.Rows.{difference, nodeDifference, plain}
+use Rattle.prim.specs.Network.{network, networkLength}
+use Rattle.prim.specs.Rival.{Connected, linkEnds, linksLength}
+use Rattle.branching.specs.Ancestors.{ancestor}
+use Rattle.branching.specs.Nodes.{Unplaced}
+use Rattle.branching.specs.Growing.{branching}
+use Rattle.wagner.specs.Nodes.{lengthUnder}
+use Rattle.wagner.specs.Placing.{place}
+use Rattle.wagner.specs.Rival.{hungLength}
+use Rattle.wagner.specs.Build.{wagner}
+use Rattle.fitting.specs.Sets.{In}
+use Rattle.fitting.specs.Assignments.{IsAssignment, IsLeast, Occurs, total}
+use Rattle.fitting.specs.Fit.{chosenState, range, fittedTotal}
+use Rattle.rivals.specs.Accepted.{Accepted, fileRead, matrixLent, HandedIn}
+use Rattle.rivals.specs.Demand.{NoRivalDoesBetter, BuildIsLeast}
+use Rattle.rivals.proofs.Demand.{no-rival}
+
+-- for every file that a read accepts
+pub for-every-file : (file : List ℕ) (job : Job) → readAnswer file ≡ accepted job → NoRivalDoesBetter plain (job .n) (job .m) (job .rows)
+for-every-file file job e = no-rival (job .n) (job .m) (job .rows) (fileRead file job e)
+
+-- for every lent matrix that passes 12, 4 and the taxa's 10
+pub for-every-lent-matrix : (codes : List ℤ) (n m : ℕ) → askMatrix codes n m ≡ Passed → NoRivalDoesBetter plain n m (rowsOf codes m n)
+for-every-lent-matrix codes n m e = no-rival n m (rowsOf codes m n) (matrixLent codes n m e)
+
+module _ (n m : ℕ) (rows : List (List ℤ)) (matrix : Accepted n m rows) where
+  -- the claim about this matrix
+  abbrev claim : NoRivalDoesBetter plain n m rows
+  claim = no-rival n m rows matrix
+
+  -- the difference of two taxa
+  abbrev between : ℕ → ℕ → ℕ
+  between = nodeDifference difference (rowOf rows)
+
+  -- ours is a connected network of the taxa, of length `p`
+  pub our-network : Connected n (linkEnds (network between n)) × (linksLength between (linkEnds (network between n)) ≡ networkLength (network between n))
+  our-network = (claim .network .ours, claim .network .length)
+
+  -- no connected list of links between taxa is shorter
+  pub no-network-shorter : (links : List (ℕ × ℕ)) → Connected n links → networkLength (network between n) ≤ linksLength between links
+  no-network-shorter = claim .network .least
+
+  module _ (tree : List ℕ) (htus : List (List ℤ)) (handed : HandedIn n m tree htus) (b : ℕ) (unplaced : Unplaced n tree b) where
+    -- our placement adds its interval difference to the length of the tree
+    pub our-placement-adds : lengthUnder difference n (place difference n tree (rows ++ htus) b .tree) (place difference n tree (rows ++ htus) b .rows)
+        ≡ lengthUnder difference n tree (rows ++ htus) + place difference n tree (rows ++ htus) b .placement .added
+    our-placement-adds = claim .placement tree htus handed b unplaced .adds
+
+    -- no hanging of the taxon on any interval through an HTU with any m whole numbers adds less
+    pub no-hanging-adds-less : (c : ℕ) → 1 ≤ ancestor tree c → (r : List ℤ) → length r ≡ m
+        → lengthUnder difference n tree (rows ++ htus) + place difference n tree (rows ++ htus) b .placement .added
+        ≤ hungLength difference n tree (rows ++ htus) b c r
+    no-hanging-adds-less = claim .placement tree htus handed b unplaced .least
+
+  -- so it is with each placement of our own build, which ends in a branching of all taxa
+  pub each-placement-least : BuildIsLeast difference n m rows (wagner difference n rows)
+  each-placement-least = claim .build
+
+  pub our-tree-whole : branching n (wagner difference n rows .tree) ≡ true
+  our-tree-whole = claim .whole
+
+  module _ (tree : List ℕ) (whole : branching n tree ≡ true) where
+    -- our chosen states are an assignment of least length, of total `t`
+    pub our-states-least : IsLeast (plain .step) tree rows n m (chosenState tree rows n)
+    unfolding fittedTotal
+    our-states-least = record { assigns = claim .fit tree whole .assigns; least = claim .fit tree whole .least }
+
+    -- no choice of whole-number inner states has a lower total
+    pub no-states-shorter : (states : ℕ → ℕ → ℤ) → IsAssignment rows n m states
+        → fittedTotal (plain .step) tree rows n m ≤ total (plain .step) tree n m states
+    no-states-shorter = claim .fit tree whole .least
+
+    -- a state lies in our range exactly if some least-length choice has it
+    pub range-exactly : (v j : ℕ) (s : ℤ) → n < v → v ≤ 2 * n - 2 → 1 ≤ j → j ≤ m
+        → In s (range tree rows n v j) ↔ Occurs (plain .step) tree rows n m v j s
+    range-exactly = claim .fit tree whole .ranges
