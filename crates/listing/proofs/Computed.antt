@@ -34,8 +34,8 @@ use Rattle.listing.specs.Lines as listing-Lines
 use Rattle.listing.specs.Blocks as listing-Blocks
 use Rattle.listing.specs.Listing as listing-Listing
 
--- what is printed for a file of this text
-unfoldable pub computed : String → List ℕ
+-- what is printed for a file of these lines
+unfoldable pub computed : List String → List ℕ
 unfolding flatMap matrix-Shape.row matrix-Shape.inRange matrix-Shape.lastNode lists-Numbers.numbers lists-Least.firstLeast
     lists-Tests.every lists-Tests.sameNumbers matrix-Questions.oneTo matrix-Questions.withinLimits matrix-Questions.allInRange
     matrix-Questions.rowsInRange matrix-Questions.askMatrix matrix-Questions.nodesExist matrix-Questions.htuInRange
@@ -73,6 +73,6 @@ unfolding flatMap matrix-Shape.row matrix-Shape.inRange matrix-Shape.lastNode li
     fitting-Fit.fittedTotal fitting-Fit.marked listing-Lines.line listing-Lines.hyphen listing-Lines.htuName listing-Lines.nodeName
     listing-Blocks.totalLine listing-Blocks.mark listing-Blocks.primLine listing-Blocks.wagnerLine listing-Blocks.fittedLine
     listing-Blocks.rangeLine listing-Blocks.fittedLines listing-Blocks.rangeLines listing-Listing.primBlock listing-Listing.wagnerBlock
-    listing-Listing.fittedBlock listing-Listing.rangeBlock listing-Listing.listing listing-Listing.refusalLine listing-Listing.printed
+    listing-Listing.fittedBlock listing-Listing.rangeBlock listing-Listing.blocks listing-Listing.listing listing-Listing.refusalLine listing-Listing.printed
     listing-Listing.listingOf listing-Listing.output
-computed text = listing-Listing.output (matrix-file-Text.bytes text)
+computed lines = listing-Listing.output (flatMap matrix-file-Text.bytes lines)

@@ -1,24 +1,76 @@
--- Listings of the smallest files, from their bytes, and the line of a refusal.
+-- Listings computed from the bytes of files: the smallest ones, a refusal, and one of five taxa.
 use mathlib.Core.Path.{_≡_, refl}
+use mathlib.Core.List.{List, [], _∷_, flatMap}
+use Prim.Native.Nat.{ℕ}
+use Prim.Native.String.{String}
 use Rattle.matrix_file.specs.Text.{bytes}
 use Rattle.listing.proofs.Computed.{computed}
 
--- one taxon: no network, no tree, no HTU
-one-taxon : computed "W\t1\t2\nA\t5\t-5\n" ≡ bytes "p\t0\nw\t0\nt\t0\n"
-unfolding computed bytes
-one-taxon = refl
+-- the bytes of some lines
+unfoldable text : List String → List ℕ
+text lines = flatMap bytes lines
 
 -- two taxa: one line of each kind but `H`
-two-taxa : computed "W\t2\t1\nA\t-999\nb_2\t999\n" ≡ bytes "P\tb_2\tA\t1998\np\t1998\nW\tb_2\t-\tA\t-\t1998\nw\t1998\nT\tb_2\tA\t1998\t+\nt\t1998\n"
-unfolding computed bytes
+two-taxa : computed ("W\t2\t1\n" ∷ "A\t-999\n" ∷ "b_2\t999\n" ∷ [])
+    ≡ text ("P\tb_2\tA\t1998\n" ∷ "p\t1998\n" ∷ "W\tb_2\t-\tA\t-\t1998\n" ∷ "w\t1998\n" ∷ "T\tb_2\tA\t1998\t+\n" ∷ "t\t1998\n" ∷ [])
+unfolding computed text flatMap bytes
 two-taxa = refl
 
 -- two taxa with equal rows: the branch has length 0 and is marked `-`
-equal-rows : computed "W\t2\t1\nA\t3\nB\t3\n" ≡ bytes "P\tB\tA\t0\np\t0\nW\tB\t-\tA\t-\t0\nw\t0\nT\tB\tA\t0\t-\nt\t0\n"
-unfolding computed bytes
+equal-rows : computed ("W\t2\t1\n" ∷ "A\t3\n" ∷ "B\t3\n" ∷ [])
+    ≡ text ("P\tB\tA\t0\n" ∷ "p\t0\n" ∷ "W\tB\t-\tA\t-\t0\n" ∷ "w\t0\n" ∷ "T\tB\tA\t0\t-\n" ∷ "t\t0\n" ∷ [])
+unfolding computed text flatMap bytes
 equal-rows = refl
 
 -- a name that is taken, in row 2: refusal 7 with line 3
-name-taken : computed "W\t2\t1\nA\t3\nA\t3\n" ≡ bytes "R\t7\t3\n"
-unfolding computed bytes
+name-taken : computed ("W\t2\t1\n" ∷ "A\t3\n" ∷ "A\t3\n" ∷ []) ≡ text ("R\t7\t3\n" ∷ [])
+unfolding computed text flatMap bytes
 name-taken = refl
+
+-- five taxa: the fitted total is below the length under the median codes, states are negative, a chosen state is below the highest of its
+-- range, and the lower end of an interval is an HTU
+abbrev fiveTaxa : List String
+fiveTaxa =
+    "W\t5\t3\n"
+    ∷ "A\t0\t0\t0\n"
+    ∷ "B\t0\t-2\t2\n"
+    ∷ "C\t-1\t2\t1\n"
+    ∷ "D\t-1\t-2\t0\n"
+    ∷ "E\t-1\t-1\t2\n"
+    ∷ []
+
+-- its listing, as the program of other authorship prints it
+abbrev fiveListed : List String
+fiveListed =
+    "P\tD\tA\t3\n"
+    ∷ "P\tB\tD\t3\n"
+    ∷ "P\tE\tB\t2\n"
+    ∷ "P\tC\tA\t4\n"
+    ∷ "p\t12\n"
+    ∷ "W\tD\t-\tA\t-\t3\n"
+    ∷ "W\tB\tD\tA\t#1\t2\n"
+    ∷ "W\tC\t#1\tA\t#2\t4\n"
+    ∷ "W\tE\tB\t#1\t#3\t2\n"
+    ∷ "w\t11\n"
+    ∷ "T\tB\t#3\t1\t+\n"
+    ∷ "T\tC\t#2\t2\t+\n"
+    ∷ "T\tD\t#1\t1\t+\n"
+    ∷ "T\tE\t#3\t1\t+\n"
+    ∷ "T\t#1\t#2\t2\t+\n"
+    ∷ "T\t#2\tA\t2\t+\n"
+    ∷ "T\t#3\t#1\t1\t+\n"
+    ∷ "t\t10\n"
+    ∷ "H\t#1\t1\t-1\t-1\t-1\n"
+    ∷ "H\t#1\t2\t-2\t-1\t-2\n"
+    ∷ "H\t#1\t3\t0\t1\t1\n"
+    ∷ "H\t#2\t1\t-1\t-1\t-1\n"
+    ∷ "H\t#2\t2\t0\t0\t0\n"
+    ∷ "H\t#2\t3\t0\t1\t1\n"
+    ∷ "H\t#3\t1\t-1\t-1\t-1\n"
+    ∷ "H\t#3\t2\t-2\t-1\t-2\n"
+    ∷ "H\t#3\t3\t2\t2\t2\n"
+    ∷ []
+
+five-taxa : computed fiveTaxa ≡ text fiveListed
+unfolding computed text flatMap bytes
+five-taxa = refl

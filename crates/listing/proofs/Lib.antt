@@ -1,3 +1,4 @@
 -- The listing, computed.
 pub mod Computed
 pub mod Examples
+pub mod OneTaxon

@@ -37,12 +37,19 @@ fittedBlock measure job tree =
 unfoldable pub rangeBlock : Job → List ℕ → List (List ℕ)
 rangeBlock job tree = rangeLines (job .n) (job .names) tree (job .rows) (job .m)
 
--- the listing of a job as change is measured, line by line
-unfoldable pub listing : Measure → Job → List (List ℕ)
-listing measure job =
+-- the blocks that a job prints, as change is measured, in their order
+unfoldable pub blocks : Measure → Job → List (List (List ℕ))
+blocks measure job =
     let built = wagner (measure .rows) (job .n) (job .rows) in
     primBlock measure job
-    ++ (wagnerBlock measure job built ++ (fittedBlock measure job (built .tree) ++ rangeBlock job (built .tree)))
+    ∷ wagnerBlock measure job built
+    ∷ fittedBlock measure job (built .tree)
+    ∷ rangeBlock job (built .tree)
+    ∷ []
+
+-- the listing of a job, line by line
+unfoldable pub listing : Measure → Job → List (List ℕ)
+listing measure job = flatMap (λ (block : List (List ℕ)). block) (blocks measure job)
 
 -- the one line of a refusal: `R`, its number, the line of the file
 unfoldable pub refusalLine : Refusal → ℕ → List ℕ

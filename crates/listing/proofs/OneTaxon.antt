@@ -1,0 +1,25 @@
+-- One taxon: no network, no tree, no HTU. Whatever its name, its codes and their number, the listing is `p 0`, `w 0`, `t 0`.
+use mathlib.Core.Path.{_≡_, refl}
+use mathlib.Core.List.{List, [], _∷_, flatMap}
+use Prim.Native.Nat.{ℕ}
+use lib.IntN.{ℤ}
+use Rattle.lists.specs.Sums.{sumOver}
+use Rattle.lists.specs.Numbers.{numbers}
+use Rattle.lists.specs.Filters.{keep}
+use Rattle.matrix_file.specs.Job.{Job}
+use Rattle.difference.specs.Rows.{Measure}
+use Rattle.prim.specs.Network.{network, networkLength, grow}
+use Rattle.branching.specs.Nodes.{nodesIn, otherNodes}
+use Rattle.branching.specs.Branches.{treeLength}
+use Rattle.wagner.specs.Nodes.{lengthUnder}
+use Rattle.wagner.specs.Build.{wagner, wagnerLength, build, buildOn}
+use Rattle.fitting.specs.Assignments.{total}
+use Rattle.fitting.specs.Fit.{fittedTotal}
+use Rattle.listing.specs.Blocks.{totalLine, fittedLines, rangeLines}
+use Rattle.listing.specs.Listing.{primBlock, wagnerBlock, fittedBlock, rangeBlock, blocks, listing}
+
+pub one-taxon : (measure : Measure) (m : ℕ) (names : List (List ℕ)) (rows : List (List ℤ))
+    → listing measure (record { n = 1; m = m; names = names; rows = rows }) ≡ totalLine "p" 0 ∷ totalLine "w" 0 ∷ totalLine "t" 0 ∷ []
+unfolding listing blocks primBlock wagnerBlock fittedBlock rangeBlock network networkLength grow wagner wagnerLength build buildOn
+    lengthUnder treeLength nodesIn otherNodes numbers keep sumOver fittedLines rangeLines fittedTotal total flatMap
+one-taxon measure m names rows = refl
