@@ -6,7 +6,6 @@ use lib.IntN.{ℤ}
 use Rattle.lists.specs.Sums.{sumOver}
 use Rattle.lists.specs.Numbers.{numbers}
 use Rattle.lists.specs.Filters.{keep}
-use Rattle.matrix_file.specs.Job.{Job}
 use Rattle.difference.specs.Rows.{Measure}
 use Rattle.prim.specs.Network.{network, networkLength, grow}
 use Rattle.branching.specs.Nodes.{nodesIn, otherNodes}

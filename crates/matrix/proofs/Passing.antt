@@ -1,7 +1,7 @@
 -- What passed questions tell, and which matrices pass them.
 use mathlib.Core.Path.{_≡_, refl, _∙_}
 use mathlib.Core.Bool.{Bool, true, false, and-eq-true-iff}
-use mathlib.Core.List.{List}
+use mathlib.Core.List.{List, List·Memᴰ}
 use mathlib.Core.Logic.{_↔_}
 use Prim.Native.Nat.{ℕ, _+_, _-_, _≤_, _<_}
 use native.Mathlib.Omega.{arith}
@@ -9,16 +9,18 @@ use borrow.Author.Tests.{leb-true, le-leb, eqb-true, eq-eqb}
 use lib.Dec.{leb, eqb}
 use lib.IntN.{ℤ}
 use lib.ListN.{length, getD}
+use Rattle.lists.proofs.Both.{or-cases}
+use Rattle.matrix.proofs.Row.{row-length}
 use Rattle.lists.specs.Numbers.{numbers}
-use Rattle.matrix.specs.Shape.{matrixSize, row}
+use Rattle.matrix.specs.Shape.{matrixSize, row, lastNode}
 use Rattle.matrix.specs.Outcomes.{ask, andThen}
-use Rattle.matrix.specs.Questions.{oneTo, withinLimits, allInRange, rowsInRange, askMatrix, LentMatrix, nodesExist}
+use Rattle.matrix.specs.Questions.{oneTo, withinLimits, allInRange, rowsInRange, askMatrix, LentMatrix, nodesExist, htuInRange}
 use Rattle.matrix.specs.Questions.{htusInRange, askNodes}
 use Rattle.matrix.specs.declared.refusal.Refusal.{Refusal}
 use Rattle.matrix.specs.declared.refusal.Refusal.the-variants.{BeyondLimits, CodeRange, ListSize, NotThere}
 use Rattle.matrix.specs.declared.refusal.Asked.{Asked}
 use Rattle.matrix.specs.declared.refusal.Asked.the-variants.{Passed, Refused}
-use Rattle.lists.proofs.Every.{every-at, every-from}
+use Rattle.lists.proofs.Every.{every-at, every-from, every-iff}
 use Rattle.lists.proofs.Numbers.{length-numbers, getD-numbers}
 
 -- a refusal is no pass
@@ -107,3 +109,15 @@ nodes-passed codes n m nodes e =
     let existing = ask-passed (nodesExist n nodes) NotThere _ (both .1) in
     let known = ask-passed (htusInRange codes n m nodes) CodeRange Passed (existing .1) in
     record { matrix = matrix-passes codes n m .0 (both .0); exist = existing .0; htus = known .0 }
+
+-- a node that passed questions name has a row of m codes from -999 to 999
+pub node-passed : (codes : List ℤ) (n m : ℕ) (nodes : List ℕ) → NodesPassed codes n m nodes → (v : ℕ) → List·Memᴰ v nodes
+    → (length (row codes m v) ≡ m) × (allInRange (row codes m v) ≡ true)
+unfolding nodesExist htusInRange htuInRange lastNode
+node-passed codes n m nodes passed v named =
+    let lent = passed .matrix in
+    let exists = oneTo-true (lastNode n) v (every-iff (oneTo (lastNode n)) nodes .0 (passed .exist) v named) in
+    let known = every-iff (htuInRange codes n m) nodes .0 (passed .htus) v named in (
+      row-length codes m v (lent .full) (lent .characters) (exists .0) (omega (arith, exists .1, lent .taxa)),
+      or-cases (leb v n) (allInRange (row codes m v)) known (λ e. lent .known v (exists .0) (leb-true v n e)) (λ e. e),
+    )

@@ -1,0 +1,76 @@
+-- Computed: which question of a call on a matrix of two taxa and one character refuses, and that the earlier one does where two would.
+use mathlib.Core.Path.{_≡_, refl}
+use mathlib.Core.List.{List}
+use Prim.Native.Nat.{ℕ}
+use lib.IntN.{ℤ, pos, negsuc}
+use lib.ListN.{replicate, set}
+use Rattle.lists.specs.Numbers.{numbers}
+use Rattle.lists.specs.Tests.{every}
+use Rattle.matrix.specs.Shape.{matrixSize, row, inRange, lastNode}
+use Rattle.matrix.specs.Outcomes.{Outcome, value, refused, askedSays}
+use Rattle.matrix.specs.Questions.{oneTo, withinLimits, allInRange, rowsInRange, askMatrix, nodesExist, htuInRange, htusInRange, askNodes}
+use Rattle.difference.specs.Rows.{apart, difference, intervalBy}
+use Rattle.difference.specs.Calls.{differenceAnswer, intervalAnswer, askMedians}
+
+-- a matrix of zeros, and one with a code out of range in row 3, that of the first HTU of three taxa
+abbrev zeros : List ℤ
+zeros = replicate matrixSize (pos 0)
+
+abbrev badHtu : List ℤ
+badHtu = set zeros 384 (pos 1000)
+
+-- a lent row of a length
+abbrev lent : ℕ → List ℤ
+lent size = replicate size (pos 0)
+
+-- what the questions of the call for medians say
+unfoldable pub says : List ℤ → ℕ → ℕ → ℕ → ℕ → ℕ → ℕ → Outcome (Unit {0})
+unfolding numbers every row inRange lastNode oneTo withinLimits allInRange rowsInRange askMatrix nodesExist htuInRange htusInRange askNodes
+    askMedians
+says codes n m a b c size = askedSays (askMedians codes n m a b c (lent size))
+
+pub record Examples : Type 0 where
+  -- a lent row of 128 codes passes, a shorter and a longer one are 12, and that before 4
+  pub fits : says zeros 2 1 1 2 1 128 ≡ value tt
+  pub short : says zeros 2 1 1 2 1 127 ≡ refused 12 0
+  pub long : says zeros 2 1 1 2 1 129 ≡ refused 12 0
+  pub size-first : says zeros 0 1 1 2 1 129 ≡ refused 12 0
+  -- each of the three nodes is asked
+  pub first-node : says zeros 2 1 3 2 1 128 ≡ refused 13 0
+  pub second-node : says zeros 2 1 1 0 1 128 ≡ refused 13 0
+  pub third-node : says zeros 2 1 1 2 3 128 ≡ refused 13 0
+  -- a node that does not exist is 13, before the 10 of an HTU's row; an HTU that is not named is not read
+  pub node-first : says badHtu 3 1 4 9 1 128 ≡ refused 13 0
+  pub htu-row : says badHtu 3 1 1 2 4 128 ≡ refused 10 0
+  pub htu-unread : says badHtu 3 1 1 2 3 128 ≡ value tt
+
+pub examples : Examples
+unfolding says
+examples =
+    record {
+      fits = refl;
+      short = refl;
+      long = refl;
+      size-first = refl;
+      first-node = refl;
+      second-node = refl;
+      third-node = refl;
+      node-first = refl;
+      htu-row = refl;
+      htu-unread = refl;
+    }
+
+pub record IntervalExamples : Type 0 where
+  -- each of the nodes of an interval difference and of a difference is asked
+  pub taxon : intervalAnswer zeros 2 1 3 1 2 ≡ refused 13 0
+  pub lower : intervalAnswer zeros 2 1 1 3 2 ≡ refused 13 0
+  pub upper : intervalAnswer zeros 2 1 1 2 3 ≡ refused 13 0
+  pub ours : intervalAnswer (set zeros 0 (negsuc 4)) 2 1 1 2 2 ≡ value 5
+  pub one : differenceAnswer zeros 2 1 0 1 ≡ refused 13 0
+  pub other : differenceAnswer zeros 2 1 1 0 ≡ refused 13 0
+  pub five : differenceAnswer (set zeros 128 (negsuc 4)) 2 1 1 2 ≡ value 5
+
+pub interval-examples : IntervalExamples
+unfolding numbers every row inRange lastNode oneTo withinLimits allInRange rowsInRange askMatrix nodesExist htuInRange htusInRange askNodes
+    intervalAnswer differenceAnswer intervalBy difference apart
+interval-examples = record { taxon = refl; lower = refl; upper = refl; ours = refl; one = refl; other = refl; five = refl }
