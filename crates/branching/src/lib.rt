@@ -1,2 +1,3 @@
 // Trees as lists of immediate ancestors; growing trees and branchings; branch records.
 pub mod branch;
+pub mod tree;
