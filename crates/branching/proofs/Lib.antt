@@ -7,6 +7,9 @@ pub mod Nodes
 pub mod Counts
 pub mod Test
 pub mod Hanging
+pub mod Running
+pub mod Places
+pub mod Within
 pub mod Linking
 pub mod Lengths
 pub mod Whole

@@ -4,5 +4,7 @@ pub mod Nodes
 pub mod Growing
 pub mod Facts
 pub mod Hanging
+pub mod Within
+pub mod Testing
 pub mod Branches
 pub mod Asking
