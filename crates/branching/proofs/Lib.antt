@@ -10,6 +10,7 @@ pub mod Hanging
 pub mod Running
 pub mod Places
 pub mod Within
+pub mod Walks
 pub mod Linking
 pub mod Lengths
 pub mod Whole

@@ -6,5 +6,7 @@ pub mod Facts
 pub mod Hanging
 pub mod Within
 pub mod Testing
+pub mod Walks
+pub mod Steps
 pub mod Branches
 pub mod Asking

@@ -1,3 +1,4 @@
 // Trees as lists of immediate ancestors; growing trees and branchings; branch records.
 pub mod branch;
 pub mod tree;
+pub mod walk;
