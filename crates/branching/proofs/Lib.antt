@@ -11,6 +11,7 @@ pub mod Running
 pub mod Places
 pub mod Within
 pub mod Walks
+pub mod Lending
 pub mod Linking
 pub mod Lengths
 pub mod Whole

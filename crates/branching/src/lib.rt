@@ -1,4 +1,5 @@
 // Trees as lists of immediate ancestors; growing trees and branchings; branch records.
 pub mod branch;
+pub mod lent;
 pub mod tree;
 pub mod walk;
