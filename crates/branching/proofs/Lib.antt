@@ -1,5 +1,6 @@
 -- The laws of trees, and the tests for growing trees and branchings computed on examples.
 pub mod Examples
+pub mod Refusals
 pub mod Descendants
 pub mod BranchSums
 pub mod Climbing
