@@ -1,15 +1,11 @@
-// Branch records: those of a tree, the tree of lent ones, and the questions of a lent branching.
+// Branch records: those of a tree, and the tree of lent ones.
 use crate::branch::Branch;
 use crate::tree::Tree;
 use matrix::MOST_TAXA;
-use matrix::questions::ask_matrix;
-use matrix::refusal::Asked;
-use matrix::refusal::Refusal;
 ghost use mathlib.Core.Path.{_≡_};
 ghost use Prim.Native.Nat.{_*_, _-_, _≤_, min};
 ghost use Rattle.branching.specs.Ancestors.{ancestors};
 ghost use Rattle.branching.specs.Branches.{lengthsBy, branchOf, withRecords, placesOf, namedInOrder, lentBranching};
-ghost use Rattle.branching.specs.Asking.{askBranching};
 
 // How many branch records are read or written: one for each node but node 1, as far as there are 125.
 fn record_count(n: usize) -> usize
@@ -97,19 +93,4 @@ pub fn lent_branching(records: [Branch; 125], n: usize) -> bool
         return false;
     }
     tree_of(records, n).is_branching(n)
-}
-
-// The questions of a call on a lent branching that reads no HTU row: those on the matrix, and whether the records are a branching.
-pub fn ask_branching(matrix: &[i32], n: usize, m: usize, records: [Branch; 125]) -> Asked
-    ensures { λ r. ⌜ r ≡ askBranching (now (matrix .entry)) n m records ⌝ }
-{
-    match ask_matrix(matrix, n, m) {
-        Asked::Refused(refusal) => Asked::Refused(refusal),
-        Asked::Passed => {
-            if !lent_branching(records, n) {
-                return Asked::Refused(Refusal::NotBranching);
-            }
-            Asked::Passed
-        }
-    }
 }

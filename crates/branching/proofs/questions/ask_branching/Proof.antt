@@ -1,11 +1,11 @@
--- `branching::lent::ask_branching` meets its contract: each answer follows from the tests that led to it. Assumes nothing.
+-- `branching::questions::ask_branching` meets its contract: each answer follows from the tests that led to it. Assumes nothing.
 use mathlib.Core.Path.{_≡_, sym, _∙_}
 use lib.ListN.{length}
 use borrow.Author.Tests.{eq-eqb, not-true, not-false}
 use Rattle.branching.specs.Asking.{askBranching}
 use borrow.Author.Needs.{needs}
-use Rattle.branching.proofs.lent.ask_branching.Statement.{statement}
-use Rattle.branching.proofs.lent.ask_branching.Tie as tie
+use Rattle.branching.proofs.questions.ask_branching.Statement.{statement}
+use Rattle.branching.proofs.questions.ask_branching.Tie as tie
 
 ask-matrix-requires : tie.Need-ask-matrix-requires
 ask-matrix-requires c κs = search needs
