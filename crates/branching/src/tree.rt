@@ -32,10 +32,10 @@ impl Tree {
     pub fn ancestor(self, v: usize) -> usize
         ensures { λ r. ⌜ r ≡ ancestor (ancestors self) v ⌝ }
     {
-        if v < PLACES {
-            return self.ancestors[v];
+        if PLACES <= v {
+            return 0;
         }
-        0
+        self.ancestors[v]
     }
 
     // The tree with a as the immediate ancestor of node v, and the same tree for a number v beyond the places.

@@ -8,19 +8,19 @@ use borrow.Author.Needs.{needs}
 use Rattle.branching.proofs.tree.Tree.ancestor.Statement.{statement}
 use Rattle.branching.proofs.tree.Tree.ancestor.Tie as tie
 
+returns : tie.Need-returns
+returns c = let size : length (c .before .args .t1 .ancestors) ≡ 127 = search needs in
+    sym (ancestor-beyond _ _ (omega arith))
+
 mul-result : tie.Need-mul-result
 mul-result c = search needs
 
 element-copy-out-result : tie.Need-element-copy-out-result
 element-copy-out-result c = search needs
 
-returns : tie.Need-returns
-unfolding ancestor
-returns c = refl
-
 returns-2 : tie.Need-returns-2
-returns-2 c = let size : length (c .before .args .t1 .ancestors) ≡ 127 = search needs in
-    sym (ancestor-beyond _ _ (omega arith))
+unfolding ancestor
+returns-2 c = refl
 
 pub ancestor-spec : {M : Type 1} → statement M
-ancestor-spec = tie.close (tie.spec mul-result element-copy-out-result returns returns-2)
+ancestor-spec = tie.close (tie.spec returns mul-result element-copy-out-result returns-2)
