@@ -1,13 +1,13 @@
 -- Going up reaches node 1 at all exactly if it does so within as many steps as the tree has nodes.
-use mathlib.Core.Path.{_≡_, refl}
+use mathlib.Core.Path.{_≡_, refl, ap, _∙_}
 use mathlib.Core.Logic.{_↔_, Iff·rfl, _⊎_, inl, inr, ⊎-elim, _≢_}
 use mathlib.Core.List.{List, List·Memᴰ}
 use mathlib.Core.Bool.{Bool, true, false, _||_}
-use Prim.Native.Nat.{ℕ, zero, suc, _<_}
+use Prim.Native.Nat.{ℕ, zero, suc, _-_, _<_}
 use native.Mathlib.Omega.{arith}
 use lib.Dec.{eqb}
 use lib.ListN.{length}
-use borrow.Author.Tests.{eqb-true, eq-eqb}
+use borrow.Author.Tests.{eqb-true, eq-eqb, ne-eqb}
 use Rattle.lists.proofs.Both.{eqb-iff, or-iff}
 use Rattle.branching.specs.Ancestors.{ancestor}
 use Rattle.lists.specs.Filters.{keep}
@@ -29,23 +29,35 @@ module _ (tree : List ℕ) where
   pub climbs-iff : (steps v : ℕ) → (climbs tree (suc steps) v ≡ true) ↔ ((v ≡ 1) ⊎ (climbs tree steps (ancestor tree v) ≡ true))
   climbs-iff steps v = rw (climbs-suc steps v) (or-iff (eqb-iff v 1) Iff·rfl)
 
+  -- node 1 climbs, however many steps are left
+  pub climbs-here : (steps v : ℕ) → v ≡ 1 → climbs tree steps v ≡ true
+  unfolding climbs
+  climbs-here zero v e = eq-eqb v 1 e
+  climbs-here (suc steps) v e = climbs-iff steps v .1 (inl e)
+
+  -- with a step left, another node climbs exactly if its immediate ancestor does with one step less
+  pub climbs-above : (steps v : ℕ) → 0 < steps → v ≢ 1 → climbs tree steps v ≡ climbs tree (steps - 1) (ancestor tree v)
+  climbs-above zero v some ne = absurd (omega arith)
+  climbs-above (suc steps) v some ne =
+      let less : suc steps - 1 ≡ steps = omega arith in
+      rw less (climbs-suc steps v ∙ ap (λ (t : Bool). t || climbs tree steps (ancestor tree v)) (ne-eqb v 1 ne))
+
+  -- with no step left only node 1 climbs
+  pub climbs-last : (steps v : ℕ) → steps ≡ 0 → climbs tree steps v ≡ eqb v 1
+  unfolding climbs
+  climbs-last steps v none = rw none
+
   -- if the immediate ancestor climbs, so does the node with one step more
   climbs-up : (steps v : ℕ) → climbs tree steps (ancestor tree v) ≡ true → climbs tree (suc steps) v ≡ true
   climbs-up steps v c = climbs-iff steps v .1 (inr c)
 
-  -- node 1 climbs in no steps
-  climbs-root : (steps v : ℕ) → v ≡ 1 → climbs tree steps v ≡ true
-  unfolding climbs
-  climbs-root zero v e = eq-eqb v 1 e
-  climbs-root (suc steps) v e = climbs-iff steps v .1 (inl e)
-
   -- what climbs within some steps climbs within more
   climbs-more : (steps v : ℕ) → climbs tree steps v ≡ true → climbs tree (suc steps) v ≡ true
   unfolding climbs
-  climbs-more zero v c = climbs-root 1 v (eqb-true v 1 c)
+  climbs-more zero v c = climbs-here 1 v (eqb-true v 1 c)
   climbs-more (suc steps) v c =
       ⊎-elim
-      (λ e. climbs-root (suc (suc steps)) v e)
+      (λ e. climbs-here (suc (suc steps)) v e)
       (λ r. climbs-up (suc steps) v (climbs-more steps (ancestor tree v) r))
       (climbs-iff steps v .0 c)
 
@@ -71,13 +83,13 @@ module _ (tree : List ℕ) where
   settled-suc : (steps : ℕ) → Settled steps → Settled (suc steps)
   settled-suc steps s v c =
       ⊎-elim
-      (λ e. climbs-root (suc steps) v e)
+      (λ e. climbs-here (suc steps) v e)
       (λ r. climbs-up steps v (s (ancestor tree v) r))
       (climbs-iff (suc steps) v .0 c)
 
   -- then all that reaches node 1 climbs
   reaches-settled : (steps : ℕ) → Settled steps → {v : ℕ} → ReachesRoot tree v → climbs tree steps v ≡ true
-  reaches-settled steps s root = climbs-root steps 1 refl
+  reaches-settled steps s root = climbs-here steps 1 refl
   reaches-settled steps s (up v r) = s v (climbs-up steps v (reaches-settled steps s r))
 
   -- a list of nodes that holds node 1 and every node that ever climbs
@@ -85,7 +97,7 @@ module _ (tree : List ℕ) where
       (all : (v : ℕ) → List·Memᴰ v nodes ⊎ ((steps : ℕ) → ¬ (climbs tree steps v ≡ true))) where
     -- each step lets one more of the nodes climb, until nothing more climbs
     settled-or-more : (steps : ℕ) → Settled steps ⊎ (steps < length (keep (climbs tree steps) nodes))
-    settled-or-more zero = inr (mem-length (mem-keep (climbs tree 0) nodes 1 one (climbs-root 0 1 refl)))
+    settled-or-more zero = inr (mem-length (mem-keep (climbs tree 0) nodes 1 one (climbs-here 0 1 refl)))
     settled-or-more (suc steps) = go (settled-or-more steps)
       where
         everywhere : ((v : ℕ) → List·Memᴰ v nodes → climbs tree (suc steps) v ≡ true → climbs tree steps v ≡ true) → Settled steps

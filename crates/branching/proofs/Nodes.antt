@@ -19,7 +19,7 @@ use Rattle.branching.specs.Hanging.{noBranches}
 use Rattle.lists.proofs.Keep.{keep-mem, mem-keep, length-keep-le}
 
 -- a list of one number throughout has it at every place, and beyond its end if it stands in there
-same-everywhere : (count v a : ℕ) → getD (replicate count a) v a ≡ a
+pub same-everywhere : {A : Type 0} (count v : ℕ) (a : A) → getD (replicate count a) v a ≡ a
 same-everywhere zero v a = refl
 same-everywhere (suc count) zero a = refl
 same-everywhere (suc count) (suc v) a = same-everywhere count v a

@@ -32,7 +32,7 @@ NodesTo tree last = (v : ℕ) → 1 ≤ ancestor tree v → (2 ≤ v) × (v ≤ 
 
 module _ (tree : List ℕ) where
   -- a test of every place of the list
-  places-iff : (test : ℕ → Bool) → (every test (numbers 0 (length tree)) ≡ true) ↔ ((v : ℕ) → v < length tree → test v ≡ true)
+  pub places-iff : (test : ℕ → Bool) → (every test (numbers 0 (length tree)) ≡ true) ↔ ((v : ℕ) → v < length tree → test v ≡ true)
   places-iff test =
       let each = every-iff test (numbers 0 (length tree)) in (
         λ e v h. each .0 e v (numbers-among 0 (length tree) v (omega arith) (omega arith)),

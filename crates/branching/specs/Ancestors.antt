@@ -5,6 +5,15 @@ use Prim.Native.Nat.{ℕ}
 use lib.Dec.{eqb}
 use lib.ListN.{getD}
 use Rattle.lists.specs.Filters.{keep}
+use Rattle.branching.specs.declared.tree.Tree.{Tree}
+
+-- a tree struct has a place for each of the nodes 0 to 126
+abbrev pub places : ℕ
+places = 127
+
+-- the view of a tree struct: its list of ancestors
+abbrev pub ancestors : Tree → List ℕ
+ancestors tree = tree .ancestors
 
 -- the immediate ancestor of node v
 unfoldable pub ancestor : List ℕ → ℕ → ℕ

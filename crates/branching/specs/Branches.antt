@@ -1,12 +1,12 @@
 -- The length of a tree, and branch records: the form in which a branching is lent and a finished tree handed back.
-use mathlib.Core.List.{List, _∷_, map}
+use mathlib.Core.List.{List, _∷_, _++_, map}
 use mathlib.Core.Bool.{Bool, _&&_}
 use Prim.Native.Nat.{ℕ, _*_, _-_}
-use lib.ListN.{take}
+use lib.ListN.{length, getD, take, drop, replicate}
 use Rattle.lists.specs.Sums.{sumOver}
 use Rattle.lists.specs.Tests.{sameNumbers}
 use Rattle.branching.specs.declared.branch.Branch.{Branch}
-use Rattle.branching.specs.Ancestors.{ancestor}
+use Rattle.branching.specs.Ancestors.{places, ancestor}
 use Rattle.branching.specs.Nodes.{nodesIn, otherNodes}
 use Rattle.branching.specs.Growing.{branching}
 
@@ -22,6 +22,14 @@ branchOf d tree v = record { node = v; ancestor = ancestor tree v; length = d v 
 unfoldable pub branchRecords : (ℕ → ℕ → ℕ) → ℕ → List ℕ → List Branch
 branchRecords d n tree = map (branchOf d tree) (otherNodes n)
 
+-- the difference that a list of lengths by node number gives: that of node v stands at place v
+unfoldable pub lengthsBy : List ℕ → ℕ → ℕ → ℕ
+lengthsBy lengths v above = getD lengths v 0
+
+-- a list of branches with those of a branching written over the first 2n-3, as far as the list goes; what stands behind them is as before
+unfoldable pub withRecords : (ℕ → ℕ → ℕ) → ℕ → List ℕ → List Branch → List Branch
+withRecords d n tree records = take (length records) (branchRecords d n tree) ++ drop (2 * n - 3) records
+
 -- of a list of branches, the first 2n-3, which alone are read
 unfoldable pub branchesRead : ℕ → List Branch → List Branch
 branchesRead n records = take (2 * n - 3) records
@@ -29,6 +37,12 @@ branchesRead n records = take (2 * n - 3) records
 -- the tree that the first 2n-3 branches give, if they name nodes 2 to 2n-2 in order
 unfoldable pub ancestorsOf : ℕ → List Branch → List ℕ
 ancestorsOf n records = 0 ∷ (0 ∷ map (λ (branch : Branch). branch .ancestor) (branchesRead n records))
+
+-- the same tree with a place for each of the nodes 0 to 126
+unfoldable pub placesOf : ℕ → List Branch → List ℕ
+placesOf n records =
+    let tree = ancestorsOf n records in
+    tree ++ replicate (places - length tree) 0
 
 -- the first 2n-3 branches name nodes 2 to 2n-2 in order
 unfoldable pub namedInOrder : ℕ → List Branch → Bool

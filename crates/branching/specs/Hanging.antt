@@ -2,12 +2,12 @@
 use mathlib.Core.List.{List}
 use Prim.Native.Nat.{ℕ, _+_, _-_}
 use lib.ListN.{replicate, set}
-use Rattle.branching.specs.Ancestors.{ancestor}
+use Rattle.branching.specs.Ancestors.{places, ancestor}
 use Rattle.branching.specs.Nodes.{taxaPlaced}
 
 -- row 1 alone: a tree with a place for each of the nodes 0 to 126 and no branch
 unfoldable pub noBranches : List ℕ
-noBranches = replicate 127 0
+noBranches = replicate places 0
 
 -- the tree with taxon b linked to row 1
 unfoldable pub linked : List ℕ → ℕ → List ℕ

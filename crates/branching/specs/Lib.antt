@@ -4,5 +4,9 @@ pub mod Nodes
 pub mod Growing
 pub mod Facts
 pub mod Hanging
+pub mod Within
+pub mod Testing
+pub mod Walks
+pub mod Steps
 pub mod Branches
 pub mod Asking
