@@ -17,3 +17,6 @@ pub mod Linking
 pub mod Lengths
 pub mod Whole
 pub mod Records
+pub mod Placing
+pub mod RowLengths
+pub mod Rival

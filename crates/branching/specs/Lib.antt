@@ -10,3 +10,6 @@ pub mod Walks
 pub mod Steps
 pub mod Branches
 pub mod Asking
+pub mod RowLengths
+pub mod Placing
+pub mod Rival

@@ -22,8 +22,8 @@ use Rattle.branching.specs.Nodes as branching-Nodes
 use Rattle.branching.specs.Growing as branching-Growing
 use Rattle.branching.specs.Hanging as branching-Hanging
 use Rattle.branching.specs.Branches as branching-Branches
-use Rattle.wagner.specs.Nodes as wagner-Nodes
-use Rattle.wagner.specs.Placing as wagner-Placing
+use Rattle.branching.specs.RowLengths as branching-RowLengths
+use Rattle.branching.specs.Placing as branching-Placing
 use Rattle.wagner.specs.Build as wagner-Build
 use Rattle.fitting.specs.Sets as fitting-Sets
 use Rattle.fitting.specs.Clades as fitting-Clades
@@ -63,9 +63,9 @@ unfolding flatMap matrix-Shape.row matrix-Shape.inRange matrix-Shape.lastNode li
     branching-Hanging.hung branching-Hanging.nextHtu lists-Sums.sumOver branching-Branches.treeLength
     branching-Branches.branchOf branching-Branches.branchRecords branching-Branches.branchesRead branching-Branches.ancestorsOf
     branching-Branches.namedInOrder branching-Branches.lentBranching matrix-NodeRows.rowOf lists-Least.leastOf
-    difference-Rows.intervalBy wagner-Nodes.nodeInterval wagner-Nodes.advancement wagner-Nodes.lengthUnder wagner-Placing.medianRow
-    wagner-Placing.fromInterval wagner-Placing.nearestInterval wagner-Placing.linkFirst wagner-Placing.hang wagner-Placing.placeOn
-    wagner-Placing.place wagner-Build.byAdvancement wagner-Build.addedLength wagner-Build.buildOn wagner-Build.build wagner-Build.wagner
+    difference-Rows.intervalBy branching-RowLengths.nodeInterval wagner-Build.advancement branching-RowLengths.lengthUnder branching-Placing.medianRow
+    branching-Placing.fromInterval branching-Placing.nearestInterval branching-Placing.linkFirst branching-Placing.hang branching-Placing.placeOn
+    branching-Placing.place wagner-Build.byAdvancement wagner-Build.addedLength wagner-Build.buildOn wagner-Build.build wagner-Build.wagner
     wagner-Build.wagnerLength wagner-Build.wagnerBranches fitting-Sets.only fitting-Sets.join fitting-Sets.nearestMember fitting-Sets.insert
     fitting-Sets.inOrder fitting-Sets.middle fitting-Clades.above fitting-Clades.cladeAt fitting-Clades.cladesBelow fitting-Character.valueAt
     fitting-Character.up fitting-Character.chosen fitting-Character.ranges fitting-Assignments.character

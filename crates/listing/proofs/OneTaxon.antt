@@ -10,7 +10,7 @@ use Rattle.difference.specs.Rows.{Measure}
 use Rattle.prim.specs.Network.{network, networkLength, grow}
 use Rattle.branching.specs.Nodes.{nodesIn, otherNodes}
 use Rattle.branching.specs.Branches.{treeLength}
-use Rattle.wagner.specs.Nodes.{lengthUnder}
+use Rattle.branching.specs.RowLengths.{lengthUnder}
 use Rattle.wagner.specs.Build.{wagner, wagnerLength, build, buildOn}
 use Rattle.fitting.specs.Assignments.{total}
 use Rattle.fitting.specs.Fit.{fittedTotal}

@@ -8,7 +8,7 @@ use Rattle.lists.specs.Numbers.{numbers}
 use Rattle.matrix_file.specs.Decimal.{digitsOf, decimal}
 use Rattle.matrix_file.specs.Text.{bytes}
 use Rattle.prim.specs.Network.{Link}
-use Rattle.wagner.specs.declared.placement.Placement.{Placement}
+use Rattle.branching.specs.declared.placement.Placement.{Placement}
 use Rattle.branching.specs.Ancestors.{ancestor}
 use Rattle.branching.specs.Nodes.{otherNodes}
 use Rattle.fitting.specs.Fit.{chosenState, range, fittedLength, marked}

@@ -18,9 +18,9 @@ use Rattle.prim.specs.Rival.{Connected, linkEnds, linksLength}
 use Rattle.branching.specs.Ancestors.{ancestor}
 use Rattle.branching.specs.Nodes.{Unplaced}
 use Rattle.branching.specs.Growing.{branching}
-use Rattle.wagner.specs.Nodes.{lengthUnder}
-use Rattle.wagner.specs.Placing.{place}
-use Rattle.wagner.specs.Rival.{hungLength}
+use Rattle.branching.specs.RowLengths.{lengthUnder}
+use Rattle.branching.specs.Placing.{place}
+use Rattle.branching.specs.Rival.{hungLength}
 use Rattle.wagner.specs.Build.{wagner}
 use Rattle.fitting.specs.Sets.{In}
 use Rattle.fitting.specs.Assignments.{IsAssignment, IsLeast, Occurs, total}

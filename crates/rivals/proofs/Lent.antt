@@ -29,8 +29,8 @@ use Rattle.matrix.proofs.Row.{row-length}
 use Rattle.matrix_file.specs.Job.{hasCodes}
 use Rattle.branching.specs.declared.branch.Branch.{Branch}
 use Rattle.branching.specs.Branches.{ancestorsOf, lentBranching}
-use Rattle.wagner.specs.Placing.{place}
-use Rattle.wagner.specs.Rival.{PlacementIsLeast}
+use Rattle.branching.specs.Placing.{place}
+use Rattle.branching.specs.Rival.{PlacementIsLeast}
 use Rattle.rivals.specs.Accepted.{CodeRows, matrixLent, HandedIn}
 use Rattle.rivals.proofs.Demand.{no-rival}
 use Rattle.branching.specs.Growing.{growingTree, rowOneAlone}

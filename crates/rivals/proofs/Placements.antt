@@ -13,14 +13,14 @@ use Rattle.branching.specs.Nodes.{Unplaced, taxaPlaced}
 use Rattle.branching.specs.Hanging.{noBranches}
 use Rattle.branching.proofs.Nodes.{noBranches-none, noBranches-places}
 use Rattle.branching.proofs.Test.{alone-iff, growing-fact, growing-placed}
-use Rattle.wagner.specs.Placing.{linkFirst, place}
-use Rattle.wagner.proofs.Placing.{place-first}
+use Rattle.branching.specs.Placing.{linkFirst, place}
+use Rattle.branching.proofs.Placing.{place-first}
 use Rattle.wagner.specs.Build.{byAdvancement, buildOn, build, wagner}
-use Rattle.wagner.specs.Rival.{PlacementIsLeast}
+use Rattle.branching.specs.Rival.{PlacementIsLeast}
 use Rattle.wagner.proofs.Build.{Chooses, advancement-chooses}
 use Rattle.wagner.proofs.BuildLength.{place-growth}
-use Rattle.wagner.proofs.Difference.{difference-laws, placement-least}
-use Rattle.wagner.proofs.Lengths.{Growth}
+use Rattle.branching.proofs.Rival.{difference-laws, placement-least}
+use Rattle.branching.proofs.RowLengths.{Growth}
 use Rattle.rivals.specs.Accepted.{HandedIn}
 use Rattle.rivals.specs.Demand.{EachIsLeast, done, more, BuildIsLeast, oneTaxon, severalTaxa}
 use Rattle.rivals.proofs.Rows.{MatrixRows, rows-sized, rows-append}

@@ -19,7 +19,7 @@ use Rattle.matrix.proofs.Row.{row-length}
 use Rattle.matrix_file.specs.Job.{Job, hasCodes}
 use Rattle.matrix_file.specs.Reading.{readAnswer, accepted}
 use Rattle.matrix_file.proofs.FileOfRead.{file-of-read}
-use Rattle.wagner.proofs.Lengths.{OfLength}
+use Rattle.branching.proofs.RowLengths.{OfLength}
 use Rattle.matrix.proofs.NodeRows.{length-rowsOf, rowOf-rowsOf}
 use Rattle.rivals.specs.Accepted.{CodeRows, Accepted, fileRead, matrixLent}
 

@@ -7,15 +7,15 @@ use lib.IntN.{ℤ}
 use Rattle.matrix.specs.NodeRows.{rowOf}
 use Rattle.difference.specs.Rows.{Measure, nodeDifference}
 use Rattle.prim.specs.Rival.{Shortest}
-use Rattle.wagner.specs.declared.placement.Placement.{Placement}
+use Rattle.branching.specs.declared.placement.Placement.{Placement}
 use Rattle.branching.specs.declared.branch.Branch.{Branch}
 use Rattle.branching.specs.Growing.{branching}
 use Rattle.branching.specs.Nodes.{Unplaced}
 use Rattle.branching.specs.Hanging.{noBranches, linked}
 use Rattle.branching.specs.Branches.{lentBranching, ancestorsOf}
-use Rattle.wagner.specs.Placing.{AfterPlacing, linkFirst, place}
+use Rattle.branching.specs.Placing.{AfterPlacing, linkFirst, place}
 use Rattle.wagner.specs.Build.{Built, wagner}
-use Rattle.wagner.specs.Rival.{PlacementIsLeast}
+use Rattle.branching.specs.Rival.{PlacementIsLeast}
 use Rattle.fitting.specs.Rival.{FitIsLeast}
 use Rattle.rivals.specs.Accepted.{HandedIn}
 

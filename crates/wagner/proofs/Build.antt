@@ -18,11 +18,10 @@ use Rattle.branching.proofs.Nodes.{noBranches-none, noBranches-places}
 use Rattle.branching.proofs.Counts.{some-unplaced, unplaced-taxon}
 use Rattle.branching.proofs.Test.{growing-placed}
 use Rattle.branching.proofs.Records.{records-lent}
-use Rattle.wagner.specs.Nodes.{advancement}
-use Rattle.wagner.specs.Placing.{AfterPlacing, nearestInterval, linkFirst, hang, placeOn, place}
-use Rattle.wagner.specs.Build.{byAdvancement, buildOn, build, wagner, wagnerBranches}
+use Rattle.wagner.specs.Build.{advancement, byAdvancement, buildOn, build, wagner, wagnerBranches}
+use Rattle.branching.specs.Placing.{AfterPlacing, nearestInterval, linkFirst, hang, placeOn, place}
 use Rattle.lists.proofs.Least.{leastOf-mem}
-use Rattle.wagner.proofs.Placing.{place-grows}
+use Rattle.branching.proofs.Placing.{place-grows}
 
 -- a rule for the next taxon chooses one that is not placed, as long as there is one
 abbrev pub Chooses : (ℕ → List ℕ → List (List ℤ) → ℕ) → ℕ → Type 0

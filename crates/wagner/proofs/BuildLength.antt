@@ -19,12 +19,12 @@ use Rattle.branching.proofs.Nodes.{noBranches-none, noBranches-places}
 use Rattle.branching.proofs.Test.{growing-placed}
 use Rattle.branching.proofs.Lengths.{alone-length}
 use Rattle.difference.specs.Rows.{nodeDifference}
-use Rattle.wagner.specs.Nodes.{lengthUnder}
-use Rattle.wagner.specs.Placing.{AfterPlacing, medianRow, nearestInterval, linkFirst, hang, place}
+use Rattle.branching.specs.RowLengths.{lengthUnder}
+use Rattle.branching.specs.Placing.{AfterPlacing, medianRow, nearestInterval, linkFirst, hang, place}
 use Rattle.wagner.specs.Build.{Built, addedLength, buildOn, build}
-use Rattle.wagner.proofs.Placing.{place-first, place-later, nearest-node, place-grows}
+use Rattle.branching.proofs.Placing.{place-first, place-later, nearest-node, place-grows}
 use Rattle.wagner.proofs.Build.{Chooses, place-places}
-use Rattle.wagner.proofs.Lengths.{MedianLaws, OfLength, Growth, rowOf-old, rowOf-new, medianRow-sized, place-added}
+use Rattle.branching.proofs.RowLengths.{MedianLaws, OfLength, Growth, rowOf-old, rowOf-new, medianRow-sized, place-added}
 
 -- a row of m codes more
 rows-more : (m : ℕ) (rows : List (List ℤ)) (r : List ℤ) → OfLength m rows → length r ≡ m → OfLength m (rows ++ (r ∷ []))

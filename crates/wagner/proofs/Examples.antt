@@ -11,7 +11,7 @@ use Rattle.lists.specs.Numbers.{numbers}
 use Rattle.lists.specs.Least.{firstLeast, leastOf}
 use Rattle.matrix.specs.Shape.{lastNode}
 use Rattle.lists.specs.Tests.{every, sameNumbers}
-use Rattle.wagner.specs.declared.placement.Placement.{Placement}
+use Rattle.branching.specs.declared.placement.Placement.{Placement}
 use Rattle.branching.specs.declared.branch.Branch.{Branch}
 use Rattle.branching.specs.Ancestors.{ancestor, descendants}
 use Rattle.lists.specs.Filters.{keep}
@@ -21,9 +21,9 @@ use Rattle.branching.specs.Growing.{descendantsRight, allClimb, grown, growingT
 use Rattle.branching.specs.Hanging.{noBranches, linked, hung, nextHtu}
 use Rattle.branching.specs.Branches.{treeLength, branchOf, branchRecords, branchesRead, ancestorsOf, namedInOrder, lentBranching}
 use Rattle.lists.specs.Sums.{sumOver}
-use Rattle.wagner.specs.Nodes.{nodeInterval, advancement, lengthUnder}
-use Rattle.wagner.specs.Placing.{AfterPlacing, medianRow, fromInterval, nearestInterval, linkFirst, hang, placeOn, place}
-use Rattle.wagner.specs.Build.{Built, byAdvancement, buildOn, build, wagner, wagnerLength, wagnerBranches}
+use Rattle.branching.specs.RowLengths.{nodeInterval, lengthUnder}
+use Rattle.wagner.specs.Build.{advancement, Built, byAdvancement, buildOn, build, wagner, wagnerLength, wagnerBranches}
+use Rattle.branching.specs.Placing.{AfterPlacing, medianRow, fromInterval, nearestInterval, linkFirst, hang, placeOn, place}
 
 -- taxon, lower end, upper end, HTU, length added
 abbrev line : ℕ → ℕ → ℕ → ℕ → ℕ → Placement

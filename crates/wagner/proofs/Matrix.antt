@@ -13,7 +13,7 @@ use Rattle.matrix.proofs.Row.{length-row}
 use Rattle.branching.specs.Hanging.{noBranches}
 use Rattle.wagner.specs.Matrix.{matrixAfter}
 use Rattle.wagner.specs.Build.{Built}
-use Rattle.wagner.proofs.Lengths.{OfLength}
+use Rattle.branching.proofs.RowLengths.{OfLength}
 use Rattle.wagner.proofs.BuildLength.{Sound}
 
 -- the rows of nodes 1 to count in a matrix that has them have m codes each

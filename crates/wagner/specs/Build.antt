@@ -5,21 +5,25 @@ use lib.IntN.{ℤ}
 use Rattle.difference.specs.Rows.{nodeDifference}
 use Rattle.matrix.specs.NodeRows.{rowOf}
 use Rattle.lists.specs.Numbers.{numbers}
-use Rattle.wagner.specs.declared.placement.Placement.{Placement}
+use Rattle.branching.specs.declared.placement.Placement.{Placement}
 use Rattle.branching.specs.declared.branch.Branch.{Branch}
 use Rattle.branching.specs.Nodes.{nodesOut}
 use Rattle.branching.specs.Hanging.{noBranches}
 use Rattle.branching.specs.Branches.{branchRecords}
 use Rattle.lists.specs.Sums.{sumOver}
 use Rattle.lists.specs.Least.{leastOf}
-use Rattle.wagner.specs.Nodes.{advancement, lengthUnder}
-use Rattle.wagner.specs.Placing.{AfterPlacing, place}
+use Rattle.branching.specs.RowLengths.{lengthUnder}
+use Rattle.branching.specs.Placing.{AfterPlacing, place}
 
 -- what comes out of a build: the tree, the rows of all nodes, and the placements in order
 pub record Built : Type 0 where
   pub tree : List ℕ
   pub rows : List (List ℤ)
   pub placements : List Placement
+
+-- the advancement of a taxon: its difference from row 1
+unfoldable pub advancement : (List ℤ → List ℤ → ℕ) → List (List ℤ) → ℕ → ℕ
+advancement d rows b = nodeDifference d (rowOf rows) b 1
 
 -- the next taxon by advancement: of the taxa not yet placed, by rising row, the first with the least advancement
 unfoldable pub byAdvancement : (List ℤ → List ℤ → ℕ) → ℕ → List ℕ → List (List ℤ) → ℕ

@@ -1,2 +1,1 @@
-// The Wagner tree: one placement, and the whole build.
-pub mod placement;
+// The Wagner tree: the whole build.

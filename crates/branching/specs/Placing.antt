@@ -4,12 +4,12 @@ use Prim.Native.Nat.{ℕ, zero, suc}
 use lib.IntN.{ℤ}
 use Rattle.matrix.specs.NodeRows.{rowOf}
 use Rattle.difference.specs.Rows.{medians, nodeDifference}
-use Rattle.wagner.specs.declared.placement.Placement.{Placement}
+use Rattle.branching.specs.declared.placement.Placement.{Placement}
 use Rattle.branching.specs.Ancestors.{ancestor}
 use Rattle.branching.specs.Nodes.{nodesIn, otherNodes}
 use Rattle.branching.specs.Hanging.{linked, hung, nextHtu}
 use Rattle.lists.specs.Least.{leastOf}
-use Rattle.wagner.specs.Nodes.{nodeInterval}
+use Rattle.branching.specs.RowLengths.{nodeInterval}
 
 -- what comes out of a placement: the tree one taxon larger, the rows of all nodes, and what was done
 pub record AfterPlacing : Type 0 where

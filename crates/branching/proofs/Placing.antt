@@ -6,17 +6,17 @@ use Prim.Native.Nat.{ℕ, zero, suc, _*_, _-_, _≤_, _<_}
 use native.Mathlib.Omega.{arith}
 use lib.IntN.{ℤ}
 use lib.ListN.{length}
 use Rattle.branching.specs.Ancestors.{ancestor}
 use Rattle.branching.specs.Nodes.{nodesIn, otherNodes, taxaPlaced, Unplaced}
 use Rattle.branching.specs.Growing.{growingTree}
 use Rattle.branching.specs.Facts.{Grown, GrowingTree, alone, several}
 use Rattle.branching.specs.Hanging.{nextHtu}
 use Rattle.branching.proofs.Nodes.{node-nodesIn}
 use Rattle.branching.proofs.Counts.{grown-node, grown-nodes}
 use Rattle.branching.proofs.Test.{growing-fact, growing-placed, growing-test}
 use Rattle.branching.proofs.Hanging.{hung-grown}
 use Rattle.branching.proofs.Linking.{linked-grown}
-use Rattle.wagner.specs.Placing.{fromInterval, nearestInterval, linkFirst, hang, placeOn, place}
+use Rattle.branching.specs.Placing.{fromInterval, nearestInterval, linkFirst, hang, placeOn, place}
 use Rattle.lists.proofs.Least.{leastOf-mem, leastOf-le, leastOf-none}
 
 module _ (d : List ℤ → List ℤ → ℕ) (n : ℕ) (tree : List ℕ) (rows : List (List ℤ)) (b : ℕ) where

@@ -4,10 +4,10 @@ use mathlib.Core.List.{List, [], _∷_, _++_}
 use Prim.Native.Nat.{ℕ, _+_, _≤_}
 use lib.IntN.{ℤ}
 use lib.ListN.{length}
 use Rattle.branching.specs.Ancestors.{ancestor}
 use Rattle.branching.specs.Hanging.{hung, nextHtu}
-use Rattle.wagner.specs.Nodes.{lengthUnder}
-use Rattle.wagner.specs.Placing.{AfterPlacing, medianRow, fromInterval}
+use Rattle.branching.specs.RowLengths.{lengthUnder}
+use Rattle.branching.specs.Placing.{AfterPlacing, medianRow, fromInterval}
 
 module _ (d : List ℤ → List ℤ → ℕ) where
   -- the length with taxon b hung on the interval between c and its immediate ancestor, through a new HTU with row r

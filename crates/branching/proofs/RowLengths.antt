@@ -9,15 +9,15 @@ use lib.ListN.{length, List·getD-append}
 use lib.Seq.{getD-at}
 use Rattle.matrix.specs.NodeRows.{rowOf}
 use Rattle.difference.specs.Rows.{intervalBy, medians, nodeDifference}
 use Rattle.branching.specs.Ancestors.{ancestor}
 use Rattle.branching.specs.Facts.{Grown, GrowingTree, alone, several}
 use Rattle.branching.specs.Nodes.{Unplaced}
 use Rattle.branching.specs.Hanging.{hung, nextHtu}
 use Rattle.branching.proofs.Hanging.{hung-joint, htu-out}
 use Rattle.branching.proofs.Lengths.{treeLength-same, alone-length, linked-length, hung-length}
-use Rattle.wagner.specs.Nodes.{nodeInterval, lengthUnder}
-use Rattle.wagner.specs.Placing.{AfterPlacing, medianRow, fromInterval, nearestInterval, linkFirst, hang, place}
-use Rattle.wagner.proofs.Placing.{place-first, place-later, nearest-node, nearest-least}
+use Rattle.branching.specs.RowLengths.{nodeInterval, lengthUnder}
+use Rattle.branching.specs.Placing.{AfterPlacing, medianRow, fromInterval, nearestInterval, linkFirst, hang, place}
+use Rattle.branching.proofs.Placing.{place-first, place-later, nearest-node, nearest-least}
 
 -- the row of a node is not changed by a row behind the others
 pub rowOf-old : (rows : List (List ℤ)) (r : List ℤ) (v : ℕ) → 1 ≤ v → v ≤ length rows → rowOf (rows ++ (r ∷ [])) v ≡ rowOf rows v
