@@ -1,8 +1,10 @@
--- Document 01's examples of fitting, computed: the three joins, the fit of the matrix A, B, C, D to its Wagner tree, and small n.
-use mathlib.Core.Path.{_≡_, refl}
+-- Examples of fitting, computed: document 01's three joins, the fit of its matrix A, B, C, D to its Wagner tree, five taxa whose ranges
+-- differ from their sets, and small n.
+use mathlib.Core.Path.{_≡_, refl, sym, _∙_, ap}
 use mathlib.Core.List.{List, [], _∷_, map, flatMap}
 use mathlib.Core.Bool.{Bool, true, false}
 use Prim.Native.Nat.{ℕ, suc, _-_}
+use native.Mathlib.Omega.{arith}
 use lib.IntN.{ℤ, pos, negsuc}
 use Rattle.lists.specs.Numbers.{numbers}
 use Rattle.difference.specs.Rows.{apart, plain, lower, higher}
@@ -11,7 +13,7 @@ use Rattle.branching.specs.Nodes.{otherNodes}
 use Rattle.lists.specs.Sums.{sumOver}
 use Rattle.lists.specs.Filters.{keep}
 use Rattle.fitting.specs.Sets.{only, join, nearestMember, insert, inOrder, middle}
-use Rattle.fitting.specs.Clades.{tip, fork, above, cladeAt, cladesBelow}
+use Rattle.fitting.specs.Clades.{Clade, tip, fork, above, cladeAt, cladesBelow}
 use Rattle.fitting.specs.Character.{valueAt, up, chosen, ranges}
 use Rattle.fitting.specs.Assignments.{character, branchLength, total}
 use Rattle.fitting.specs.Fit.{chosenState, range, fittedLength, fittedTotal, marked}
@@ -69,9 +71,13 @@ rowsABCD =
 abbrev pub treeABCD : List ℕ
 treeABCD = 0 ∷ 0 ∷ 6 ∷ 6 ∷ 5 ∷ 1 ∷ 5 ∷ []
 
--- below A stands #1, below #1 stand D and #2, below #2 stand B and C
-pub clade-ABCD : cladesBelow treeABCD 4 ≡ fork 5 (tip 4) (fork 6 (tip 2) (tip 3)) ∷ []
-unfolding cladesBelow cladeAt above otherNodes numbers descendants keep ancestor
+-- #1 with all below it: D and #2, below which stand B and C
+abbrev pub clade#1 : Clade
+clade#1 = fork 5 (tip 4) (fork 6 (tip 2) (tip 3))
+
+-- below A stands #1
+pub clade-ABCD : cladesBelow treeABCD 4 ≡ clade#1 ∷ []
+unfolding printed
 clade-ABCD = refl
 
 -- document 01's `T`, `t` and `H` lines
@@ -87,15 +93,69 @@ pub fit-ABCD : printed treeABCD rowsABCD 4 3 ≡ record {
 unfolding printed
 fit-ABCD = refl
 
--- in character 3 the set of #1 from the tips up is 1 to 2, while its range is 0 to 1
-pub set-of-#1 : up (character rowsABCD 3) (fork 5 (tip 4) (fork 6 (tip 2) (tip 3))) ≡ span (pos 1) (pos 2)
-unfolding up join only character lower higher
+-- the set of #1 in character 3, from the tips up
+pub set-of-#1 : up (character rowsABCD 3) clade#1 ≡ span (pos 1) (pos 2)
+unfolding printed
 set-of-#1 = refl
 
 -- the range of #1 in character 3
 pub range-of-#1 : range treeABCD rowsABCD 4 5 3 ≡ span (pos 0) (pos 1)
 unfolding printed
 range-of-#1 = refl
+
+-- the set of a node from the tips up is not its range
+pub range-not-set : range treeABCD rowsABCD 4 5 3 ≡ up (character rowsABCD 3) clade#1 → ⊥
+range-not-set e = never (ap (λ a. a .low) (sym range-of-#1 ∙ e ∙ set-of-#1))
+  where
+    never : pos 0 ≡ pos 1 → ⊥
+    never p = let z : _≡_ {A = ℕ} 0 1 = cc in omega arith
+
+-- five taxa in two characters: nodes 2 and 3 hang from #1, node 4 and #1 from #2, node 5 and #2 from #3, #3 from node 1
+abbrev pub rowsFive : List (List ℤ)
+rowsFive =
+    (negsuc 3 ∷ pos 5 ∷ [])
+    ∷ (negsuc 2 ∷ pos 5 ∷ [])
+    ∷ (negsuc 1 ∷ pos 2 ∷ [])
+    ∷ (pos 1 ∷ pos 0 ∷ [])
+    ∷ (pos 0 ∷ pos 4 ∷ [])
+    ∷ []
+
+-- their tree
+abbrev pub treeFive : List ℕ
+treeFive = 0 ∷ 0 ∷ 6 ∷ 6 ∷ 7 ∷ 8 ∷ 7 ∷ 8 ∷ 1 ∷ []
+
+-- #1 with all below it
+abbrev pub fiveFrom#1 : Clade
+fiveFrom#1 = fork 6 (tip 2) (tip 3)
+
+-- #2 with all below it, the lower node number first
+abbrev pub fiveFrom#2 : Clade
+fiveFrom#2 = fork 7 (tip 4) fiveFrom#1
+
+-- the clade below node 1
+pub clade-five : cladesBelow treeFive 5 ≡ fork 8 (tip 5) fiveFrom#2 ∷ []
+unfolding printed
+clade-five = refl
+
+-- negative states; the chosen state of #2 is the highest of its range in character 1, and the lowest in character 2
+pub fit-five : printed treeFive rowsFive 5 2 ≡ record {
+  lengths = 4 ∷ 0 ∷ 3 ∷ 0 ∷ 2 ∷ 2 ∷ 5 ∷ [];
+  marks = true ∷ false ∷ true ∷ false ∷ true ∷ true ∷ true ∷ [];
+  sumOfLengths = 16;
+  states =
+      ((negsuc 1 ∷ negsuc 1 ∷ negsuc 1 ∷ []) ∷ (pos 2 ∷ pos 4 ∷ pos 2 ∷ []) ∷ [])
+      ∷ ((negsuc 1 ∷ pos 0 ∷ pos 0 ∷ []) ∷ (pos 2 ∷ pos 4 ∷ pos 2 ∷ []) ∷ [])
+      ∷ ((negsuc 1 ∷ pos 0 ∷ pos 0 ∷ []) ∷ (pos 4 ∷ pos 4 ∷ pos 4 ∷ []) ∷ [])
+      ∷ [];
+}
+unfolding printed
+fit-five = refl
+
+-- in both characters the sets of #1 and #2 from the tips up are not their ranges
+pub sets-five : map (λ j. map (up (character rowsFive j)) (fiveFrom#1 ∷ fiveFrom#2 ∷ [])) (1 ∷ 2 ∷ [])
+    ≡ (span (negsuc 2) (negsuc 1) ∷ span (negsuc 1) (pos 1) ∷ []) ∷ (span (pos 2) (pos 5) ∷ span (pos 0) (pos 2) ∷ []) ∷ []
+unfolding printed
+sets-five = refl
 
 -- row 1 alone
 pub fit-1 : printed (0 ∷ 0 ∷ []) ((pos 7 ∷ []) ∷ []) 1 1 ≡ record { lengths = []; marks = []; sumOfLengths = 0; states = [] }
