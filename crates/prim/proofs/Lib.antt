@@ -11,3 +11,4 @@ pub mod Choosing
 pub mod Keeping
 pub mod Holding
 pub mod Growth
+pub mod Rings
