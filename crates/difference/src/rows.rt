@@ -1,22 +1,12 @@
 // Difference, medians and interval difference of rows of any length.
 use crate::codes::apart;
 use crate::codes::median;
+use matrix::rows::least;
 ghost use mathlib.Core.Path.{_≡_};
-ghost use Prim.Native.Nat.{min};
 ghost use lib.ListN.{take};
 ghost use Rattle.difference.specs.Answers.{DifferenceOf};
 ghost use Rattle.lists.specs.Over.{over};
 ghost use Rattle.difference.specs.Rows.{medians, intervalDifference};
-
-// The lesser of two counts.
-fn least(a: usize, b: usize) -> usize
-    ensures { λ r. ⌜ r ≡ min a b ⌝ }
-{
-    if a <= b {
-        return a;
-    }
-    b
-}
 
 // The difference of two rows, over their first 128 characters.
 pub fn difference(xs: &[i32], ys: &[i32]) -> u64

@@ -110,6 +110,10 @@ module _ {A : Type 0} where
   over-part (suc place) k xs [] h = refl
   over-part (suc place) k xs (o ∷ old) h = ap (λ rest. o ∷ rest) (over-part place k xs old (omega arith))
 
+  -- behind its end nothing is written
+  pub over-past : (place : ℕ) (xs old : List A) → length old ≤ place → over place xs old ≡ old
+  over-past place xs old h = sym (over-part place 0 xs old (omega arith)) ∙ over-nothing place old
+
   -- the part of a list from a place on, written over from its front and put back
   pub over-rest : (place : ℕ) (xs old : List A) → place ≤ length old → take place old ++ over 0 xs (drop place old) ≡ over place xs old
   unfolding over

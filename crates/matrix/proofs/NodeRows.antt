@@ -2,14 +2,15 @@
 use mathlib.Core.Path.{_≡_, sym, ap, _∙_}
 use mathlib.Core.Logic.{_≢_, by-cases}
 use mathlib.Core.List.{List, [], _++_}
-use Prim.Native.Nat.{ℕ, suc, _+_, _-_, _*_, _≤_, _<_}
+use Prim.Native.Nat.{ℕ, suc, _+_, _-_, _*_, _≤_, _<_, min}
 use native.Mathlib.Omega.{arith}
 use native.Mathlib.Decide.{decLe}
 use lib.IntN.{ℤ, pos}
-use lib.ListN.{length, getD, length-append, List·getD-append, List·getD-eq-default}
+use lib.ListN.{length, getD, length-append, List·getD-append, List·getD-eq-default, take}
 use lib.Seq.{getD-append-add, ext-getD}
+use Rattle.lists.specs.Over.{over}
 use Rattle.lists.proofs.Numbers.{length-map-numbers, map-numbers}
-use Rattle.lists.proofs.Over.{length-over, over-before, over-behind, over-item}
+use Rattle.lists.proofs.Over.{length-over, over-before, over-behind, over-item, over-part, over-past}
 use Rattle.lists.proofs.Stripes.{Narrow, length-stripes, stripes-before, stripes-else, stripes-item}
 use Rattle.matrix.specs.Shape.{columns, rowStart, row}
 use Rattle.matrix.specs.NodeRows.{rowOf, rowsOf, withRow, withRows}
@@ -64,6 +65,17 @@ module _ (codes : List ℤ) (v : ℕ) (r : List ℤ) where
   withRow-other short m u wide ulow vlow ne =
       row-same codes (withRow codes v r) m u length-withRow λ i h.
       withRow-else (rowStart u + i) (λ from upto. by-cases (decLe (suc u) v) (λ less. omega arith) (λ more. omega arith))
+
+-- a row written as far as the matrix goes, from where the row of node v begins or from the matrix's end
+pub withRow-part : (codes : List ℤ) (v : ℕ) (r : List ℤ) (start count : ℕ) → start ≡ min (length codes) (rowStart v)
+    → count ≡ min (length codes - start) (length r) → over start (take count r) codes ≡ withRow codes v r
+unfolding withRow
+withRow-part codes v r start count e f =
+    over-part start count r codes (omega arith)
+    ∙ by-cases
+    (decLe (rowStart v) (length codes))
+    (λ inside. ap (λ (p : ℕ). over p r codes) (omega arith))
+    (λ past. over-past start r codes (omega arith) ∙ sym (over-past (rowStart v) r codes (omega arith)))
 
 -- rows of m codes that are written for the nodes behind the first `count`
 module _ (codes : List ℤ) (m count : ℕ) (rows : List (List ℤ)) (each : (i : ℕ) → i < length rows → length (getD rows i []) ≡ m)

@@ -2,6 +2,7 @@
 use crate::COLUMNS;
 ghost use mathlib.Core.Path.{_≡_};
 ghost use Rattle.matrix.specs.Shape.{rowStart, row};
+ghost use Rattle.matrix.specs.NodeRows.{withRow};
 ghost use Prim.Native.Nat.{min};
 
 // Where the row of node v begins, or the end of the list where it has no such row.
@@ -28,4 +29,28 @@ pub fn row(matrix: &[i32], m: usize, v: usize) -> &[i32]
     }
     let end = start + m;
     &matrix[start..end]
+}
+
+// The lesser of two counts.
+pub fn least(a: usize, b: usize) -> usize
+    ensures { λ r. ⌜ r ≡ min a b ⌝ }
+{
+    if a <= b {
+        return a;
+    }
+    b
+}
+
+// Writes a row over the first codes of the row of node v, as far as the list goes.
+pub fn write_row(matrix: &mut [i32], v: usize, row: &[i32])
+    ensures { λ _. ⌜ now (matrix .exit) ≡ withRow (now (matrix .entry)) v (now (row .entry)) ⌝ }
+{
+    let len = matrix.len();
+    let start = row_start(len, v);
+    let count = least(len - start, row.len());
+    let mut j = 0;
+    while j < count {
+        matrix[start + j] = row[j];
+        j += 1;
+    }
 }

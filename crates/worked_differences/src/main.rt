@@ -4,19 +4,7 @@ use difference::calls::Length;
 use libc::STDOUT_FILENO;
 use matrix::refusal;
 use matrix::refusal::Asked;
-
-// Writes a row's codes at the front of the row of node v, as far as the matrix goes.
-fn put(codes: &mut [i32], v: usize, row: &[i32]) {
-    let start = matrix::rows::row_start(codes.len(), v);
-    let mut j = 0;
-    while j < row.len() {
-        if codes.len() - start <= j {
-            return;
-        }
-        codes[start + j] = row[j];
-        j += 1;
-    }
-}
+use matrix::rows::write_row;
 
 fn end_line() {
     io::write_all(STDOUT_FILENO, b"\n");
@@ -77,10 +65,10 @@ fn print_medians_of(codes: &[i32], n: usize, m: usize, nodes: [usize; 3], shown:
 
 // The handout's sums: rows with its differences, ANC as node 1, then C, A, B and D. The handout's own data sheet is not in the paper.
 fn handout(codes: &mut [i32]) {
-    put(codes, 2, &[1, 1, 1, 1, 0, 0, 0, 0, 0, 0, 0, 0]);
-    put(codes, 3, &[0, 0, 0, 0, 1, 1, 1, 1, 1, 1, 1, 0]);
-    put(codes, 4, &[1, 0, 0, 0, 1, 1, 1, 1, 1, 1, 1, 1]);
-    put(codes, 5, &[1, 0, 0, 0, 1, 1, 1, 1, 1, 0, 0, 0]);
+    write_row(codes, 2, &[1, 1, 1, 1, 0, 0, 0, 0, 0, 0, 0, 0]);
+    write_row(codes, 3, &[0, 0, 0, 0, 1, 1, 1, 1, 1, 1, 1, 0]);
+    write_row(codes, 4, &[1, 0, 0, 0, 1, 1, 1, 1, 1, 1, 1, 1]);
+    write_row(codes, 5, &[1, 0, 0, 0, 1, 1, 1, 1, 1, 0, 0, 0]);
     print_handout(codes);
 }
 
@@ -103,17 +91,17 @@ fn print_three(codes: &[i32], m: usize, shown: usize) {
 
 // Codes about zero: the median of -1, 2 and 0 is 0.
 fn about_zero(codes: &mut [i32]) {
-    put(codes, 1, &[-1, 0, 1, -3, -1]);
-    put(codes, 2, &[2, 0, -1, -1, -1]);
-    put(codes, 3, &[0, 0, 0, -2, 1]);
+    write_row(codes, 1, &[-1, 0, 1, -3, -1]);
+    write_row(codes, 2, &[2, 0, -1, -1, -1]);
+    write_row(codes, 3, &[0, 0, 0, -2, 1]);
     print_three(codes, 5, 6);
 }
 
 // Both ends of the range: one character, and 128 of them, the largest difference.
 fn ends(codes: &mut [i32]) {
-    put(codes, 1, &[-999i32; 128]);
-    put(codes, 2, &[999i32; 128]);
-    put(codes, 3, &[999i32; 128]);
+    write_row(codes, 1, &[-999i32; 128]);
+    write_row(codes, 2, &[999i32; 128]);
+    write_row(codes, 3, &[999i32; 128]);
     print_three(codes, 1, 2);
     print_three(codes, 128, 3);
 }
@@ -121,14 +109,14 @@ fn ends(codes: &mut [i32]) {
 // Equal rows, and one row named twice and three times.
 fn equal_rows(codes: &mut [i32]) {
     print_three(codes, 128, 2);
-    put(codes, 2, &[5]);
+    write_row(codes, 2, &[5]);
     print_length(calls::difference(codes, 3, 128, 2, 2));
     print_length(calls::interval_difference(codes, 3, 128, 2, 2, 2));
 }
 
 // Refusals of a matrix: its size, its limits, its taxa's codes, then its nodes.
 fn refused_matrix(codes: &mut [i32]) {
-    put(codes, 3, &[1000]);
+    write_row(codes, 3, &[1000]);
     print_refused(codes);
 }
 
@@ -145,8 +133,8 @@ fn print_refused(codes: &[i32]) {
 
 // Refusals of an HTU's row, which come last. A row that is not written keeps its sevens.
 fn refused_htu(codes: &mut [i32]) {
-    put(codes, 3, &[999]);
-    put(codes, 5, &[0, -1000]);
+    write_row(codes, 3, &[999]);
+    write_row(codes, 5, &[0, -1000]);
     print_length(calls::interval_difference(codes, 4, 1, 1, 5, 6));
     print_length(calls::interval_difference(codes, 4, 2, 1, 5, 7));
     print_length(calls::interval_difference(codes, 4, 2, 1, 5, 6));

@@ -3,22 +3,10 @@
 use libc::STDOUT_FILENO;
 use matrix::refusal;
 use matrix::refusal::Asked;
+use matrix::rows::write_row;
 use prim::answer::Answer;
 use prim::answer::Network;
 use prim::network::network;
-
-// Writes a row's codes at the front of the row of node v, as far as the matrix goes.
-fn put(codes: &mut [i32; 16128], v: usize, row: &[i32]) {
-    let start = matrix::rows::row_start(16128, v);
-    let mut j = 0;
-    while j < row.len() {
-        if 16128 - start <= j {
-            return;
-        }
-        codes[start + j] = row[j];
-        j += 1;
-    }
-}
 
 // A field of a line: a tab and a number.
 fn print_field(number: u64) {
@@ -83,10 +71,10 @@ fn show(codes: &[i32; 16128], n: usize, m: usize) {
 
 // Document 01's example, and the first one and two of its taxa.
 fn example(codes: &mut [i32; 16128]) {
-    put(codes, 1, &[0, 0, 0]);
-    put(codes, 2, &[2, 1, 0]);
-    put(codes, 3, &[2, 3, 1]);
-    put(codes, 4, &[-1, 1, 2]);
+    write_row(codes, 1, &[0, 0, 0]);
+    write_row(codes, 2, &[2, 1, 0]);
+    write_row(codes, 3, &[2, 3, 1]);
+    write_row(codes, 4, &[-1, 1, 2]);
     show(codes, 4, 3);
     show(codes, 1, 3);
     show(codes, 2, 3);
@@ -94,27 +82,27 @@ fn example(codes: &mut [i32; 16128]) {
 
 // Ties: rows 2 and 3 equally near to row 1; then row 4 equally near to rows 2 and 3, of which row 3 was placed first; then equal rows.
 fn ties(codes: &mut [i32; 16128]) {
-    put(codes, 1, &[0, 0, 0]);
-    put(codes, 2, &[1, 0, 0]);
-    put(codes, 3, &[-1, 0, 0]);
+    write_row(codes, 1, &[0, 0, 0]);
+    write_row(codes, 2, &[1, 0, 0]);
+    write_row(codes, 3, &[-1, 0, 0]);
     show(codes, 3, 1);
-    put(codes, 2, &[4, 0, 0]);
-    put(codes, 3, &[2, 0, 0]);
-    put(codes, 4, &[3, 5, 0]);
+    write_row(codes, 2, &[4, 0, 0]);
+    write_row(codes, 3, &[2, 0, 0]);
+    write_row(codes, 4, &[3, 5, 0]);
     show(codes, 4, 2);
-    put(codes, 2, &[0, 0, 0]);
-    put(codes, 4, &[2, 0, 0]);
+    write_row(codes, 2, &[0, 0, 0]);
+    write_row(codes, 4, &[2, 0, 0]);
     show(codes, 4, 3);
 }
 
 // Both ends of the range: one character, and 128 of them, the largest difference.
 fn ends(codes: &mut [i32; 16128]) {
-    put(codes, 1, &[-999i32; 128]);
-    put(codes, 2, &[999i32; 128]);
-    put(codes, 3, &[0i32; 128]);
+    write_row(codes, 1, &[-999i32; 128]);
+    write_row(codes, 2, &[999i32; 128]);
+    write_row(codes, 3, &[0i32; 128]);
     show(codes, 3, 1);
     show(codes, 3, 128);
-    put(codes, 3, &[-999i32; 128]);
+    write_row(codes, 3, &[-999i32; 128]);
     show(codes, 3, 128);
 }
 
@@ -126,16 +114,16 @@ fn refusals(codes: &mut [i32; 16128]) {
     show(codes, 65, 3);
     show(codes, 3, 0);
     show(codes, 3, 129);
-    put(codes, 3, &[0, 0, 1000, -1000]);
+    write_row(codes, 3, &[0, 0, 1000, -1000]);
     show(codes, 3, 3);
     show(codes, 65, 3);
 }
 
 // A code out of range behind the last character, and in the row behind the last taxon: neither is read.
 fn unread(codes: &mut [i32; 16128]) {
-    put(codes, 4, &[-1000i32; 128]);
+    write_row(codes, 4, &[-1000i32; 128]);
     show(codes, 3, 2);
-    put(codes, 3, &[0, 0, 0, -1000]);
+    write_row(codes, 3, &[0, 0, 0, -1000]);
     show(codes, 3, 3);
     show(codes, 3, 4);
     show(codes, 4, 2);
