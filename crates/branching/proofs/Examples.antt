@@ -71,6 +71,21 @@ beyond : growing (0 ∷ 0 ∷ 1 ∷ 0 ∷ 0 ∷ 0 ∷ 0 ∷ 1 ∷ []) ≡ false
 unfolding growing
 beyond = refl
 
+-- wrong: place 0, that of no node, holds a number
+place-zero : growing (1 ∷ 0 ∷ 1 ∷ 0 ∷ 0 ∷ 0 ∷ 0 ∷ 0 ∷ []) ≡ false
+unfolding growing
+place-zero = refl
+
+-- wrong: a node is its own ancestor
+own-ancestor : growing (0 ∷ 0 ∷ 1 ∷ 3 ∷ 0 ∷ 0 ∷ 0 ∷ 0 ∷ []) ≡ false
+unfolding growing
+own-ancestor = refl
+
+-- wrong: an ancestor is no node
+far-ancestor : growing (0 ∷ 0 ∷ 1000000000000000000 ∷ 0 ∷ 1 ∷ 0 ∷ 0 ∷ 0 ∷ []) ≡ false
+unfolding growing
+far-ancestor = refl
+
 -- a branch record whose length is not read
 branch : ℕ → ℕ → Branch
 branch v a = record { node = v; ancestor = a; length = 0 }
