@@ -47,7 +47,7 @@ unfolding flatMap matrix-Shape.row matrix-Shape.inRange matrix-Shape.lastNode li
     matrix-file-Decimal.numberForm matrix-file-Decimal.numberFrom matrix-file-Decimal.numberOf matrix-file-Decimal.codeForm
     matrix-file-Decimal.codeOf matrix-file-Job.inName matrix-file-Job.nameForm matrix-file-Job.differsFromAll matrix-file-Job.allDiffer
     matrix-file-Job.hasCodes matrix-file-Job.firstText matrix-file-Job.rowText matrix-file-Job.ended matrix-file-Job.fileOf
-    matrix-file-Job.padded matrix-file-Job.paddedNames matrix-file-Job.namesWritten matrix-file-Reading.rowLine
+    matrix-file-Reading.rowLine
     matrix-file-Reading.linesOf matrix-file-Reading.fieldsOf matrix-file-Reading.firstFields matrix-file-Reading.taxaIn
     matrix-file-Reading.charactersIn matrix-file-Reading.nameIn matrix-file-Reading.codesIn matrix-file-Reading.rowsOn
     matrix-file-Reading.jobIn matrix-file-Reading.firstForm matrix-file-Reading.firstLineForm matrix-file-Reading.askCodes

@@ -14,13 +14,15 @@ use Rattle.matrix.specs.declared.refusal.Refusal.the-variants.{ListSize}
 use Rattle.matrix_file.specs.declared.answer.Read.the-variants.{Refused}
 use Rattle.matrix_file.specs.Bytes.{isDigit, isLetter, partsAt, joinedBy}
 use Rattle.matrix_file.specs.Decimal.{digitsIn, digitsOf, decimal, noLeadingZero, numberForm, numberFrom, numberOf, codeForm, codeOf}
-use Rattle.matrix_file.specs.Job.{Job, inName, nameForm, differsFromAll, firstText, rowText, ended, fileOf, padded}
+use Rattle.matrix_file.specs.Job.{Job, inName, nameForm, differsFromAll, firstText, rowText, ended, fileOf}
 use Rattle.matrix_file.specs.Reading.{rowLine, linesOf, fieldsOf, firstFields, taxaIn, charactersIn, nameIn, codesIn, rowsOn, jobIn}
 use Rattle.matrix_file.specs.Reading.{firstForm, firstLineForm, askCodes, askRow, nothingMore, askRows, askFile, ReadAnswer, accepted}
 use Rattle.matrix_file.specs.Reading.{refused, readAnswer}
 use Rattle.matrix_file.specs.Report.{fullSize, readReport}
 use Rattle.matrix_file.specs.Text.{bytes}
-use Rattle.matrix_file.specs.Written.{overFront, matrixWritten}
+use Rattle.matrix_file.specs.Written.{padded, matrixWritten}
+use Rattle.lists.specs.Over.{over, stripes}
+use Rattle.lists.specs.Filled.{filled}
 
 -- what an answer gives back: the job of an accepted file, or the refusal's number and line
 data Shown : Type 0 where
@@ -131,13 +133,13 @@ long-number = refl
 
 -- a name as it stands in the lent list
 padded-name : padded (97 ∷ 98 ∷ []) ≡ 97 ∷ 98 ∷ replicate 14 0
-unfolding padded
+unfolding filled
 padded-name = refl
 
 -- rows written into a matrix: each over the front of its 128 codes, and all else as before
 two-rows : matrixWritten ((pos 1 ∷ pos 2 ∷ []) ∷ (pos 3 ∷ []) ∷ []) (replicate 131 (pos 9))
     ≡ pos 1 ∷ pos 2 ∷ replicate 126 (pos 9) ++ pos 3 ∷ replicate 2 (pos 9)
-unfolding matrixWritten overFront
+unfolding over stripes
 two-rows = refl
 
 -- a read into a list that has not its full size is 12, with line 0

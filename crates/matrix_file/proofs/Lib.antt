@@ -20,7 +20,6 @@ pub mod RowsWalk
 pub mod FileWalk
 pub mod AcceptedRows
 pub mod LinesWalk
-pub mod Overwriting
 pub mod WrittenLines
 pub mod ReadLists
 pub mod Examples

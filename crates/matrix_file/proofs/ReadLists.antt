@@ -1,208 +1,151 @@
--- What the lent lists hold after an accepted read: the rows and names of the job, and every other code and byte as before. Such a matrix
--- passes
--- the questions that are put to a lent one.
+-- What the lent lists hold once a job has been written into them: its rows and its names, and every other code and byte as before. Such a
+-- matrix passes the questions that are put to a lent one.
 use mathlib.Core.Path.{_≡_, refl, sym, ap, ap₂, _∙_}
-use mathlib.Core.List.{List, [], _∷_, _++_, append-assoc}
+use mathlib.Core.List.{List, [], _∷_, map}
 use mathlib.Core.Bool.{Bool, true, false}
 use Prim.Native.Nat.{ℕ, zero, suc, _+_, _-_, _*_, _≤_, _<_}
 use native.Mathlib.Omega.{arith}
-use borrow.Author.Tests.{leb-true, le-leb, eqb-true}
-use lib.Dec.{eqb}
-use lib.IntN.{ℤ}
-use lib.ListN.{length, getD, take, drop, length-take, length-drop, List·getD-append}
-use lib.Seq.{take-at, drop-at, take-append-seam, drop-append-add, getD-append-add, getD-drop, getD-take}
-use Rattle.lists.specs.Tests.{every}
+use borrow.Author.Tests.{eqb-true, ltb-true, ltb-false}
+use lib.Dec.{eqb, ltb}
+use lib.IntN.{ℤ, pos}
+use lib.ListN.{length, getD, take, drop, length-map, List·getD-eq-default}
+use Rattle.lists.proofs.Both.{and-left, and-right}
+use Rattle.lists.proofs.Every.{every-at}
+use Rattle.lists.proofs.Filled.{length-filled}
+use Rattle.lists.proofs.Stripes.{Narrow, length-stripes, stripes-item, stripes-else}
 use Rattle.matrix.specs.declared.refusal.Refusal.the-variants.{ListSize}
 use Rattle.matrix.specs.Shape.{columns, matrixSize, row}
 use Rattle.matrix.specs.Questions.{allInRange, LentMatrix, oneTo, withinLimits}
 use Rattle.matrix_file.specs.declared.answer.Read.{Read}
 use Rattle.matrix_file.specs.declared.answer.Read.the-variants.{Accepted, Refused}
-use Rattle.matrix_file.specs.Job.{JobWithinLimits, hasCodes, nameForm, nameSize, padded, paddedNames, namesWritten}
+use Rattle.matrix_file.specs.Job.{Job, JobWithinLimits, hasCodes, nameForm}
 use Rattle.matrix_file.specs.Reading.{readAnswer, jobIn}
 use Rattle.matrix_file.specs.Report.{reported, fullSize, readReport, afterRead, ReadDone}
-use Rattle.matrix_file.specs.Written.{overFront, matrixWritten}
-use Rattle.lists.proofs.Both.{and-left, and-right}
-use Rattle.lists.proofs.Every.{every-head, every-tail, every-at, every-weaker}
+use Rattle.matrix_file.specs.Written.{nameSize, namesSize, padded, matrixWritten, namesWritten}
 use Rattle.matrix.proofs.Passing.{oneTo-true}
 use Rattle.matrix_file.proofs.FileLength.{name-length}
 use Rattle.matrix_file.proofs.FileOfRead.{file-of-read}
 use Rattle.matrix_file.proofs.AcceptedRows.{read-accepted, accepted-numbers}
-use Rattle.matrix_file.proofs.Overwriting.{fitsRow, length-over, length-rows, fitsName, length-padded, padded-length}
 
--- the first row of a matrix, with codes written over its front, keeps its length
-front-length : (codes old : List ℤ) → length codes ≤ columns → columns ≤ length old → length (overFront codes (take columns old)) ≡ columns
-front-length codes old narrow wide =
-    length-over codes (take columns old) (omega (arith, length-take columns old)) ∙ omega (arith, length-take columns old)
+-- items of which none is too wide, by their places
+items-narrow : {A : Type 0} (width : ℕ) (items : List (List A)) → ((k : ℕ) → k < length items → length (getD items k []) ≤ width)
+    → Narrow width items
+items-narrow width items narrow k = by (ltb k (length items)) refl
+  where
+    by : (t : Bool) → ltb k (length items) ≡ t → length (getD items k []) ≤ width
+    by true e = narrow k (ltb-true k (length items) e)
+    by false e =
+        let past : length items ≤ k = ltb-false k (length items) e in
+        rw (List·getD-eq-default items [] past) (omega arith)
 
--- rows that are written into a matrix with room for them: row k, counted from 0, then begins with its codes
-pub written-row : (rows : List (List ℤ)) (old : List ℤ) → every fitsRow rows ≡ true → length rows * columns ≤ length old
-    → (k : ℕ) → k < length rows → take (length (getD rows k [])) (drop (k * columns) (matrixWritten rows old)) ≡ getD rows k []
-unfolding matrixWritten overFront
-written-row [] old e room k h = absurd (omega arith)
-written-row (codes ∷ rows) old e room zero h =
-    ap (take (length codes)) (append-assoc codes (drop (length codes) (take columns old)) (matrixWritten rows (drop columns old)))
-    ∙ take-append-seam codes (drop (length codes) (take columns old) ++ matrixWritten rows (drop columns old))
-written-row (codes ∷ rows) old e room (suc k) h =
-    let front : List ℤ = overFront codes (take columns old) in
-    let behind : List ℤ = matrixWritten rows (drop columns old) in
-    let size : length front ≡ columns =
-    front-length codes old (leb-true (length codes) columns (every-head fitsRow codes rows e)) (omega arith) in
-    let place : suc k * columns ≡ length front + k * columns = omega arith in
-    ap (λ p. take (length (getD rows k [])) (drop p (front ++ behind))) place
-    ∙ ap (take (length (getD rows k []))) (drop-append-add front behind (k * columns))
-    ∙ written-row rows (drop columns old) (every-tail fitsRow codes rows e) (omega (arith, length-drop columns old)) k (omega arith)
+-- an item of a list, as a function gives it
+map-at : {A B : Type 0} (f : A → B) (xs : List A) (none : A) (other : B) (k : ℕ) → k < length xs → getD (map f xs) k other ≡ f (getD xs k none)
+map-at f [] none other k h = absurd (omega arith)
+map-at f (x ∷ xs) none other zero h = refl
+map-at f (x ∷ xs) none other (suc k) h = map-at f xs none other k (omega arith)
 
--- every other code is as before: those behind the codes of a row, and all codes of a row for which none are written
-pub written-else : (rows : List (List ℤ)) (old : List ℤ) (none : ℤ) → every fitsRow rows ≡ true → length rows * columns ≤ length old
-    → (k j : ℕ) → j < columns → length (getD rows k []) ≤ j
-    → getD (matrixWritten rows old) (k * columns + j) none ≡ getD old (k * columns + j) none
-unfolding matrixWritten overFront
-written-else [] old none e room k j narrow h = refl
-written-else (codes ∷ rows) old none e room zero j narrow h =
-    let front : List ℤ = overFront codes (take columns old) in
-    let behind : List ℤ = matrixWritten rows (drop columns old) in
-    let size : length front ≡ columns =
-    front-length codes old (leb-true (length codes) columns (every-head fitsRow codes rows e)) (omega arith) in
-    let rest : List ℤ = drop (length codes) (take columns old) in
-    let place : zero * columns + j ≡ j = omega arith in
-    let split : j ≡ length codes + (j - length codes) = omega arith in
-    ap (λ i. getD (front ++ behind) i none) place
-    ∙ List·getD-append front behind none j (omega arith)
-    ∙ ap (λ i. getD (codes ++ rest) i none) split
-    ∙ getD-append-add codes rest (j - length codes) none
-    ∙ getD-drop (length codes) (take columns old) (j - length codes) none
-    ∙ ap (λ i. getD (take columns old) i none) (sym split)
-    ∙ getD-take columns old j none narrow
-    ∙ ap (λ i. getD old i none) (sym place)
-written-else (codes ∷ rows) old none e room (suc k) j narrow h =
-    let front : List ℤ = overFront codes (take columns old) in
-    let behind : List ℤ = matrixWritten rows (drop columns old) in
-    let size : length front ≡ columns =
-    front-length codes old (leb-true (length codes) columns (every-head fitsRow codes rows e)) (omega arith) in
-    let place : suc k * columns + j ≡ length front + (k * columns + j) = omega arith in
-    let before : columns + (k * columns + j) ≡ suc k * columns + j = omega arith in
-    ap (λ i. getD (front ++ behind) i none) place
-    ∙ getD-append-add front behind (k * columns + j) none
-    ∙ written-else rows (drop columns old) none (every-tail fitsRow codes rows e) (omega (arith, length-drop columns old)) k j narrow h
-    ∙ getD-drop columns old (k * columns + j) none
-    ∙ ap (λ i. getD old i none) before
-
--- names one after another: name k, counted from 0, stands padded at its place
-padded-at : (names : List (List ℕ)) (behind : List ℕ) → every fitsName names ≡ true → (k : ℕ) → k < length names
-    → take nameSize (drop (k * nameSize) (paddedNames names ++ behind)) ≡ padded (getD names k [])
-unfolding paddedNames
-padded-at [] behind e k h = absurd (omega arith)
-padded-at (name ∷ names) behind e zero h =
-    let size = length-padded name (leb-true (length name) nameSize (every-head fitsName name names e)) in
-    ap (take nameSize) (append-assoc (padded name) (paddedNames names) behind)
-    ∙ take-at (padded name) (paddedNames names ++ behind) nameSize size
-padded-at (name ∷ names) behind e (suc k) h =
-    let size = length-padded name (leb-true (length name) nameSize (every-head fitsName name names e)) in
-    let place : suc k * nameSize ≡ length (padded name) + k * nameSize = omega arith in
-    ap₂ (λ p xs. take nameSize (drop p xs)) place (append-assoc (padded name) (paddedNames names) behind)
-    ∙ ap (take nameSize) (drop-append-add (padded name) (paddedNames names ++ behind) (k * nameSize))
-    ∙ padded-at names behind (every-tail fitsName name names e) k (omega arith)
-
--- names that are written into a lent list: name k stands padded at its place
-pub written-name : (names : List (List ℕ)) (lent : List ℕ) → every fitsName names ≡ true → (k : ℕ) → k < length names
-    → take nameSize (drop (k * nameSize) (namesWritten names lent)) ≡ padded (getD names k [])
-unfolding namesWritten
-written-name names lent e k h = padded-at names (drop (length names * nameSize) lent) e k h
-
--- behind them the list is as before
-pub written-behind : (names : List (List ℕ)) (lent : List ℕ) → every fitsName names ≡ true
-    → drop (length names * nameSize) (namesWritten names lent) ≡ drop (length names * nameSize) lent
-unfolding namesWritten
-written-behind names lent e =
-    drop-at (paddedNames names) (drop (length names * nameSize) lent) (length names * nameSize) (padded-length names e)
-
--- a file that is accepted with n and m, read into a matrix of full size
-module _ (file : List ℕ) (n m : ℕ) (e : reported (readAnswer file) ≡ Accepted n m) (old : List ℤ) (full : length old ≡ matrixSize) where
-  abbrev rows : List (List ℤ)
-  rows = jobIn file .rows
-
-  -- the job that it says is within the limits, and has n rows of m codes
-  within : JobWithinLimits (jobIn file)
-  within = file-of-read file (jobIn file) (read-accepted file n m e) .0
-
-  taxa : jobIn file .n ≡ n
-  unfolding jobIn
-  taxa = accepted-numbers file n m e .0
-
-  characters : jobIn file .m ≡ m
-  unfolding jobIn
-  characters = accepted-numbers file n m e .1
-
-  limits : (1 ≤ n) × (n ≤ 64) × (1 ≤ m) × (m ≤ 128)
+-- a job within the limits
+module _ (job : Job) (within : JobWithinLimits job) where
+  limits : (1 ≤ job .n) × (job .n ≤ 64) × (1 ≤ job .m) × (job .m ≤ 128)
   unfolding withinLimits
   limits =
-      let both = within .limits in
-      let low = oneTo-true 64 (jobIn file .n) (and-left (oneTo 64 (jobIn file .n)) (oneTo 128 (jobIn file .m)) both) in
-      let high = oneTo-true 128 (jobIn file .m) (and-right (oneTo 64 (jobIn file .n)) (oneTo 128 (jobIn file .m)) both) in
-      let same = taxa in
-      let same-m = characters in
-      (omega arith, omega arith, omega arith, omega arith)
+      let taxa = oneTo-true 64 (job .n) (and-left (oneTo 64 (job .n)) (oneTo 128 (job .m)) (within .limits)) in
+      let characters = oneTo-true 128 (job .m) (and-right (oneTo 64 (job .n)) (oneTo 128 (job .m)) (within .limits)) in
+      (taxa .0, taxa .1, characters .0, characters .1)
 
-  count : length rows ≡ n
-  count = within .row-count ∙ taxa
-
-  row-count : (k : ℕ) → k < n → length (getD rows k []) ≡ m
+  -- each row has m codes
+  codes-count : (k : ℕ) → k < length (job .rows) → length (getD (job .rows) k []) ≡ job .m
   unfolding hasCodes
-  row-count k h =
-      let place : k < length rows = omega (arith, count) in
-      eqb-true (length (getD rows k [])) (jobIn file .m) (every-at (hasCodes (jobIn file .m)) rows (within .rows-full) k [] place)
-      ∙ characters
+  codes-count k h = eqb-true (length (getD (job .rows) k [])) (job .m) (every-at (hasCodes (job .m)) (job .rows) (within .rows-full) k [] h)
 
-  fit : every fitsRow rows ≡ true
-  unfolding hasCodes
-  fit =
-      every-weaker (hasCodes (jobIn file .m)) fitsRow
-      (λ codes has.
-      le-leb (length codes) columns
-      (omega (arith, eqb-true (length codes) (jobIn file .m) has, characters, limits .3)))
-      rows (within .rows-full)
+  -- no row is wider than its place
+  rows-narrow : Narrow columns (job .rows)
+  rows-narrow = items-narrow columns (job .rows) (λ k h. omega (arith, codes-count k h, limits .3))
 
-  room : length rows * columns ≤ length old
-  room = omega (arith, count, limits .1)
+  -- each name, padded, has 16 bytes
+  name-padded : (k : ℕ) → k < length (job .names) → length (getD (map padded (job .names)) k []) ≡ nameSize
+  name-padded k h =
+      ap length (map-at padded (job .names) [] [] k h)
+      ∙ length-filled 0 nameSize (getD (job .names) k [])
+      (name-length (getD (job .names) k []) (every-at nameForm (job .names) (within .names-formed) k [] h))
 
-  -- the job has n rows
-  pub read-count : length rows ≡ n
-  read-count = count
+  names-narrow : Narrow nameSize (map padded (job .names))
+  names-narrow =
+      items-narrow nameSize (map padded (job .names))
+      (λ k h. omega (arith, name-padded k (omega (arith, length-map (job .names) padded))))
 
-  -- the row of taxon v is that of the job
-  pub read-row : (v : ℕ) → 1 ≤ v → v ≤ n → row (matrixWritten rows old) m v ≡ getD rows (v - 1) []
-  unfolding row
-  read-row v low high =
-      let k : ℕ = v - 1 in
-      let small : k < n = omega arith in
-      ap (λ width. take width (drop (k * columns) (matrixWritten rows old))) (sym (row-count k small))
-      ∙ written-row rows old fit room k (omega (arith, count))
+  -- written into a matrix of full size
+  module _ (old : List ℤ) (full : length old ≡ matrixSize) where
+    -- the row of taxon v is that of the job
+    pub job-row : (v : ℕ) → 1 ≤ v → v ≤ job .n → row (matrixWritten (job .rows) old) (job .m) v ≡ getD (job .rows) (v - 1) []
+    unfolding row
+    job-row v low high =
+        let k : ℕ = v - 1 in
+        let size = codes-count k (omega (arith, within .row-count)) in
+        let place : k * columns ≡ 0 + k * columns = omega arith in
+        ap₂ (λ width start. take width (drop start (matrixWritten (job .rows) old))) (sym size) place
+        ∙ stripes-item columns (pos 0) 0 (job .rows) old rows-narrow k (omega (arith, limits .1, limits .3))
 
-  -- the name of taxon v is that of the job, padded
-  pub read-name : (lent : List ℕ) (v : ℕ) → 1 ≤ v → v ≤ n
-      → take nameSize (drop ((v - 1) * nameSize) (namesWritten (jobIn file .names) lent)) ≡ padded (getD (jobIn file .names) (v - 1) [])
-  read-name lent v low high =
-      let short : every fitsName (jobIn file .names) ≡ true =
-      every-weaker nameForm fitsName (λ name form. le-leb (length name) nameSize (name-length name form)) (jobIn file .names)
-      (within .names-formed) in
-      written-name (jobIn file .names) lent short (v - 1) (omega (arith, within .name-count, taxa))
+    -- every other code is as before: those behind the codes of a row, and all of a row behind the taxa
+    pub job-else : (none : ℤ) (k j : ℕ) → j < columns → (k < job .n → job .m ≤ j)
+        → getD (matrixWritten (job .rows) old) (k * columns + j) none ≡ getD old (k * columns + j) none
+    job-else none k j low behind =
+        let place : 0 + k * columns + j ≡ k * columns + j = omega arith in
+        ap (λ i. getD (matrixWritten (job .rows) old) i none) (sym place)
+        ∙ stripes-else columns none 0 (job .rows) old rows-narrow k j (beyond (ltb k (job .n)) refl) low
+        ∙ ap (λ i. getD old i none) place
+      where
+        beyond : (t : Bool) → ltb k (job .n) ≡ t → length (getD (job .rows) k []) ≤ j
+        beyond true e =
+            let small = ltb-true k (job .n) e in
+            omega (arith, codes-count k (omega (arith, within .row-count)), behind small)
+        beyond false e =
+            let past : length (job .rows) ≤ k = omega (arith, within .row-count, ltb-false k (job .n) e) in
+            rw (List·getD-eq-default (job .rows) [] past) (omega arith)
 
-  -- the matrix passes the questions that are put to a lent one
-  pub read-lent : LentMatrix (matrixWritten rows old) n m
-  read-lent =
-      record {
-        full = length-rows rows old fit room ∙ full;
-        taxon = limits .0;
-        taxa = limits .1;
-        character = limits .2;
-        characters = limits .3;
-        known =
-            λ v low high.
-            let place : v - 1 < length rows = omega (arith, count) in
-            ap allInRange (read-row v low high) ∙ every-at allInRange rows (within .codes-in-range) (v - 1) [] place;
-      }
+    -- the matrix passes the questions that are put to a lent one
+    pub job-lent : LentMatrix (matrixWritten (job .rows) old) (job .n) (job .m)
+    job-lent =
+        record {
+          full = length-stripes columns 0 (job .rows) old ∙ full;
+          taxon = limits .0;
+          taxa = limits .1;
+          character = limits .2;
+          characters = limits .3;
+          known =
+              λ v low high.
+              let place : v - 1 < length (job .rows) = omega (arith, within .row-count) in
+              ap allInRange (job-row v low high) ∙ every-at allInRange (job .rows) (within .codes-in-range) (v - 1) [] place;
+        }
 
--- what an accepted read tells: its file is accepted with n and m, the matrix had its full size, and what the lists then hold
+  -- written into a list of names of full size
+  module _ (old : List ℕ) (full : length old ≡ namesSize) where
+    -- the name of taxon v is that of the job, padded
+    pub job-name : (v : ℕ) → 1 ≤ v → v ≤ job .n
+        → take nameSize (drop ((v - 1) * nameSize) (namesWritten (job .names) old)) ≡ padded (getD (job .names) (v - 1) [])
+    job-name v low high =
+        let k : ℕ = v - 1 in
+        let inside : k < length (job .names) = omega (arith, within .name-count) in
+        let size = name-padded k inside in
+        let place : k * nameSize ≡ 0 + k * nameSize = omega arith in
+        ap₂ (λ width start. take width (drop start (namesWritten (job .names) old))) (sym size) place
+        ∙ stripes-item nameSize 0 0 (map padded (job .names)) old names-narrow k (omega (arith, limits .1))
+        ∙ map-at padded (job .names) [] [] k inside
+
+    -- behind the names all is as before
+    pub names-else : (k j : ℕ) → j < nameSize → job .n ≤ k
+        → getD (namesWritten (job .names) old) (k * nameSize + j) 0 ≡ getD old (k * nameSize + j) 0
+    names-else k j low behind =
+        let place : 0 + k * nameSize + j ≡ k * nameSize + j = omega arith in
+        let past : length (map padded (job .names)) ≤ k = omega (arith, length-map (job .names) padded, within .name-count) in
+        let none : length (getD (map padded (job .names)) k []) ≤ j =
+        rw (List·getD-eq-default (map padded (job .names)) [] past) (omega arith) in
+        ap (λ i. getD (namesWritten (job .names) old) i 0) (sym place)
+        ∙ stripes-else nameSize 0 0 (map padded (job .names)) old names-narrow k j none low
+        ∙ ap (λ i. getD old i 0) place
+
+-- what an accepted read tells: the file says a job within the limits, of n taxa and m characters; the matrix had its full size; and what
+-- the lists then hold
 pub record Accepting
     (file : List ℕ)
     (oldMatrix : List ℤ)
@@ -210,20 +153,25 @@ pub record Accepting
     (newMatrix : List ℤ)
     (newNames : List ℕ)
     (n m : ℕ) : Type 0 where
-  pub said : reported (readAnswer file) ≡ Accepted n m
+  pub within : JobWithinLimits (jobIn file)
+  pub taxa : jobIn file .n ≡ n
+  pub characters : jobIn file .m ≡ m
   pub full : length oldMatrix ≡ matrixSize
   pub matrix : newMatrix ≡ matrixWritten (jobIn file .rows) oldMatrix
   pub names : newNames ≡ namesWritten (jobIn file .names) oldNames
 
 pub read-accepting : (file : List ℕ) (oldMatrix : List ℤ) (oldNames : List ℕ) (newMatrix : List ℤ) (newNames : List ℕ) (r : Read) (n m : ℕ)
     → ReadDone file oldMatrix oldNames newMatrix newNames r → r ≡ Accepted n m → Accepting file oldMatrix oldNames newMatrix newNames n m
-unfolding readReport fullSize
+unfolding readReport fullSize jobIn
 read-accepting file oldMatrix oldNames newMatrix newNames r n m done e = by (fullSize oldMatrix oldNames) refl
   where
     by : (t : Bool) → fullSize oldMatrix oldNames ≡ t → Accepting file oldMatrix oldNames newMatrix newNames n m
     by true size =
+        let said : reported (readAnswer file) ≡ Accepted n m = sym (done .answers ∙ rw (size, readReport)) ∙ e in
         record {
-          said = sym (done .answers ∙ rw (size, readReport)) ∙ e;
+          within = file-of-read file (jobIn file) (read-accepted file n m said) .0;
+          taxa = accepted-numbers file n m said .0;
+          characters = accepted-numbers file n m said .1;
           full = eqb-true (length oldMatrix) matrixSize (and-left (eqb (length oldMatrix) matrixSize) _ size);
           matrix = done .matrix ∙ ap (λ x. afterRead x (matrixWritten (jobIn file .rows) oldMatrix) oldMatrix) e;
           names = done .names ∙ ap (λ x. afterRead x (namesWritten (jobIn file .names) oldNames) oldNames) e;

@@ -1,43 +1,38 @@
--- One line more of well-formed rows is written into the matrix and the names.
+-- A walk over well-formed rows that writes an item for each line, each at a fixed width behind the one before: the codes of a row, and
+-- a name. One law for both.
 use mathlib.Core.Path.{_≡_, refl, sym, ap, ap₂, _∙_}
-use mathlib.Core.List.{List, [], _∷_, _++_, map}
-use mathlib.Core.Bool.{Bool, true}
-use Prim.Native.Nat.{ℕ, zero, suc, _+_, _-_, _*_, _≤_, _<_}
+use mathlib.Core.List.{List, map}
+use mathlib.Core.Bool.{true}
+use Prim.Native.Nat.{ℕ, _+_, _-_, _*_, _≤_, _<_}
+use native.Mathlib.Nat.{zero-add, mul-le-mul-right}
 use native.Mathlib.Omega.{arith}
-use borrow.Author.Tests.{le-leb}
 use borrow.Rule.Slice.PartMut.{putMid}
-use lib.IntN.{ℤ}
-use lib.ListN.{length, take, drop, length-take, length-drop, length-map}
+use lib.ListN.{length, getD, set, take, drop, length-take, length-drop, length-map}
 use lib.Seq.{take-all}
+use Rattle.lists.specs.Over.{over, stripes}
 use Rattle.lists.specs.Tests.{every}
+use Rattle.lists.proofs.Over.{over-lent, over-more}
+use Rattle.lists.proofs.Stripes.{length-stripes, stripes-snoc}
 use Rattle.matrix.specs.Shape.{columns}
 use Rattle.matrix_file.specs.Bytes.{tab, lineFeed, firstPart, behindPart}
 use Rattle.matrix_file.specs.Decimal.{codeForm, codeOf}
-use Rattle.matrix_file.specs.Job.{nameSize, padded, namesWritten}
 use Rattle.matrix_file.specs.Reading.{linesOf, fieldsOf, nameIn, codesIn}
-use Rattle.matrix_file.specs.Walk.{rowForm, RowsFormed}
-use Rattle.matrix_file.specs.Written.{overFront, matrixWritten}
-use Rattle.lists.proofs.Both.{and-left, and-right, and-both}
-use Rattle.lists.proofs.Every.{every-weaker}
+use Rattle.matrix_file.specs.Walk.{RowsFormed}
+use Rattle.matrix_file.specs.Written.{nameSize}
 use Rattle.matrix_file.proofs.FileLength.{name-length}
-use Rattle.matrix_file.proofs.FirstPart.{part-to-end}
 use Rattle.matrix_file.proofs.Fields.{name-first, codes-behind}
-use Rattle.matrix_file.proofs.LinesWalk.{RowFormed, row-formed, LinesLeft, line-formed, line-more}
-use Rattle.matrix_file.proofs.Overwriting.{put-rest, fitsRow, rows-more, fitsName, names-more}
+use Rattle.matrix_file.proofs.LinesWalk.{RowFormed, LinesLeft, lines-start, line-more, lines-next}
 
--- what every item of a list passes, the items of its front pass
-every-take : {A : Type 0} (test : A → Bool) (k : ℕ) (xs : List A) → every test xs ≡ true → every test (take k xs) ≡ true
-unfolding every
-every-take test zero xs e = refl
-every-take test (suc k) [] e = refl
-every-take test (suc k) (x ∷ xs) e = and-both (and-left (test x) _ e) (every-take test k xs (and-right (test x) _ e))
+-- a list that is written over from its front, element by element
+module _ {A : Type 0} where
+  -- the next element
+  pub over-next : (none : A) (xs old : List A) (i : ℕ) → i < length xs
+      → set (over 0 (take i xs) old) i (getD xs i none) ≡ over 0 (take (i + 1) xs) old
+  over-next none xs old i h = rw zero-add at (over-more none 0 xs old i h)
 
--- what every item of a list passes as it is said
-every-map : {A B : Type 0} (test : B → Bool) (says : A → B) (xs : List A) → every (λ x. test (says x)) xs ≡ true
-    → every test (map says xs) ≡ true
-unfolding every
-every-map test says [] e = refl
-every-map test says (x ∷ xs) e = and-both (and-left (test (says x)) _ e) (every-map test says xs (and-right (test (says x)) _ e))
+  -- all of them
+  pub over-all : (xs old : List A) (i : ℕ) → length xs ≤ i → over 0 (take i xs) old ≡ over 0 xs old
+  over-all xs old i h = ap (λ front. over 0 front old) (take-all i xs h)
 
 -- the codes of a line of the right form
 module _ (line codes : List ℕ) (formed : RowFormed line) (c : codes ≡ behindPart tab line) where
@@ -54,93 +49,82 @@ module _ (line codes : List ℕ) (formed : RowFormed line) (c : codes ≡ behind
   unfolding codesIn
   codes-said = ap (map codeOf) fields
 
--- a line of the right form says at most 128 codes and a name of at most 16 bytes
-line-codes : (line : List ℕ) → rowForm line ≡ true → fitsRow (codesIn line) ≡ true
-line-codes line e =
-    le-leb (length (codesIn line)) columns
-    (omega (
-      arith,
-      ap length (codes-said line (behindPart tab line) (row-formed line e) refl),
-      length-map (fieldsOf (behindPart tab line)) codeOf,
-      codes-few line (behindPart tab line) (row-formed line e) refl,
-    ))
+-- the name of a line of the right form has at most 16 bytes
+module _ (line name : List ℕ) (e : name ≡ firstPart tab line) where
+  pub name-said : name ≡ nameIn line
+  name-said = e ∙ sym (name-first line)
 
-line-name : (line : List ℕ) → rowForm line ≡ true → fitsName (nameIn line) ≡ true
-line-name line e = le-leb (length (nameIn line)) nameSize (name-length (nameIn line) (row-formed line e .named))
+  pub name-short : RowFormed line → length name ≤ nameSize
+  name-short formed = omega (arith, ap length name-said, name-length (nameIn line) (formed .named))
 
--- the first lines of well-formed rows
-module _ (n : ℕ) (rows : List ℕ) (formed : RowsFormed n rows) (k : ℕ) where
-  pub rows-fit : every fitsRow (take k (map codesIn (take n (linesOf rows)))) ≡ true
-  rows-fit =
-      every-take fitsRow k (map codesIn (take n (linesOf rows)))
-      (every-map fitsRow codesIn (take n (linesOf rows))
-      (every-weaker rowForm (λ line. fitsRow (codesIn line)) line-codes (take n (linesOf rows)) (formed .formed)))
+-- the part of a list from a place on has as much room as is left behind the place
+pub part-room : {A : Type 0} (start size : ℕ) (xs : List A) → start + size ≤ length xs
+    → size ≤ length (take (length xs - start) (drop start xs))
+part-room start size xs h = omega (arith, length-take (length xs - start) (drop start xs), length-drop start xs)
 
-  pub names-fit : every fitsName (take k (map nameIn (take n (linesOf rows)))) ≡ true
-  names-fit =
-      every-take fitsName k (map nameIn (take n (linesOf rows)))
-      (every-map fitsName nameIn (take n (linesOf rows))
-      (every-weaker rowForm (λ line. fitsName (nameIn line)) line-name (take n (linesOf rows)) (formed .formed)))
+-- what a walk that writes an item for each line knows when it has passed `done` lines and stands at a place
+pub record ItemsWritten
+    {A : Type 0}
+    (width : ℕ)
+    (says : List ℕ → List A)
+    (rows : List ℕ)
+    (n : ℕ)
+    (old new : List A)
+    (at done : ℕ) : Type 0 where
+  pub walk : LinesLeft rows n at done
+  pub full : length new ≡ length old
+  pub written : new ≡ stripes width 0 (take done (map says (take n (linesOf rows)))) old
 
-  pub said-count : {A : Type 0} (says : List ℕ → A) → k ≤ n → length (take k (map says (take n (linesOf rows)))) ≡ k
-  said-count says h =
+module _ {A : Type 0} (width : ℕ) (says : List ℕ → List A) (rows : List ℕ) (n : ℕ) (old : List A) where
+  -- at the start
+  pub items-start : ItemsWritten width says rows n old old 0 0
+  unfolding stripes
+  items-start = record { walk = lines-start rows n; full = refl; written = refl }
+
+  -- the items passed are as many as the lines
+  items-count : RowsFormed n rows → (done : ℕ) → done ≤ n → length (take done (map says (take n (linesOf rows)))) ≡ done
+  items-count formed done h =
       omega (
         arith,
-        length-take k (map says (take n (linesOf rows))),
+        length-take done (map says (take n (linesOf rows))),
         length-map (take n (linesOf rows)) says,
         length-take n (linesOf rows),
         formed .count,
       )
 
--- what all lines say, where all have been passed
-pub all-said : {A : Type 0} (says : List ℕ → A) (rows : List ℕ) (n done : ℕ) → n ≤ done
-    → take done (map says (take n (linesOf rows))) ≡ map says (take n (linesOf rows))
-all-said says rows n done h =
-    let count : length (map says (take n (linesOf rows))) ≤ done =
-    omega (arith, length-map (take n (linesOf rows)) says, length-take n (linesOf rows)) in
-    take-all done (map says (take n (linesOf rows))) count
+  -- one line more: its item is written over what stands behind the items before it
+  pub items-next : (new last : List A) (at done : ℕ) (rest line : List ℕ) → RowsFormed n rows → n * width ≤ length old
+      → ItemsWritten width says rows n old new at done → done < n → rest ≡ drop at rows → line ≡ firstPart lineFeed rest
+      → (item : List A) → item ≡ says line → last ≡ over 0 item (take (length new - done * width) (drop (done * width) new))
+      → ItemsWritten width says rows n old (putMid (done * width) (length new - done * width) new last) (at + length line + 1) (done + 1)
+  items-next new last at done rest line formed room inv h r l item i e =
+      record {
+        walk = lines-next rows n at done rest line formed (inv .walk) h r l;
+        full = ap length one-more ∙ length-stripes width 0 (take (done + 1) (map says (take n (linesOf rows)))) old;
+        written = one-more;
+      }
+    where
+      before : List (List A)
+      before = take done (map says (take n (linesOf rows)))
 
--- one line of the walk
-module _ (rows : List ℕ) (n at done : ℕ) (rest line : List ℕ) (formed : RowsFormed n rows) (walk : LinesLeft rows n at done)
-    (h : done < n) (r : rest ≡ drop at rows) (l : line ≡ firstPart lineFeed rest) where
-  -- its codes are written over the front of its row
-  pub matrix-more : (old matrix last : List ℤ) (codes : List ℕ) → n * columns ≤ length old → length matrix ≡ length old
-      → matrix ≡ matrixWritten (take done (map codesIn (take n (linesOf rows)))) old → codes ≡ behindPart tab line
-      → last ≡ overFront (map codeOf (fieldsOf codes)) (take (length matrix - done * columns) (drop (done * columns) matrix))
-      → putMid (done * columns) (length matrix - done * columns) matrix last
-      ≡ matrixWritten (take (done + 1) (map codesIn (take n (linesOf rows)))) old
-  matrix-more old matrix last codes room full w c e =
-      let before : List (List ℤ) = take done (map codesIn (take n (linesOf rows))) in
-      let good : RowFormed line = line-formed rows n at done rest line formed walk h r l in
-      let count : length before ≡ done = said-count n rows formed done codesIn (omega arith) in
-      let narrow : length (codesIn line) ≤ columns =
-      omega (arith, ap length (codes-said line codes good c), length-map (fieldsOf codes) codeOf, codes-few line codes good c) in
-      put-rest (done * columns) matrix last (omega arith)
-      ∙ ap (λ part. take (done * columns) matrix ++ part)
-      (e ∙ ap₂ overFront (codes-said line codes good c) (part-to-end (done * columns) matrix))
-      ∙ ap (λ xs. take (done * columns) xs ++ overFront (codesIn line) (drop (done * columns) xs)) w
-      ∙ ap
-      (λ k. take (k * columns) (matrixWritten before old) ++ overFront (codesIn line) (drop (k * columns) (matrixWritten before old)))
-      (sym count)
-      ∙ sym (rows-more before (codesIn line) old (rows-fit n rows formed done) narrow (omega arith))
-      ∙ ap (λ xs. matrixWritten xs old) (sym (line-more rows n at done rest line formed walk h r l codesIn))
+      inside : done * width ≤ length new
+      inside = let few : done ≤ n = omega arith in omega (arith, inv .full, mul-le-mul-right width few)
 
-  -- its name is written behind the names before it
-  pub names-next : (old names last name : List ℕ) → n * nameSize ≤ length old → length names ≡ length old
-      → names ≡ namesWritten (take done (map nameIn (take n (linesOf rows)))) old → name ≡ firstPart tab line
-      → last ≡ overFront (padded name) (take (length names - done * nameSize) (drop (done * nameSize) names))
-      → putMid (done * nameSize) (length names - done * nameSize) names last
-      ≡ namesWritten (take (done + 1) (map nameIn (take n (linesOf rows)))) old
-  names-next old names last name room full w c e =
-      let before : List (List ℕ) = take done (map nameIn (take n (linesOf rows))) in
-      let good : RowFormed line = line-formed rows n at done rest line formed walk h r l in
-      let count : length before ≡ done = said-count n rows formed done nameIn (omega arith) in
-      put-rest (done * nameSize) names last (omega arith)
-      ∙ ap (λ part. take (done * nameSize) names ++ part)
-      (e ∙ ap₂ (λ x part. overFront (padded x) part) (c ∙ sym (name-first line)) (part-to-end (done * nameSize) names))
-      ∙ ap (λ xs. take (done * nameSize) xs ++ overFront (padded (nameIn line)) (drop (done * nameSize) xs)) w
-      ∙ ap
-      (λ k. take (k * nameSize) (namesWritten before old) ++ overFront (padded (nameIn line)) (drop (k * nameSize) (namesWritten before old)))
-      (sym count)
-      ∙ sym (names-more before (nameIn line) old (names-fit n rows formed done) (name-length (nameIn line) (good .named)))
-      ∙ ap (λ xs. namesWritten xs old) (sym (line-more rows n at done rest line formed walk h r l nameIn))
+      one-more : putMid (done * width) (length new - done * width) new last
+          ≡ stripes width 0 (take (done + 1) (map says (take n (linesOf rows)))) old
+      one-more =
+          ap (putMid (done * width) (length new - done * width) new) e
+          ∙ over-lent (done * width) item new inside
+          ∙ ap₂ (over (done * width)) i (inv .written)
+          ∙ ap (λ k. over (k * width) (says line) (stripes width 0 before old)) (sym (items-count formed done (omega arith)))
+          ∙ ap (λ k. over k (says line) (stripes width 0 before old)) (omega arith)
+          ∙ sym (stripes-snoc width 0 before (says line) old)
+          ∙ ap (λ items. stripes width 0 items old) (sym (line-more rows n at done rest line formed (inv .walk) h r l says))
+
+  -- all lines
+  pub items-all : (new : List A) (at done : ℕ) → ItemsWritten width says rows n old new at done → n ≤ done
+      → new ≡ stripes width 0 (map says (take n (linesOf rows))) old
+  items-all new at done inv h =
+      let count : length (map says (take n (linesOf rows))) ≤ done =
+      omega (arith, length-map (take n (linesOf rows)) says, length-take n (linesOf rows)) in
+      inv .written ∙ ap (λ items. stripes width 0 items old) (take-all done (map says (take n (linesOf rows))) count)

@@ -3,7 +3,7 @@ pub mod Bytes
 pub mod Decimal
 pub mod Job
 pub mod Reading
-pub mod Walk
 pub mod Written
+pub mod Walk
 pub mod Report
 pub mod Text

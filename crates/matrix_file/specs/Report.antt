@@ -13,9 +13,8 @@ use Rattle.matrix.specs.Outcomes.{Outcome, value}
 use Rattle.matrix.specs.declared.refusal.Refusal.the-variants.{ListSize}
 use Rattle.matrix_file.specs.declared.answer.Read.{Read}
 use Rattle.matrix_file.specs.declared.answer.Read.the-variants.{Accepted, Refused}
-use Rattle.matrix_file.specs.Job.{namesSize, namesWritten}
 use Rattle.matrix_file.specs.Reading.{FileAsked, filePassed, fileRefused, ReadAnswer, accepted, refused, readAnswer, jobIn}
-use Rattle.matrix_file.specs.Written.{matrixWritten}
+use Rattle.matrix_file.specs.Written.{namesSize, matrixWritten, namesWritten}
 
 -- n and m, if the questions pass; else the refusal and its line
 abbrev pub answered : ℕ → ℕ → FileAsked → Read

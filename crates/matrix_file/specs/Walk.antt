@@ -6,15 +6,27 @@ use Prim.Native.Nat.{ℕ, zero, suc, _<_}
 use lib.Dec.{leb}
 use lib.ListN.{length, getD, take, drop}
 use Rattle.lists.specs.Tests.{every}
-use Rattle.matrix_file.specs.Bytes.{tab, firstPart}
+use Rattle.matrix_file.specs.declared.bytes.Alphabet.{Alphabet}
+use Rattle.matrix_file.specs.declared.bytes.Alphabet.the-variants.{Digits, Name}
+use Rattle.matrix_file.specs.Bytes.{tab, isDigit, firstPart}
 use Rattle.matrix_file.specs.Decimal.{codeForm}
-use Rattle.matrix_file.specs.Job.{nameForm}
+use Rattle.matrix_file.specs.Job.{inName, nameForm}
 use Rattle.matrix_file.specs.Reading.{fieldsOf, nameIn, linesOf}
+use Rattle.matrix_file.specs.Written.{padded}
+
+-- a byte is one of an alphabet
+abbrev pub inAlphabet : Alphabet → ℕ → Bool
+inAlphabet Digits = isDigit
+inAlphabet Name = inName
 
 -- the names of the first `count` rows, the last one first; row i + 1 begins at place i of `starts`
 unfoldable pub namesPassed : List ℕ → List ℕ → ℕ → List (List ℕ)
 namesPassed rows starts zero = []
 namesPassed rows starts (suc count) = firstPart tab (drop (getD starts count 0) rows) ∷ namesPassed rows starts count
+
+-- the name of a row's line, as it is written
+abbrev pub paddedIn : List ℕ → List ℕ
+paddedIn line = padded (nameIn line)
 
 -- a row's line: a name and 1 to 128 codes, all of the right form
 unfoldable pub rowForm : List ℕ → Bool

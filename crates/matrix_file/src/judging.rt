@@ -2,11 +2,12 @@
 use crate::NAME_SIZE;
 use crate::answer::Read;
 use crate::answer::refused;
+use crate::bytes::Alphabet;
 use crate::bytes::LINE_FEED;
 use crate::bytes::TAB;
+use crate::bytes::all_in;
 use crate::bytes::behind_part;
 use crate::bytes::first_part;
-use crate::bytes::in_name;
 use crate::bytes::is_letter;
 use crate::bytes::rest_from;
 use crate::bytes::same_text;
@@ -26,8 +27,7 @@ ghost use mathlib.Core.List.{[]};
 ghost use lib.ListN.{length, getD};
 ghost use Rattle.matrix_file.specs.Decimal.{numberOf};
 ghost use Prim.Native.Nat.{_≤_};
-ghost use Rattle.lists.specs.Tests.{every};
-ghost use Rattle.matrix_file.specs.Job.{inName, nameForm, differsFromAll};
+ghost use Rattle.matrix_file.specs.Job.{nameForm, differsFromAll};
 ghost use Rattle.matrix_file.specs.Reading.{rowLine, fieldsOf, linesOf, askCodes, askRow, askRows, firstForm, readAnswer};
 ghost use Rattle.matrix_file.specs.Report.{answered, reported};
 ghost use Rattle.matrix_file.specs.Walk.{namesPassed};
@@ -36,20 +36,6 @@ const MOST_BYTES: usize = 45000;
 
 // The lines before row 1.
 const LINES_BEFORE_ROWS: usize = 1;
-
-// Whether every byte of a text may stand in a name.
-fn all_in_name(text: &[u8]) -> bool
-    ensures { λ r. ⌜ r ≡ every inName (now (text .entry)) ⌝ }
-{
-    let mut i = 0;
-    while i < text.len() {
-        if !in_name(text[i]) {
-            return false;
-        }
-        i += 1;
-    }
-    true
-}
 
 // Whether a name is well formed.
 pub(crate) fn name_form(name: &[u8]) -> bool
@@ -61,7 +47,7 @@ pub(crate) fn name_form(name: &[u8]) -> bool
     if NAME_SIZE < name.len() {
         return false;
     }
-    is_letter(name[0]) && all_in_name(rest_from(name, 1))
+    is_letter(name[0]) && all_in(rest_from(name, 1), Alphabet::Name)
 }
 
 // Whether a name differs from the names of the first `count` rows, which begin at the places `starts`.

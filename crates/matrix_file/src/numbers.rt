@@ -1,27 +1,12 @@
 // Whole numbers in decimal: their form, and the number that a text of this form says.
-use crate::bytes::is_digit;
+use crate::bytes::Alphabet;
+use crate::bytes::all_in;
 use crate::bytes::rest_from;
 ghost use mathlib.Core.Path.{_≡_};
 ghost use mathlib.Core.Bool.{true};
 ghost use Prim.Native.Nat.{_<_};
 ghost use lib.IntN.{pos, negℤ};
-ghost use Rattle.lists.specs.Tests.{every};
-ghost use Rattle.matrix_file.specs.Bytes.{isDigit};
 ghost use Rattle.matrix_file.specs.Decimal.{numberForm, NumberSaid, codeForm, codeOf};
-
-// Whether every byte of a text is a digit.
-fn all_digits(text: &[u8]) -> bool
-    ensures { λ r. ⌜ r ≡ every isDigit (now (text .entry)) ⌝ }
-{
-    let mut i = 0;
-    while i < text.len() {
-        if !is_digit(text[i]) {
-            return false;
-        }
-        i += 1;
-    }
-    true
-}
 
 // Whether a text has the form of the numbers n and m.
 pub(crate) fn number_form(text: &[u8]) -> bool
@@ -33,7 +18,7 @@ pub(crate) fn number_form(text: &[u8]) -> bool
     if 6 < text.len() {
         return false;
     }
-    if !all_digits(text) {
+    if !all_in(text, Alphabet::Digits) {
         return false;
     }
     text.len() == 1 || text[0] != b'0'

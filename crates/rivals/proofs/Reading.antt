@@ -9,39 +9,41 @@ use lib.Seq.{ext-getD}
 use Rattle.matrix.specs.NodeRows.{rowsOf}
 use Rattle.matrix.specs.Shape.{matrixSize}
 use Rattle.matrix.proofs.Passing.{matrix-passes}
-use Rattle.matrix_file.specs.Reading.{readAnswer, jobIn}
-use Rattle.matrix_file.specs.Report.{reported, ReadDone}
+use Rattle.matrix_file.specs.Job.{Job, JobWithinLimits}
+use Rattle.matrix_file.specs.Reading.{jobIn}
+use Rattle.matrix_file.specs.Report.{ReadDone}
 use Rattle.matrix_file.specs.Written.{matrixWritten}
 use Rattle.matrix_file.specs.declared.answer.Read.{Read}
 use Rattle.matrix_file.specs.declared.answer.Read.the-variants as Read
-use Rattle.matrix_file.proofs.ReadLists.{read-count, read-row, read-lent, read-accepting}
+use Rattle.matrix_file.proofs.ReadLists.{job-row, job-lent, read-accepting}
 use Rattle.wagner.proofs.Matrix.{length-rowsOf}
 use Rattle.rivals.specs.Accepted.{matrixLent}
 use Rattle.rivals.specs.Demand.{NoRivalDoesBetter}
 use Rattle.rivals.proofs.Rows.{row-at}
 use Rattle.rivals.proofs.Demand.{no-rival}
 
--- the rows of the matrix written are those of the file
-pub read-rows : (file : List ℕ) (n m : ℕ) → reported (readAnswer file) ≡ Read.Accepted n m → (old : List ℤ) → length old ≡ matrixSize
-    → rowsOf (matrixWritten (jobIn file .rows) old) m n ≡ jobIn file .rows
-read-rows file n m e old full = ext-getD [] (rowsOf written m n) rows (length-rowsOf written m n ∙ sym (read-count file n m e old full)) same
+-- the rows of a matrix into which a job has been written are those of the job
+pub read-rows : (job : Job) → JobWithinLimits job → (old : List ℤ) → length old ≡ matrixSize
+    → rowsOf (matrixWritten (job .rows) old) (job .m) (job .n) ≡ job .rows
+read-rows job within old full =
+    ext-getD [] (rowsOf written (job .m) (job .n)) (job .rows) (length-rowsOf written (job .m) (job .n) ∙ sym (within .row-count)) same
   where
-    rows : List (List ℤ)
-    rows = jobIn file .rows
-
     written : List ℤ
-    written = matrixWritten (jobIn file .rows) old
+    written = matrixWritten (job .rows) old
 
-    same : (i : ℕ) → i < length (rowsOf written m n) → getD (rowsOf written m n) i [] ≡ getD rows i []
+    same : (i : ℕ) → i < length (rowsOf written (job .m) (job .n)) → getD (rowsOf written (job .m) (job .n)) i [] ≡ getD (job .rows) i []
     same i below =
-        let small : i < n = omega (arith, length-rowsOf written m n) in
+        let small : i < job .n = omega (arith, length-rowsOf written (job .m) (job .n)) in
         let place : i + 1 - 1 ≡ i = omega arith in
-        row-at written m n i small ∙ read-row file n m e old full (i + 1) (omega arith) (omega arith) ∙ ap (λ k. getD rows k []) place
+        row-at written (job .m) (job .n) i small
+        ∙ job-row job within old full (i + 1) (omega arith) (omega arith)
+        ∙ ap (λ k. getD (job .rows) k []) place
 
 -- no rival does better on a matrix that the call has read
 pub no-rival-read : (file : List ℕ) (oldMatrix : List ℤ) (oldNames : List ℕ) (newMatrix : List ℤ) (newNames : List ℕ) (r : Read) (n m : ℕ)
     → ReadDone file oldMatrix oldNames newMatrix newNames r → r ≡ Read.Accepted n m → NoRivalDoesBetter n m (rowsOf newMatrix m n)
 no-rival-read file oldMatrix oldNames newMatrix newNames r n m done e =
     let accepting = read-accepting file oldMatrix oldNames newMatrix newNames r n m done e in
-    let lent = read-lent file n m (accepting .said) oldMatrix (accepting .full) in
-    rw (accepting .matrix) (no-rival n m _ (matrixLent _ n m (matrix-passes _ n m .1 lent)))
+    let lent = job-lent (jobIn file) (accepting .within) oldMatrix (accepting .full) in
+    rw (accepting .matrix, sym (accepting .taxa), sym (accepting .characters))
+    (no-rival _ _ _ (matrixLent _ _ _ (matrix-passes _ _ _ .1 lent)))

@@ -74,14 +74,14 @@ is-letter-requires c κs = search needs
 rest-from-requires : tie.Need-rest-from-requires
 rest-from-requires c κs = search needs
 
-all-in-name-requires : tie.Need-all-in-name-requires
-all-in-name-requires c κs = search needs
+all-in-requires : tie.Need-all-in-requires
+all-in-requires c κs = search needs
 
 returns-3 : tie.Need-returns-3
 returns-3 c =
     rest-decides _ _ _ _ (c .before .before .before .before .before .before .if1 .left)
     (c .before .before .before .before .before .if2 .left) (c .before .before .if3 .taken) (c .before .before .before .is-letter .ensures)
-    (c .before .rest-from .ensures) (c .all-in-name .ensures)
+    (c .before .rest-from .ensures) (c .all-in .ensures)
 
 returns-4 : tie.Need-returns-4
 returns-4 c = no-letter _ _ (c .before .before .before .before .if1 .left) (c .if3 .left) (c .before .is-letter .ensures)
@@ -95,6 +95,6 @@ name-form-spec =
     shared-slice-read-is-letter
     is-letter-requires
     rest-from-requires
-    all-in-name-requires
+    all-in-requires
     returns-3
     returns-4)

@@ -1,7 +1,7 @@
 -- `matrix_file::reading::read` meets its contract: a refusal is that of the questions and leaves both lists as they were; what is
 -- written is the job's. Assumes nothing.
 use mathlib.Core.Path.{_≡_, refl, sym, ap, _∙_}
-use mathlib.Core.List.{List, map}
+use mathlib.Core.List.{List, map, map-map}
 use Prim.Native.Nat.{ℕ, _*_, _≤_}
 use native.Mathlib.Omega.{arith}
 use borrow.Author.Tests.{eq-eqb, ne-eqb}
@@ -11,10 +11,10 @@ use lib.ListN.{length, take}
 use Rattle.matrix_file.specs.Report.{readSays, reported, fullSize, readReport, rowsToWrite, afterRead, ReadDone}
 use Rattle.matrix_file.proofs.AcceptedRows.{most-taxa, file-formed, job-rows-behind, job-names-behind}
 use Rattle.matrix_file.specs.Bytes.{lineFeed, behindPart}
-use Rattle.matrix_file.specs.Job.{namesSize, namesWritten, paddedNames}
 use Rattle.matrix_file.specs.Reading.{readAnswer, jobIn, linesOf, codesIn, nameIn}
-use Rattle.matrix_file.specs.Written.{matrixWritten}
-use Rattle.matrix_file.specs.Walk.{RowsFormed}
+use Rattle.matrix_file.specs.Written.{nameSize, namesSize, padded, matrixWritten, namesWritten}
+use Rattle.lists.specs.Over.{stripes}
+use Rattle.matrix_file.specs.Walk.{RowsFormed, paddedIn}
 use Rattle.matrix_file.proofs.Parts.{parts-some}
 use Rattle.lists.specs.Tests.{every}
 use Rattle.matrix.specs.Shape.{matrixSize}
@@ -79,30 +79,31 @@ module _ (file : List ℕ) (matrix : List ℤ) (names : List ℕ) (m : length ma
   matrix-after : (answer : Read) → answer ≡ reported (readAnswer file)
       → matrixWritten (map codesIn (take (rowsToWrite answer) (linesOf rest))) matrix
       ≡ afterRead answer (matrixWritten (jobIn file .rows) matrix) matrix
-  unfolding matrixWritten
+  unfolding stripes
   matrix-after (Accepted n k) a =
       ap (λ x. matrixWritten (map codesIn (take n (linesOf x))) matrix) r
       ∙ ap (λ rows. matrixWritten rows matrix) (sym (job-rows-behind file n k (sym a)))
   matrix-after (Refused refusal line) a = refl
 
   names-after : (answer : Read) → answer ≡ reported (readAnswer file)
-      → namesWritten (map nameIn (take (rowsToWrite answer) (linesOf rest))) names
+      → stripes nameSize 0 (map paddedIn (take (rowsToWrite answer) (linesOf rest))) names
       ≡ afterRead answer (namesWritten (jobIn file .names) names) names
-  unfolding namesWritten paddedNames
+  unfolding stripes
   names-after (Accepted n k) a =
-      ap (λ x. namesWritten (map nameIn (take n (linesOf x))) names) r
-      ∙ ap (λ said. namesWritten said names) (sym (job-names-behind file n k (sym a)))
+      ap (λ x. stripes nameSize 0 (map paddedIn (take n (linesOf x))) names) r
+      ∙ ap (λ said. stripes nameSize 0 said names)
+      (sym (ap (map padded) (job-names-behind file n k (sym a)) ∙ map-map padded nameIn (take n (linesOf (behindPart lineFeed file)))))
   names-after (Refused refusal line) a = refl
 
   done : (answer : Read) → answer ≡ reported (readAnswer file) → (count : ℕ) → count ≡ rowsToWrite answer
       → (newMatrix : List ℤ) (newNames : List ℕ) → newMatrix ≡ matrixWritten (map codesIn (take count (linesOf rest))) matrix
-      → newNames ≡ namesWritten (map nameIn (take count (linesOf rest))) names → ReadDone file matrix names newMatrix newNames answer
+      → newNames ≡ stripes nameSize 0 (map paddedIn (take count (linesOf rest))) names → ReadDone file matrix names newMatrix newNames answer
   done answer a count w newMatrix newNames em en =
       record {
         answers = a ∙ sym full;
         says = ap readSays (a ∙ sym full);
         matrix = em ∙ ap (λ k. matrixWritten (map codesIn (take k (linesOf rest))) matrix) w ∙ matrix-after answer a;
-        names = en ∙ ap (λ k. namesWritten (map nameIn (take k (linesOf rest))) names) w ∙ names-after answer a;
+        names = en ∙ ap (λ k. stripes nameSize 0 (map paddedIn (take k (linesOf rest))) names) w ∙ names-after answer a;
       }
 
 mul-if1 : tie.Need-mul-if1
