@@ -1,24 +1,31 @@
--- Questions that pass: each of them was answered "yes".
+-- Outcomes that hold a value: every question on the way to it was answered "yes".
 use mathlib.Core.Path.{_≡_, refl}
 use Prim.Native.Nat.{ℕ}
 use native.Mathlib.Omega.{arith}
-use Rattle.matrix.specs.declared.refusal.Refusal.{Refusal}
+use Rattle.matrix.specs.Outcomes.{Outcome, value, refused, onLine}
 use Rattle.matrix.specs.declared.refusal.Asked.{Asked}
 use Rattle.matrix.specs.declared.refusal.Asked.the-variants.{Passed, Refused}
-use Rattle.matrix_file.specs.Job.{Job}
-use Rattle.matrix_file.specs.Reading.{FileAsked, filePassed, fileRefused, onLine, accepted, answerOf}
+use Rattle.matrix_file.specs.Reading.{thenWith}
 
--- the questions put to a line passed, and so did those behind them
-pub line-passed : (line : ℕ) (asked : Asked) (rest : FileAsked) → onLine line asked rest ≡ filePassed
-    → (asked ≡ Passed) × (rest ≡ filePassed)
-line-passed line Passed rest e = (refl, e)
-line-passed line (Refused refusal) rest e = let never : _≡_ {A = ℕ} 0 1 = cc in absurd (omega arith)
+module _ {A : Type 0} where
+  -- a refusal holds no value
+  pub not-refused : (number line : ℕ) (a : A) → refused number line ≡ value a → ⊥
+  not-refused number line a e = let never : _≡_ {A = ℕ} 0 1 = cc in omega arith
 
--- a refusal is no pass
-pub not-refused : (refusal : Refusal) (line : ℕ) → fileRefused refusal line ≡ filePassed → ⊥
-not-refused refusal line e = let never : _≡_ {A = ℕ} 0 1 = cc in omega arith
+  -- the questions put to a line passed, and what follows them holds the value
+  pub line-passed : (line : ℕ) (asked : Asked) (rest : Outcome A) (a : A) → onLine line asked rest ≡ value a
+      → (asked ≡ Passed) × (rest ≡ value a)
+  line-passed line Passed rest a e = (refl, e)
+  line-passed line (Refused refusal) rest a e = absurd (not-refused _ line a e)
 
--- a file that is accepted passed, and the job is what it says
-pub answer-accepted : (asked : FileAsked) (said job : Job) → answerOf asked said ≡ accepted job → (asked ≡ filePassed) × (said ≡ job)
-answer-accepted filePassed said job e = (refl, cc)
-answer-accepted (fileRefused refusal line) said job e = let never : _≡_ {A = ℕ} 0 1 = cc in absurd (omega arith)
+  -- an outcome holds a value, and what follows it holds the other
+  pub then-passed : {B : Type 0} (outcome : Outcome A) (follow : A → Outcome B) (b : B) → thenWith outcome follow ≡ value b
+      → (a : A) × (outcome ≡ value a) × (follow a ≡ value b)
+  then-passed (value a) follow b e = (a, refl, e)
+  then-passed (refused number line) follow b e = let never : _≡_ {A = ℕ} 0 1 = cc in absurd (omega arith)
+
+-- an outcome whose value is only changed: it refuses where the other does
+pub then-refused : {A B : Type 0} (outcome : Outcome A) (change : A → B) (number line : ℕ)
+    → thenWith outcome (λ a. value (change a)) ≡ refused number line → outcome ≡ refused number line
+then-refused (value a) change number line e = let never : _≡_ {A = ℕ} 0 1 = cc in absurd (omega arith)
+then-refused (refused other place) change number line e = cc

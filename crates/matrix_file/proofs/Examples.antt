@@ -8,47 +8,35 @@ use lib.ListN.{replicate}
 use Rattle.matrix.specs.Shape.{inRange}
 use Rattle.matrix.specs.Questions.{oneTo, withinLimits}
 use Rattle.lists.specs.Numbers.{numbers}
-use Rattle.matrix.specs.Refusals.{refusalNumber}
+use Rattle.matrix.specs.Outcomes.{Outcome, value, refused}
 use Rattle.lists.specs.Tests.{every, sameNumbers as sameText}
-use Rattle.matrix.specs.declared.refusal.Refusal.the-variants.{ListSize}
-use Rattle.matrix_file.specs.declared.answer.Read.the-variants.{Refused}
 use Rattle.matrix_file.specs.Bytes.{isDigit, isLetter, partsAt, joinedBy}
 use Rattle.matrix_file.specs.Decimal.{digitsIn, digitsOf, decimal, noLeadingZero, numberForm, numberFrom, numberOf, codeForm, codeOf}
 use Rattle.matrix_file.specs.Job.{Job, inName, nameForm, differsFromAll, firstText, rowText, ended, fileOf}
-use Rattle.matrix_file.specs.Reading.{rowLine, linesOf, fieldsOf, firstFields, taxaIn, charactersIn, nameIn, codesIn, rowsOn, jobIn}
-use Rattle.matrix_file.specs.Reading.{firstForm, firstLineForm, askCodes, askRow, nothingMore, askRows, askFile, ReadAnswer, accepted}
-use Rattle.matrix_file.specs.Reading.{refused, readAnswer}
-use Rattle.matrix_file.specs.Report.{fullSize, readReport}
+use Rattle.matrix_file.specs.Lines.{linesOf, fieldsOf}
+use Rattle.matrix_file.specs.Header.{headerIn, firstForm, firstLineForm, askFirstLine, askHeader}
+use Rattle.matrix_file.specs.Rows.{nameIn, codesIn, askCodes, askRow, askRows}
+use Rattle.matrix_file.specs.Reading.{jobOf, nothingMore, askEnd, askBehind, askFile, askLength, readAnswer}
 use Rattle.matrix_file.specs.Text.{bytes}
 use Rattle.matrix_file.specs.Written.{padded, matrixWritten}
 use Rattle.lists.specs.Over.{over, stripes}
 use Rattle.lists.specs.Filled.{filled}
 
--- what an answer gives back: the job of an accepted file, or the refusal's number and line
-data Shown : Type 0 where
-  job : Job → Shown
-  line : ℕ → ℕ → Shown
-
--- an answer, with the refusal's number
-shown : ReadAnswer → Shown
-shown (accepted read) = job read
-shown (refused refusal at) = line (refusalNumber refusal) at
-
 -- a file of these bytes, read
-read : List ℕ → Shown
-unfolding shown inRange withinLimits oneTo every isDigit isLetter sameText partsAt digitsIn digitsOf noLeadingZero numberForm numberFrom
-    numberOf codeForm codeOf inName nameForm differsFromAll rowLine linesOf fieldsOf firstFields taxaIn charactersIn nameIn codesIn rowsOn
-    jobIn firstForm firstLineForm askCodes askRow nothingMore askRows askFile readAnswer
-read file = shown (readAnswer file)
+read : List ℕ → Outcome Job
+unfolding inRange withinLimits oneTo every isDigit isLetter sameText partsAt digitsIn digitsOf noLeadingZero numberForm numberFrom
+    numberOf codeForm codeOf inName nameForm differsFromAll linesOf fieldsOf headerIn nameIn codesIn jobOf firstForm firstLineForm
+    askFirstLine askHeader askCodes askRow askRows nothingMore askEnd askBehind askFile askLength readAnswer
+read file = readAnswer file
 
 -- a file of this text, read
-readText : String → Shown
+readText : String → Outcome Job
 unfolding read bytes
 readText text = read (bytes text)
 
 -- document 01's example
 example : readText "W\t4\t3\nA\t0\t0\t0\nB\t2\t1\t0\nC\t2\t3\t1\nD\t-1\t1\t2\n"
-    ≡ job (record {
+    ≡ value (record {
       n = 4;
       m = 3;
       names = (65 ∷ []) ∷ (66 ∷ []) ∷ (67 ∷ []) ∷ (68 ∷ []) ∷ [];
@@ -59,39 +47,39 @@ unfolding readText
 example = refl
 
 -- one taxon `A` with one code
-one-code : ℤ → Shown
-one-code code = job (record { n = 1; m = 1; names = (65 ∷ []) ∷ []; rows = (code ∷ []) ∷ [] })
+one-code : ℤ → Outcome Job
+one-code code = value (record { n = 1; m = 1; names = (65 ∷ []) ∷ []; rows = (code ∷ []) ∷ [] })
 
--- the refusals 2 to 11: a file, and the number and line that refuse it
-refusals : List (String × Shown)
+-- the refusals 2 to 11: a file, and the number and refused that refuse it
+refusals : List (String × Outcome Job)
 refusals =
-    ("", line 2 0)
-    ∷ ("W\t1\nA\t0\n", line 3 1)
-    ∷ ("W\t0\t1\n", line 4 1)
-    ∷ ("W\t2\t1\nA\t0\n", line 5 3)
-    ∷ ("W\t1\t1\n1A\t0\n", line 6 2)
-    ∷ ("W\t3\t1\nA\t0\nB\t1\nA\t2\n", line 7 4)
-    ∷ ("W\t1\t2\nA\t0\n", line 8 2)
-    ∷ ("W\t1\t1\nA\t+1\n", line 9 2)
-    ∷ ("W\t2\t1\nA\t0\nB\t-1000\n", line 10 3)
-    ∷ ("W\t1\t1\nA\t0\n\n", line 11 3)
+    ("", refused 2 0)
+    ∷ ("W\t1\nA\t0\n", refused 3 1)
+    ∷ ("W\t0\t1\n", refused 4 1)
+    ∷ ("W\t2\t1\nA\t0\n", refused 5 3)
+    ∷ ("W\t1\t1\n1A\t0\n", refused 6 2)
+    ∷ ("W\t3\t1\nA\t0\nB\t1\nA\t2\n", refused 7 4)
+    ∷ ("W\t1\t2\nA\t0\n", refused 8 2)
+    ∷ ("W\t1\t1\nA\t+1\n", refused 9 2)
+    ∷ ("W\t2\t1\nA\t0\nB\t-1000\n", refused 10 3)
+    ∷ ("W\t1\t1\nA\t0\n\n", refused 11 3)
     ∷ []
 
--- the further edges: 999 and -999 pass, 1000 is 10, 1000000 and `-0` are 9, a missing last line feed is 5,
+-- the further edges: 999 and -999 pass, 1000 is 10, 1000000 and `-0` are 9, a missing last refused feed is 5,
 -- a bad name with too few codes is 8
-edges : List (String × Shown)
+edges : List (String × Outcome Job)
 edges =
     ("W\t1\t1\nA\t999\n", one-code (pos 999))
     ∷ ("W\t1\t1\nA\t-999\n", one-code (negsuc 998))
-    ∷ ("W\t1\t1\nA\t1000\n", line 10 2)
-    ∷ ("W\t1\t1\nA\t1000000\n", line 9 2)
-    ∷ ("W\t1\t1\nA\t-0\n", line 9 2)
-    ∷ ("W\t1\t1\nA\t0", line 5 2)
-    ∷ ("W\t1\t2\n1A\t0\n", line 8 2)
+    ∷ ("W\t1\t1\nA\t1000\n", refused 10 2)
+    ∷ ("W\t1\t1\nA\t1000000\n", refused 9 2)
+    ∷ ("W\t1\t1\nA\t-0\n", refused 9 2)
+    ∷ ("W\t1\t1\nA\t0", refused 5 2)
+    ∷ ("W\t1\t2\n1A\t0\n", refused 8 2)
     ∷ []
 
 -- each file of a table is read as the table says
-AsSaid : List (String × Shown) → Type 0
+AsSaid : List (String × Outcome Job) → Type 0
 AsSaid table = map (λ row. readText (row .0)) table ≡ map (λ row. row .1) table
 
 refusals-read : AsSaid refusals
@@ -103,7 +91,7 @@ unfolding AsSaid readText edges one-code
 edges-read = refl
 
 -- refusal 1
-too-long : read (replicate 45001 65) ≡ line 1 0
+too-long : read (replicate 45001 65) ≡ refused 1 0
 unfolding read
 too-long = refl
 
@@ -118,11 +106,11 @@ alike n =
       rows = replicate n (pos 0 ∷ []);
     }
 
-sixty-four-taxa : read (fileOf (alike 64)) ≡ job (alike 64)
+sixty-four-taxa : read (fileOf (alike 64)) ≡ value (alike 64)
 unfolding read alike joinedBy decimal zipWith firstText rowText ended fileOf
 sixty-four-taxa = refl
 
-sixty-five-taxa : read (fileOf (alike 65)) ≡ line 4 1
+sixty-five-taxa : read (fileOf (alike 65)) ≡ refused 4 1
 unfolding read alike joinedBy decimal zipWith firstText rowText ended fileOf
 sixty-five-taxa = refl
 
@@ -141,8 +129,3 @@ two-rows : matrixWritten ((pos 1 ∷ pos 2 ∷ []) ∷ (pos 3 ∷ []) ∷ []) (r
     ≡ pos 1 ∷ pos 2 ∷ replicate 126 (pos 9) ++ pos 3 ∷ replicate 2 (pos 9)
 unfolding over stripes
 two-rows = refl
-
--- a read into a list that has not its full size is 12, with line 0
-not-full : readReport [] (replicate 16128 (pos 0)) (replicate 1023 0) ≡ Refused ListSize 0
-unfolding readReport fullSize
-not-full = refl

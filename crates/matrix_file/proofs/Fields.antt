@@ -9,7 +9,9 @@ use lib.ListN.{length, drop}
 use Rattle.lists.specs.Tests.{sameNumbers as sameText}
 use Rattle.matrix_file.specs.Bytes.{tab, wordW, partsAt, firstPart, behindPart}
 use Rattle.matrix_file.specs.Decimal.{numberForm}
-use Rattle.matrix_file.specs.Reading.{fieldsOf, nameIn, firstForm}
+use Rattle.matrix_file.specs.Lines.{fieldsOf}
+use Rattle.matrix_file.specs.Header.{firstForm}
+use Rattle.matrix_file.specs.Rows.{nameIn}
 use Rattle.lists.proofs.Both.{and-left, and-right}
 use Rattle.matrix_file.proofs.FirstPart.{first-of-parts, parts-several, parts-single}
 

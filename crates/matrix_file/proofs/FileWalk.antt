@@ -1,143 +1,199 @@
--- The questions put to a file, as they are put one after another: its length, line 1, and then the rows.
+-- The questions put to a file, as they are put one after another: its length, the header, the rows, and the end.
 use mathlib.Core.Path.{_≡_, refl, sym, ap, ap₂, _∙_}
 use mathlib.Core.List.{List, [], _∷_}
-use mathlib.Core.Bool.{Bool, true, false, not}
+use mathlib.Core.Bool.{Bool, true, false, not, and-eq-true-iff}
 use Prim.Native.Nat.{ℕ, _≤_, _<_}
 use native.Mathlib.Omega.{arith}
 use borrow.Author.Tests.{le-leb, lt-leb, not-true, not-false}
+use lib.Dec.{eqb}
 use lib.ListN.{length, getD, drop}
-use Rattle.matrix.specs.declared.refusal.Refusal.the-variants.{FileTooLong, FileEmpty, FirstLine, BeyondLimits}
+use Rattle.matrix.specs.Refusals.{refusalNumber}
+use Rattle.matrix.specs.declared.refusal.Refusal.{Refusal}
+use Rattle.matrix.specs.declared.refusal.Refusal.the-variants.{FirstLine, BeyondLimits, FileGoesOn}
 use Rattle.matrix.specs.declared.refusal.Asked.{Asked}
-use Rattle.matrix.specs.Outcomes.{ask}
-use Rattle.matrix.specs.Questions.{withinLimits}
-use Rattle.matrix_file.specs.declared.answer.Read.{Read}
-use Rattle.matrix_file.specs.declared.answer.Read.the-variants.{Refused}
-use Rattle.matrix_file.specs.Bytes.{lineFeed, partsAt, partLength, firstPart, behindPart}
-use Rattle.matrix_file.specs.Decimal.{numberOf}
-use Rattle.matrix_file.specs.Job.{Job}
-use Rattle.matrix_file.specs.Reading.{mostBytes, linesOf, fieldsOf, firstFields, taxaIn, charactersIn, rowsOn, jobIn, firstForm}
-use Rattle.matrix_file.specs.Reading.{firstLineForm, FileAsked, filePassed, fileRefused, onLine, askRows, askFile, answerOf}
-use Rattle.matrix_file.specs.Reading.{readAnswer}
-use Rattle.matrix_file.specs.Report.{answered, reported}
-use Rattle.matrix_file.proofs.Parts.{parts-some}
-use Rattle.matrix_file.proofs.FirstPart.{first-length, first-of-parts, part-within, parts-one, parts-more}
 use Rattle.matrix.specs.declared.refusal.Asked.the-variants as Asked
+use Rattle.matrix.specs.Outcomes.{ask, Outcome, value, refused, onLine}
+use Rattle.matrix.specs.Questions.{withinLimits, oneTo}
+use Rattle.matrix.proofs.Passing.{oneTo-true}
+use Rattle.matrix_file.specs.declared.answer.Header.{Header}
+use Rattle.matrix_file.specs.declared.answer.Read.{Read}
+use Rattle.matrix_file.specs.declared.answer.Read.the-variants.{Accepted, Refused}
+use Rattle.matrix_file.specs.declared.answer.RowsAnswer.{RowsAnswer}
+use Rattle.matrix_file.specs.declared.answer.RowsAnswer.the-variants as RowsAnswer
+use Rattle.matrix_file.specs.Bytes.{lineFeed, beforeFirst, partsAt, partLength, firstPart, behindPart}
+use Rattle.matrix_file.specs.Lines.{linesOf, fieldsOf}
+use Rattle.matrix_file.specs.Header.{headerFrom, headerIn, behindHeader, firstForm, firstLineForm, askFirstLine, askHeader}
+use Rattle.matrix_file.specs.Reading.{mostBytes, thenWith, jobOf, nothingMore, askEnd, askBehind, askFile, askLength, readAnswer}
+use Rattle.matrix_file.specs.Report.{readSays, withHeader}
+use Rattle.matrix_file.specs.Walk.{headerOn, rowsSay, RowsAsked}
+use Rattle.matrix_file.proofs.HeaderRead.{HeaderPassed, header-passed, several-lines}
+use Rattle.matrix_file.proofs.Parts.{parts-some, parts-at, parts-other}
+use Rattle.matrix_file.proofs.FirstPart.{first-length, part-within, parts-one, parts-more}
 
--- the report of an answer is n and m of the job, or the refusal
-report-asked : (asked : FileAsked) (job : Job) → reported (answerOf asked job) ≡ answered (job .n) (job .m) asked
-report-asked filePassed job = refl
-report-asked (fileRefused refusal line) job = refl
+-- what the header's questions bring, where its form is right or not and n and m are within their limits or not
+abbrev headerAsked : Bool → Bool → Header → Outcome Header
+headerAsked good within header = onLine 1 (ask good FirstLine (ask within BeyondLimits Asked.Passed)) (value header)
 
--- the report of a file: what its questions answer, with the n and m of line 1
-pub report-file : (file : List ℕ) → reported (readAnswer file) ≡ answered (taxaIn file) (charactersIn file) (askFile file)
-unfolding readAnswer jobIn
-report-file file = report-asked (askFile file) (jobIn file)
-
--- a file that is too long, and an empty one
-pub too-long : (file : List ℕ) → mostBytes < length file → Refused FileTooLong 0 ≡ reported (readAnswer file)
-unfolding askFile
-too-long file h = rw (report-file, lt-leb (length file) mostBytes h)
-
-pub empty : (file : List ℕ) → length file ≡ 0 → Refused FileEmpty 0 ≡ reported (readAnswer file)
-unfolding askFile
-empty file h = rw (report-file, h)
-
--- the questions on line 1, whose form is right or not
-abbrev firstAsked : List ℕ → Bool → Asked
-firstAsked file good = ask good FirstLine (ask (withinLimits (taxaIn file) (charactersIn file)) BeyondLimits Asked.Passed)
-
--- the questions on the rows
-abbrev rowsAsked : List ℕ → List (List ℕ) → FileAsked
-rowsAsked file lines = askRows (charactersIn file) [] 1 (taxaIn file) lines
-
--- what is answered where n and m are within their limits or not
-abbrev limited : ℕ → ℕ → Bool → List (List ℕ) → Read
-limited n m within lines = answered n m (onLine 1 (ask within BeyondLimits Asked.Passed) (askRows m [] 1 n lines))
-
--- a file of the right length
-module _ (file line : List ℕ) (low : length file ≤ mostBytes) (some : length file ≡ 0 → ⊥) (l : line ≡ firstPart lineFeed file) where
-  -- line 1 and the rows decide
-  sized : askFile file ≡ onLine 1 (firstAsked file (firstLineForm (linesOf file))) (rowsAsked file (rowsOn file))
-  unfolding askFile
-  sized = rw (le-leb (length file) mostBytes low, le-leb 1 (length file) (omega arith))
-
-  -- what the questions answer is reported
-  report : (asked : FileAsked) → askFile file ≡ asked → reported (readAnswer file) ≡ answered (taxaIn file) (charactersIn file) asked
-  report asked e = report-file file ∙ ap (answered (taxaIn file) (charactersIn file)) e
-
+-- the header of a file with line 1
+module _ (file line : List ℕ) (l : line ≡ firstPart lineFeed file) where
   -- line 1 is the first part at a line feed
   line-length : length line ≡ partLength lineFeed file
   line-length = ap length l ∙ first-length lineFeed file
 
   -- it is not ended by a line feed
-  pub no-feed : length line ≡ length file → Refused FirstLine 1 ≡ reported (readAnswer file)
-  unfolding firstLineForm linesOf
+  pub no-feed : length line ≡ length file → refused 3 1 ≡ askHeader (linesOf file)
+  unfolding askHeader askFirstLine firstLineForm linesOf
   no-feed e =
-      let only = parts-one lineFeed file (sym line-length ∙ e) in
-      sym (report _ (sized ∙ ap (λ lines. onLine 1 (firstAsked file (firstLineForm lines)) (rowsAsked file (rowsOn file))) only))
+      sym (ap (λ lines. headerAsked (firstLineForm lines) (withinLimits (headerIn lines .n) (headerIn lines .m)) (headerIn lines))
+      (parts-one lineFeed file (sym line-length ∙ e)))
 
-  -- the fields of line 1
-  first-fields : firstFields file ≡ fieldsOf line
-  unfolding firstFields linesOf
-  first-fields = ap fieldsOf (first-of-parts lineFeed file ∙ sym l)
-
-  module _ (feed : length line ≡ length file → ⊥) where
-    -- the lines behind line 1
-    abbrev behind : List (List ℕ)
-    behind = linesOf (behindPart lineFeed file)
-
+  module _ (feed : length line ≡ length file → ⊥) (good : Bool) (g : good ≡ firstForm (fieldsOf line)) where
     -- the file's lines: line 1, and those behind it
-    lines : linesOf file ≡ line ∷ behind
+    lines : linesOf file ≡ line ∷ linesOf (behindPart lineFeed file)
     unfolding linesOf
     lines =
         parts-more lineFeed file (omega (arith, line-length, part-within lineFeed file))
         ∙ ap (λ x. x ∷ partsAt lineFeed (behindPart lineFeed file)) (sym l)
 
-    form : firstLineForm (linesOf file) ≡ firstForm (fieldsOf line)
+    form : firstLineForm (linesOf file) ≡ good
     unfolding firstLineForm linesOf
     form =
         let more = parts-some lineFeed (behindPart lineFeed file) in
-        ap firstLineForm (lines ∙ ap (_∷_ line) (more .2))
+        ap firstLineForm (lines ∙ ap (_∷_ line) (more .2)) ∙ sym g
 
-    -- the rows stand behind line 1
-    rows : rowsOn file ≡ behind
-    unfolding rowsOn
-    rows = ap (drop 1) lines
+    -- its header is what its fields say
+    says : headerIn (linesOf file) ≡ headerFrom (fieldsOf line)
+    unfolding headerIn
+    says = ap (λ xs. headerFrom (fieldsOf (getD xs 0 []))) lines
 
-    module _ (good : Bool) (g : good ≡ firstForm (fieldsOf line)) where
-      -- the questions on line 1 and the rows
-      asked : askFile file ≡ onLine 1 (firstAsked file good) (rowsAsked file behind)
-      asked = sized ∙ ap₂ (λ x lines. onLine 1 (firstAsked file x) (rowsAsked file lines)) (form ∙ sym g) rows
+    -- its form is not right
+    pub bad-first : not good ≡ true → refused 3 1 ≡ askHeader (linesOf file)
+    unfolding askHeader askFirstLine
+    bad-first t =
+        sym (ap
+        (λ x. headerAsked x (withinLimits (headerIn (linesOf file) .n) (headerIn (linesOf file) .m)) (headerIn (linesOf file)))
+        (form ∙ not-true good t))
 
-      -- its form is not right
-      pub bad-first : not good ≡ true → Refused FirstLine 1 ≡ reported (readAnswer file)
-      bad-first t = sym (report _ (asked ∙ ap (λ x. onLine 1 (firstAsked file x) (rowsAsked file behind)) (not-true good t)))
+    module _ (t : not good ≡ false) (header : Header) (e : header ≡ headerFrom (fieldsOf line)) (within : Bool)
+        (w : within ≡ withinLimits (header .n) (header .m)) where
+      -- its form is right: the limits decide
+      limited : askHeader (linesOf file) ≡ headerAsked true within header
+      unfolding askHeader askFirstLine
+      limited =
+          ap₂ (λ x read. headerAsked x (withinLimits (read .n) (read .m)) read) (form ∙ not-false good t) (says ∙ sym e)
+          ∙ ap (λ x. headerAsked true x header) (sym w)
 
-      module _ (t : not good ≡ false) (n m : ℕ) (en : n ≡ numberOf (getD (fieldsOf line) 1 []))
-          (em : m ≡ numberOf (getD (fieldsOf line) 2 [])) (within : Bool) (w : within ≡ withinLimits n m) where
-        taxa : taxaIn file ≡ n
-        unfolding taxaIn
-        taxa = ap (λ fields. numberOf (getD fields 1 [])) first-fields ∙ sym en
+      -- n or m is beyond its limits
+      pub beyond : not within ≡ true → refused 4 1 ≡ askHeader (linesOf file)
+      beyond u = sym (limited ∙ ap (λ x. headerAsked true x header) (not-true within u))
 
-        characters : charactersIn file ≡ m
-        unfolding charactersIn
-        characters = ap (λ fields. numberOf (getD fields 2 [])) first-fields ∙ sym em
+      -- both are within them
+      pub header-found : not within ≡ false → value header ≡ askHeader (linesOf file)
+      header-found u = sym (limited ∙ ap (λ x. headerAsked true x header) (not-false within u))
 
-        -- its form is right: the limits and the rows decide
-        formed : reported (readAnswer file) ≡ limited n m within behind
-        formed =
-            report _ (asked ∙ ap (λ x. onLine 1 (firstAsked file x) (rowsAsked file behind)) (not-false good t))
-            ∙ ap₂ (λ x y. limited x y (withinLimits x y) behind) taxa characters
-            ∙ ap (λ x. limited n m x behind) (sym w)
+-- something stands behind the last line
+more-than-nothing : (b : ℕ) (bs : List ℕ) → nothingMore (partsAt lineFeed (b ∷ bs)) ≡ false
+unfolding nothingMore
+more-than-nothing b bs = by (eqb b lineFeed) refl
+  where
+    rest : (first : List ℕ) × (others : List (List ℕ)) × (partsAt lineFeed bs ≡ first ∷ others)
+    rest = parts-some lineFeed bs
 
-        -- n or m is beyond its limits
-        pub beyond : not within ≡ true → Refused BeyondLimits 1 ≡ reported (readAnswer file)
-        beyond u = sym (formed ∙ ap (λ x. limited n m x behind) (not-true within u))
+    by : (t : Bool) → eqb b lineFeed ≡ t → nothingMore (partsAt lineFeed (b ∷ bs)) ≡ false
+    by true e = ap nothingMore (parts-at lineFeed b bs e ∙ ap (_∷_ []) (rest .2))
+    by false e = ap nothingMore (parts-other lineFeed b bs e ∙ ap (beforeFirst b) (rest .2))
 
-        -- both are within them: the rows decide
-        pub rows-decide : not within ≡ false → (rest : List ℕ) (answer : Read) → rest ≡ behindPart lineFeed file
-            → answer ≡ answered n m (askRows m [] 1 n (linesOf rest)) → answer ≡ reported (readAnswer file)
-        rows-decide u rest answer r a =
-            a
-            ∙ ap (λ x. answered n m (askRows m [] 1 n (linesOf x))) r
-            ∙ sym (formed ∙ ap (λ x. limited n m x behind) (not-false within u))
+-- the file goes on
+pub goes-on : (rest : List ℕ) → 0 < length rest → Asked.Refused FileGoesOn ≡ ask (nothingMore (linesOf rest)) FileGoesOn Asked.Passed
+unfolding linesOf
+goes-on [] h = absurd (omega arith)
+goes-on (byte ∷ bytes) h = sym (ap (λ x. ask x FileGoesOn Asked.Passed) (more-than-nothing byte bytes))
+
+-- it ends
+pub ends : (rest : List ℕ) → length rest ≤ 0 → Asked.Passed ≡ ask (nothingMore (linesOf rest)) FileGoesOn Asked.Passed
+unfolding linesOf nothingMore partsAt
+ends [] h = refl
+ends (byte ∷ bytes) h = absurd (omega arith)
+
+-- the header or a refusal on a line, in document 01's terms
+header-on : (line : ℕ) (asked : Asked) (header : Header) (lines : List (List ℕ))
+    → readSays (headerOn line asked header) ≡ withHeader (onLine line asked (value (jobOf header lines)))
+unfolding jobOf
+header-on line Asked.Passed header lines = refl
+header-on line (Asked.Refused refusal) header lines = refl
+
+-- what stands behind a header, once its rows have been asked
+module _ (rows : List ℕ) (header : Header) (answer : RowsAnswer) (asked : RowsAsked rows header 2 answer) where
+  -- the rows are refused
+  pub rows-refused : (refusal : Refusal) (line : ℕ) → answer ≡ RowsAnswer.Refused refusal line
+      → refused (refusalNumber refusal) line ≡ withHeader (askBehind header (linesOf rows))
+  unfolding askBehind
+  rows-refused refusal line e =
+      ap withHeader
+      (sym (ap (λ r. rowsSay rows r (askEnd (value (jobOf header (linesOf rows))))) e)
+      ∙ asked .says (askEnd (value (jobOf header (linesOf rows)))))
+
+  -- they end: the end of the file decides
+  pub rows-ended : (at line : ℕ) → answer ≡ RowsAnswer.Ended at line → (rest : List ℕ) → rest ≡ drop at rows → (end : Asked)
+      → end ≡ ask (nothingMore (linesOf rest)) FileGoesOn Asked.Passed
+      → readSays (headerOn line end header) ≡ withHeader (askBehind header (linesOf rows))
+  unfolding askBehind askEnd
+  rows-ended at line e rest r end n =
+      header-on line end header (linesOf rows)
+      ∙ ap (λ x. withHeader (onLine line x (value (jobOf header (linesOf rows)))))
+      (n ∙ ap (λ x. ask (nothingMore (linesOf x)) FileGoesOn Asked.Passed) r)
+      ∙ ap withHeader
+      (sym (ap (λ r. rowsSay rows r (askEnd (value (jobOf header (linesOf rows))))) e)
+      ∙ asked .says (askEnd (value (jobOf header (linesOf rows)))))
+
+-- a file that is too long, and an empty one
+pub too-long : (file : List ℕ) → mostBytes < length file → refused 1 0 ≡ withHeader (readAnswer file)
+unfolding readAnswer askLength
+too-long file h = rw (lt-leb (length file) mostBytes h)
+
+pub empty : (file : List ℕ) → length file ≡ 0 → refused 2 0 ≡ withHeader (readAnswer file)
+unfolding readAnswer askLength
+empty file h = rw h
+
+-- a file of the right length, whose header has been asked
+module _ (file : List ℕ) (low : length file ≤ mostBytes) (some : length file ≡ 0 → ⊥) (answer : Read)
+    (a : readSays answer ≡ askHeader (linesOf file)) where
+  -- the header and what stands behind it decide
+  sized : readAnswer file ≡ thenWith (readSays answer) (λ header. askBehind header (behindHeader header (linesOf file)))
+  unfolding readAnswer askLength askFile
+  sized =
+      rw (le-leb (length file) mostBytes low, le-leb 1 (length file) (omega arith))
+      (ap (λ outcome. thenWith outcome (λ header. askBehind header (behindHeader header (linesOf file)))) (sym a))
+
+  -- the header is refused
+  pub header-refused : (refusal : Refusal) (line : ℕ) → answer ≡ Refused refusal line
+      → refused (refusalNumber refusal) line ≡ withHeader (readAnswer file)
+  header-refused refusal line e =
+      sym (ap withHeader
+      (sized ∙ ap (λ r. thenWith (readSays r) (λ header. askBehind header (behindHeader header (linesOf file)))) e))
+
+  module _ (header : Header) (e : answer ≡ Accepted header) where
+    passed : HeaderPassed (linesOf file) header
+    passed = header-passed (linesOf file) header (sym a ∙ ap readSays e)
+
+    -- lines stand behind it
+    pub header-several : 1 < length (linesOf file)
+    header-several = several-lines (linesOf file) (passed .form)
+
+    -- it has at most 64 taxa, and a character
+    pub header-limits : (header .n ≤ 64) × (1 ≤ header .m)
+    unfolding withinLimits
+    header-limits =
+        let limits : withinLimits (header .n) (header .m) ≡ true =
+        ap (λ read. withinLimits (read .n) (read .m)) (sym (passed .is)) ∙ passed .limits in
+        let both = and-eq-true-iff (oneTo 64 (header .n)) (oneTo 128 (header .m)) .0 limits in
+        (oneTo-true 64 (header .n) (both .0) .1, oneTo-true 128 (header .m) (both .1) .0)
+
+    -- what stands behind it decides
+    pub behind-decides : (rows : List ℕ) → linesOf rows ≡ behindHeader header (linesOf file) → (outcome : Outcome Header)
+        → outcome ≡ withHeader (askBehind header (linesOf rows)) → outcome ≡ withHeader (readAnswer file)
+    behind-decides rows r outcome o =
+        o
+        ∙ ap (λ lines. withHeader (askBehind header lines)) r
+        ∙ sym (ap withHeader
+        (sized ∙ ap (λ r. thenWith (readSays r) (λ header. askBehind header (behindHeader header (linesOf file)))) e))

@@ -10,6 +10,7 @@ pub mod WrittenRows
 pub mod FileLength
 pub mod Asked
 pub mod PassedRows
+pub mod HeaderRead
 pub mod ReadOfFile
 pub mod FileOfRead
 pub mod Accepted
@@ -22,5 +23,6 @@ pub mod AcceptedRows
 pub mod LinesWalk
 pub mod WrittenLines
 pub mod ReadLists
+pub mod ReadWalk
 pub mod Examples
 pub mod Numbered

@@ -11,7 +11,7 @@ use Rattle.lists.specs.Tests.{every}
 use Rattle.matrix_file.specs.Bytes.{tab, lineFeed, minus, underscore, isDigit, isLetter, joinedBy}
 use Rattle.matrix_file.specs.Decimal.{digitsOf, decimal}
 use Rattle.matrix_file.specs.Job.{inName, nameForm}
-use Rattle.matrix_file.specs.Reading.{fieldsOf}
+use Rattle.matrix_file.specs.Lines.{fieldsOf}
 use Rattle.lists.proofs.Both.{and-left, and-right, or-cases}
 use Rattle.lists.proofs.Every.{every-head, every-tail, every-cons, every-append, every-weaker}
 use Rattle.matrix_file.proofs.Parts.{lacks, parts-joined}

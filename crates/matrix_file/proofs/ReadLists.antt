@@ -14,18 +14,23 @@ use Rattle.lists.proofs.Every.{every-at}
 use Rattle.lists.proofs.Filled.{length-filled}
 use Rattle.lists.proofs.Stripes.{Narrow, length-stripes, stripes-item, stripes-else}
 use Rattle.matrix.specs.declared.refusal.Refusal.the-variants.{ListSize}
+use Rattle.matrix.specs.declared.refusal.Asked.the-variants.{Passed}
+use Rattle.matrix.specs.Outcomes.{ask, value, afterwards}
+use Rattle.matrix_file.specs.declared.answer.Header.{Header}
 use Rattle.matrix.specs.Shape.{columns, matrixSize, row}
 use Rattle.matrix.specs.Questions.{allInRange, LentMatrix, oneTo, withinLimits}
 use Rattle.matrix_file.specs.declared.answer.Read.{Read}
-use Rattle.matrix_file.specs.declared.answer.Read.the-variants.{Accepted, Refused}
+use Rattle.matrix_file.specs.declared.answer.Read.the-variants.{Accepted}
 use Rattle.matrix_file.specs.Job.{Job, JobWithinLimits, hasCodes, nameForm}
-use Rattle.matrix_file.specs.Reading.{readAnswer, jobIn}
-use Rattle.matrix_file.specs.Report.{reported, fullSize, readReport, afterRead, ReadDone}
+use Rattle.matrix_file.specs.Reading.{readAnswer}
+use Rattle.matrix_file.specs.Report.{readSays, fullSize, readOutcome, ReadDone}
+use Rattle.matrix_file.specs.Header.{headerOf}
 use Rattle.matrix_file.specs.Written.{nameSize, namesSize, padded, matrixWritten, namesWritten}
-use Rattle.matrix.proofs.Passing.{oneTo-true}
+use Rattle.matrix.proofs.Passing.{ask-passed, oneTo-true}
 use Rattle.matrix_file.proofs.FileLength.{name-length}
 use Rattle.matrix_file.proofs.FileOfRead.{file-of-read}
-use Rattle.matrix_file.proofs.AcceptedRows.{read-accepted, accepted-numbers}
+use Rattle.matrix_file.proofs.AcceptedRows.{accepted-job}
+use Rattle.matrix_file.proofs.Asked.{line-passed, then-passed}
 
 -- items of which none is too wide, by their places
 items-narrow : {A : Type 0} (width : ℕ) (items : List (List A)) → ((k : ℕ) → k < length items → length (getD items k []) ≤ width)
@@ -144,39 +149,43 @@ module _ (job : Job) (within : JobWithinLimits job) where
         ∙ stripes-else nameSize 0 0 (map padded (job .names)) old names-narrow k j none low
         ∙ ap (λ i. getD old i 0) place
 
--- what an accepted read tells: the file says a job within the limits, of n taxa and m characters; the matrix had its full size; and what
--- the lists then hold
+-- what an accepted read tells: the file says a job within the limits, with this header; the matrix had its full size; and what the lists
+-- then hold
 pub record Accepting
     (file : List ℕ)
     (oldMatrix : List ℤ)
     (oldNames : List ℕ)
     (newMatrix : List ℤ)
     (newNames : List ℕ)
-    (n m : ℕ) : Type 0 where
-  pub within : JobWithinLimits (jobIn file)
-  pub taxa : jobIn file .n ≡ n
-  pub characters : jobIn file .m ≡ m
+    (header : Header) : Type 0 where
+  pub job : Job
+  pub read : readAnswer file ≡ value job
+  pub within : JobWithinLimits job
+  pub says : headerOf job ≡ header
   pub full : length oldMatrix ≡ matrixSize
-  pub matrix : newMatrix ≡ matrixWritten (jobIn file .rows) oldMatrix
-  pub names : newNames ≡ namesWritten (jobIn file .names) oldNames
+  pub matrix : newMatrix ≡ matrixWritten (job .rows) oldMatrix
+  pub names : newNames ≡ namesWritten (job .names) oldNames
 
-pub read-accepting : (file : List ℕ) (oldMatrix : List ℤ) (oldNames : List ℕ) (newMatrix : List ℤ) (newNames : List ℕ) (r : Read) (n m : ℕ)
-    → ReadDone file oldMatrix oldNames newMatrix newNames r → r ≡ Accepted n m → Accepting file oldMatrix oldNames newMatrix newNames n m
-unfolding readReport fullSize jobIn
-read-accepting file oldMatrix oldNames newMatrix newNames r n m done e = by (fullSize oldMatrix oldNames) refl
-  where
-    by : (t : Bool) → fullSize oldMatrix oldNames ≡ t → Accepting file oldMatrix oldNames newMatrix newNames n m
-    by true size =
-        let said : reported (readAnswer file) ≡ Accepted n m = sym (done .answers ∙ rw (size, readReport)) ∙ e in
-        record {
-          within = file-of-read file (jobIn file) (read-accepted file n m said) .0;
-          taxa = accepted-numbers file n m said .0;
-          characters = accepted-numbers file n m said .1;
-          full = eqb-true (length oldMatrix) matrixSize (and-left (eqb (length oldMatrix) matrixSize) _ size);
-          matrix = done .matrix ∙ ap (λ x. afterRead x (matrixWritten (jobIn file .rows) oldMatrix) oldMatrix) e;
-          names = done .names ∙ ap (λ x. afterRead x (namesWritten (jobIn file .names) oldNames) oldNames) e;
-        }
-    by false size =
-        let refused : readReport file oldMatrix oldNames ≡ Refused ListSize 0 = rw (size, readReport) in
-        let never : _≡_ {A = ℕ} 0 1 = cc (sym refused ∙ sym (done .answers) ∙ e) in
-        absurd (omega arith)
+pub read-accepting : (file : List ℕ) (oldMatrix : List ℤ) (oldNames : List ℕ) (newMatrix : List ℤ) (newNames : List ℕ) (r : Read)
+    (header : Header) → ReadDone file oldMatrix oldNames newMatrix newNames r → r ≡ Accepted header
+    → Accepting file oldMatrix oldNames newMatrix newNames header
+unfolding readOutcome fullSize
+read-accepting file oldMatrix oldNames newMatrix newNames r header done e =
+    let outcome = readOutcome file oldMatrix oldNames in
+    let found = then-passed outcome (λ job. value (headerOf job)) header (sym (done .says) ∙ ap readSays e) in
+    let size = line-passed 0 (ask (fullSize oldMatrix oldNames) ListSize Passed) (readAnswer file) (found .0) (found .1) in
+    let full = ask-passed (fullSize oldMatrix oldNames) ListSize Passed (size .0) .0 in
+    let is = accepted-job file (found .0) (size .1) in
+    record {
+      job = found .0;
+      read = size .1;
+      within = file-of-read file (found .0) (size .1) .0;
+      says = cc (found .2);
+      full = eqb-true (length oldMatrix) matrixSize (and-left (eqb (length oldMatrix) matrixSize) _ full);
+      matrix =
+          done .matrix
+          ∙ ap₂ (λ x job. afterwards x (matrixWritten (job .rows) oldMatrix) oldMatrix) (found .1) is;
+      names =
+          done .names
+          ∙ ap₂ (λ x job. afterwards x (namesWritten (job .names) oldNames) oldNames) (found .1) is;
+    }

@@ -1,66 +1,70 @@
 -- A walk over the rows of a file, line by line, puts the questions that the definition puts.
 use mathlib.Core.Path.{_≡_, refl, sym, ap, ap₂, _∙_}
 use mathlib.Core.List.{List, [], _∷_}
-use mathlib.Core.Bool.{Bool, true, false}
 use Prim.Native.Nat.{ℕ, zero, suc, _+_, _-_, _≤_, _<_}
 use native.Mathlib.Numerals.{add-one}
 use native.Mathlib.Omega.{arith}
 use borrow.Author.Tests.{eqb-true}
 use lib.Dec.{eqb}
-use lib.ListN.{length, getD, take, drop, set, length-set, drop-of-length-le}
-use lib.Seq.{drop-cons, getD-set-same, getD-set-other}
+use lib.ListN.{length, take, drop, set, length-set}
+use lib.Seq.{getD-set-same, getD-set-other}
+use Rattle.matrix.specs.Refusals.{refusalNumber}
 use Rattle.matrix.specs.declared.refusal.Refusal.{Refusal}
-use Rattle.matrix.specs.declared.refusal.Refusal.the-variants.{LineMissing, FieldCount, FileGoesOn}
+use Rattle.matrix.specs.declared.refusal.Refusal.the-variants.{LineMissing, FieldCount}
 use Rattle.matrix.specs.declared.refusal.Asked.{Asked}
-use Rattle.matrix.specs.Outcomes.{ask}
-use Rattle.matrix_file.specs.declared.answer.Read.the-variants.{Accepted, Refused}
-use Rattle.matrix_file.specs.Bytes.{tab, lineFeed, beforeFirst, partsAt, partLength, firstPart}
-use Rattle.matrix_file.specs.Reading.{rowLine, linesOf, fieldsOf, nameIn, askRow, askRows, nothingMore, onLine, filePassed}
-use Rattle.matrix_file.specs.Reading.{fileRefused}
-use Rattle.matrix_file.specs.Report.{answered}
-use Rattle.matrix_file.specs.Walk.{namesPassed}
+use Rattle.matrix.specs.declared.refusal.Asked.the-variants as Asked
+use Rattle.matrix.specs.Outcomes.{Outcome, refused, onLine}
+use Rattle.matrix_file.specs.declared.answer.Header.{Header}
+use Rattle.matrix_file.specs.declared.answer.RowsAnswer.the-variants.{Ended, Refused}
+use Rattle.matrix_file.specs.Job.{Job}
+use Rattle.matrix_file.specs.Bytes.{tab, lineFeed, partsAt, partLength, firstPart}
+use Rattle.matrix_file.specs.Lines.{linesOf, fieldsOf}
+use Rattle.matrix_file.specs.Rows.{nameIn, askRow, askRows}
+use Rattle.matrix_file.specs.Walk.{namesPassed, RowsAsked}
 use Rattle.matrix.proofs.Passing.{ask-passed}
-use Rattle.matrix_file.proofs.Parts.{parts-some, parts-at, parts-other}
+use Rattle.matrix_file.proofs.Parts.{parts-some}
 use Rattle.matrix_file.proofs.FirstPart.{Parted, whole, shorter, parted, parts-one, first-of-front}
 use Rattle.matrix_file.proofs.PartsFrom.{partsFrom, from-within, from-past, from-start, from-next, next-within}
 use Rattle.matrix_file.proofs.Fields.{name-first}
-use Rattle.matrix.specs.declared.refusal.Asked.the-variants as Asked
 
--- what a walk knows when it has passed `done` rows and stands at a place: the lines from there on decide
-pub record RowsLeft (rows : List ℕ) (n m : ℕ) (starts : List ℕ) (at done : ℕ) : Type 0 where
+-- what a walk knows when it has passed `done` rows and stands at a place: the lines from there on decide, whatever follows the rows
+pub record RowsLeft (rows : List ℕ) (header : Header) (first : ℕ) (starts : List ℕ) (at done : ℕ) : Type 0 where
   pub places : length starts ≡ 64
-  pub some : done ≤ n
+  pub some : done ≤ header .n
   pub inside : at ≤ length rows
   pub decide :
-      askRows m [] 1 n (linesOf rows) ≡ askRows m (namesPassed rows starts done) (suc done) (n - done) (partsFrom lineFeed rows at)
+      (follow : ℕ → List (List ℕ) → Outcome Job)
+      → askRows header [] first (header .n) (linesOf rows) follow
+      ≡ askRows header (namesPassed rows starts done) (first + done) (header .n - done) (partsFrom lineFeed rows at) follow
 
 -- at the start
-pub walk-start : (rows : List ℕ) (n m : ℕ) (starts : List ℕ) → length starts ≡ 64 → RowsLeft rows n m starts 0 0
+pub walk-start : (rows : List ℕ) (header : Header) (first : ℕ) (starts : List ℕ) → length starts ≡ 64 → RowsLeft rows header first starts 0 0
 unfolding linesOf namesPassed
-walk-start rows n m starts e =
+walk-start rows header first starts e =
     record {
       places = e;
       some = omega arith;
       inside = omega arith;
-      decide = ap₂ (λ left lines. askRows m [] 1 left lines) (omega arith) (sym (from-start lineFeed rows));
+      decide =
+          λ follow.
+          let number : first ≡ first + 0 = omega arith in
+          ap₂ (λ line lines. askRows header [] line (header .n) lines follow) number (sym (from-start lineFeed rows))
+          ∙ ap (λ left. askRows header [] (first + 0) left (partsFrom lineFeed rows 0) follow) (omega arith);
     }
 
--- a last part that no line feed ends is no line
-only-part : (m : ℕ) (earlier : List (List ℕ)) (k left : ℕ) (part : List ℕ)
-    → askRows m earlier k (suc left) (part ∷ []) ≡ fileRefused LineMissing (rowLine k)
-unfolding askRows
-only-part m earlier k left part = refl
+-- the questions with what follows them
+module _ {A : Type 0} (header : Header) (earlier : List (List ℕ)) (line left : ℕ) (follow : ℕ → List (List ℕ) → Outcome A) where
+  -- a last part that no line feed ends is no line
+  only-part : (part : List ℕ) → askRows header earlier line (suc left) (part ∷ []) follow ≡ refused (refusalNumber LineMissing) line
+  unfolding askRows
+  only-part part = refl
 
--- a line: its own questions, and then those on the lines behind it
-line-behind : (m : ℕ) (earlier : List (List ℕ)) (k left : ℕ) (line next : List ℕ) (lines : List (List ℕ))
-    → askRows m earlier k (suc left) (line ∷ next ∷ lines)
-    ≡ onLine (rowLine k) (askRow m earlier line) (askRows m (nameIn line ∷ earlier) (suc k) left (next ∷ lines))
-unfolding askRows
-line-behind m earlier k left line next lines = refl
-
--- the number of the line behind `done` rows
-line-number : (done number : ℕ) → number ≡ rowLine (done + 1) → rowLine (suc done) ≡ number
-line-number done number e = ap rowLine (sym (add-one done)) ∙ sym e
+  -- a line: its own questions, and then those on the lines behind it
+  line-behind : (row next : List ℕ) (lines : List (List ℕ))
+      → askRows header earlier line (suc left) (row ∷ next ∷ lines) follow
+      ≡ onLine line (askRow header earlier row) (askRows header (nameIn row ∷ earlier) (suc line) left (next ∷ lines) follow)
+  unfolding askRows
+  line-behind row next lines = refl
 
 -- names passed do not depend on a start that is set later
 passed-set : (rows starts : List ℕ) (count i at : ℕ) → count ≤ i → namesPassed rows (set starts i at) count ≡ namesPassed rows starts count
@@ -90,14 +94,16 @@ several-tab line h = by (parted tab line)
     by (shorter e) = e
 
 -- a row that passes has m + 1 fields
-passed-count : (m : ℕ) (earlier : List (List ℕ)) (line : List ℕ) → askRow m earlier line ≡ Asked.Passed → length (fieldsOf line) ≡ suc m
+passed-count : (header : Header) (earlier : List (List ℕ)) (line : List ℕ) → askRow header earlier line ≡ Asked.Passed
+    → length (fieldsOf line) ≡ suc (header .m)
 unfolding askRow
-passed-count m earlier line e =
-    eqb-true (length (fieldsOf line)) (suc m) (ask-passed (eqb (length (fieldsOf line)) (suc m)) FieldCount _ e .0)
+passed-count header earlier line e =
+    eqb-true (length (fieldsOf line)) (suc (header .m)) (ask-passed (eqb (length (fieldsOf line)) (suc (header .m))) FieldCount _ e .0)
 
 -- one row of the walk
-module _ (rows : List ℕ) (n m : ℕ) (starts : List ℕ) (at done : ℕ) (rest line : List ℕ) (walk : RowsLeft rows n m starts at done)
-    (h : done < n) (r : rest ≡ drop at rows) (l : line ≡ firstPart lineFeed rest) where
+module _ (rows : List ℕ) (header : Header) (first : ℕ) (starts : List ℕ) (at done : ℕ) (rest line : List ℕ)
+    (walk : RowsLeft rows header first starts at done)
+    (h : done < header .n) (r : rest ≡ drop at rows) (l : line ≡ firstPart lineFeed rest) where
   -- the names of the rows passed, and the lines behind this one
   abbrev earlier : List (List ℕ)
   earlier = namesPassed rows starts done
@@ -106,26 +112,29 @@ module _ (rows : List ℕ) (n m : ℕ) (starts : List ℕ) (at done : ℕ) (rest
   behind = partsFrom lineFeed rows (at + length line + 1)
 
   abbrev left : ℕ
-  left = n - (done + 1)
+  left = header .n - (done + 1)
 
   -- this row and those behind it decide
-  this-line : askRows m [] 1 n (linesOf rows) ≡ askRows m earlier (suc done) (suc left) (line ∷ behind)
-  this-line =
-      walk .decide
-      ∙ ap₂ (λ count lines. askRows m earlier (suc done) count lines) (omega arith)
+  this-line : (follow : ℕ → List (List ℕ) → Outcome Job) → askRows header [] first (header .n) (linesOf rows) follow
+      ≡ askRows header earlier (first + done) (suc left) (line ∷ behind) follow
+  this-line follow =
+      walk .decide follow
+      ∙ ap₂ (λ count lines. askRows header earlier (first + done) count lines follow) (omega arith)
       (from-next lineFeed rows at rest line (walk .inside) r l)
 
   -- it is not ended by a line feed
-  pub line-missing : at + length line ≡ length rows → (number : ℕ) → number ≡ rowLine (done + 1)
-      → Refused LineMissing number ≡ answered n m (askRows m [] 1 n (linesOf rows))
-  line-missing e number k =
-      sym (ap (answered n m)
-      (this-line
-      ∙ ap (λ lines. askRows m earlier (suc done) (suc left) (line ∷ lines)) (from-past lineFeed rows (at + length line + 1) (omega arith))
-      ∙ only-part m earlier (suc done) left line)
-      ∙ ap (Refused LineMissing) (line-number done number k))
+  pub line-missing : at + length line ≡ length rows → RowsAsked rows header first (Refused LineMissing (first + done))
+  line-missing e =
+      record {
+        says =
+            λ follow.
+            sym (this-line follow
+            ∙ ap (λ lines. askRows header earlier (first + done) (suc left) (line ∷ lines) follow)
+            (from-past lineFeed rows (at + length line + 1) (omega arith))
+            ∙ only-part header earlier (first + done) left follow line);
+      }
 
-  module _ (ended : at + length line ≡ length rows → ⊥) (answer : Asked) (a : answer ≡ askRow m earlier line) where
+  module _ (ended : at + length line ≡ length rows → ⊥) (answer : Asked) (a : answer ≡ askRow header earlier line) where
     next-inside : at + length line + 1 ≤ length rows
     next-inside = let end = next-within lineFeed rows at rest line (walk .inside) r l in next end
       where
@@ -133,29 +142,32 @@ module _ (rows : List ℕ) (n m : ℕ) (starts : List ℕ) (at done : ℕ) (rest
         next end = omega arith
 
     -- its own questions decide, and then those on the lines behind it
-    asked : askRows m [] 1 n (linesOf rows)
-        ≡ onLine (rowLine (suc done)) answer (askRows m (nameIn line ∷ earlier) (suc (suc done)) left behind)
-    asked =
+    asked : (follow : ℕ → List (List ℕ) → Outcome Job) → askRows header [] first (header .n) (linesOf rows) follow
+        ≡ onLine (first + done) answer (askRows header (nameIn line ∷ earlier) (suc (first + done)) left behind follow)
+    asked follow =
         let some = parts-some lineFeed (drop (at + length line + 1) rows) in
         let more = from-within lineFeed rows (at + length line + 1) next-inside ∙ some .2 in
-        this-line
-        ∙ ap (λ lines. askRows m earlier (suc done) (suc left) (line ∷ lines)) more
-        ∙ line-behind m earlier (suc done) left line (some .0) (some .1)
-        ∙ ap₂ (λ x lines. onLine (rowLine (suc done)) x (askRows m (nameIn line ∷ earlier) (suc (suc done)) left lines)) (sym a) (sym more)
+        this-line follow
+        ∙ ap (λ lines. askRows header earlier (first + done) (suc left) (line ∷ lines) follow) more
+        ∙ line-behind header earlier (first + done) left follow line (some .0) (some .1)
+        ∙ ap₂ (λ x lines. onLine (first + done) x (askRows header (nameIn line ∷ earlier) (suc (first + done)) left lines follow)) (sym a)
+        (sym more)
 
     -- it is refused
-    pub row-refused : (refusal : Refusal) → answer ≡ Asked.Refused refusal → (number : ℕ) → number ≡ rowLine (done + 1)
-        → Refused refusal number ≡ answered n m (askRows m [] 1 n (linesOf rows))
-    row-refused refusal e number k =
-        sym (ap (answered n m)
-        (asked ∙ ap (λ x. onLine (rowLine (suc done)) x (askRows m (nameIn line ∷ earlier) (suc (suc done)) left behind)) e)
-        ∙ ap (Refused refusal) (line-number done number k))
+    pub row-refused : (refusal : Refusal) → answer ≡ Asked.Refused refusal → RowsAsked rows header first (Refused refusal (first + done))
+    row-refused refusal e =
+        record {
+          says =
+              λ follow.
+              sym (asked follow
+              ∙ ap (λ x. onLine (first + done) x (askRows header (nameIn line ∷ earlier) (suc (first + done)) left behind follow)) e);
+        }
 
     -- it passes: its name is the first part of the rows from its start on
-    row-name : 1 ≤ m → answer ≡ Asked.Passed → nameIn line ≡ firstPart tab (drop at rows)
+    row-name : 1 ≤ header .m → answer ≡ Asked.Passed → nameIn line ≡ firstPart tab (drop at rows)
     unfolding firstPart
     row-name some e =
-        let fields : length (fieldsOf line) ≡ suc m = passed-count m earlier line (sym a ∙ e) in
+        let fields : length (fieldsOf line) ≡ suc (header .m) = passed-count header earlier line (sym a ∙ e) in
         let front : line ≡ take (partLength lineFeed (drop at rows)) (drop at rows) = l ∙ ap (firstPart lineFeed) r in
         let within : partLength tab line < length line = several-tab line (omega arith) in
         name-first line
@@ -163,61 +175,36 @@ module _ (rows : List ℕ) (n m : ℕ) (starts : List ℕ) (at done : ℕ) (rest
         ∙ sym (first-of-front tab (partLength lineFeed (drop at rows)) (drop at rows) (rw front at within))
 
     -- then the walk goes on behind it
-    pub row-passed : 1 ≤ m → n ≤ 64 → answer ≡ Asked.Passed → RowsLeft rows n m (set starts done at) (at + length line + 1) (done + 1)
+    pub row-passed : 1 ≤ header .m → header .n ≤ 64 → answer ≡ Asked.Passed
+        → RowsLeft rows header first (set starts done at) (at + length line + 1) (done + 1)
     row-passed some most e =
         record {
           places = length-set starts done at ∙ walk .places;
           some = omega arith;
           inside = next-inside;
           decide =
+              λ follow.
               let room : done < length starts = let full = walk .places in omega arith in
-              asked
-              ∙ ap (λ x. onLine (rowLine (suc done)) x (askRows m (nameIn line ∷ earlier) (suc (suc done)) left behind)) e
-              ∙ ap (λ name. askRows m (name ∷ earlier) (suc (suc done)) left behind) (row-name some e)
-              ∙ ap (λ names. askRows m names (suc (suc done)) left behind) (sym (passed-more rows starts done at room))
-              ∙ ap (λ k. askRows m (namesPassed rows (set starts done at) k) (suc k) left behind) (sym (add-one done));
+              let number : suc (first + done) ≡ first + (done + 1) = omega arith in
+              asked follow
+              ∙ ap (λ x. onLine (first + done) x (askRows header (nameIn line ∷ earlier) (suc (first + done)) left behind follow)) e
+              ∙ ap₂ (λ name k. askRows header (name ∷ earlier) k left behind follow) (row-name some e) number
+              ∙ ap (λ names. askRows header names (first + (done + 1)) left behind follow)
+              (sym (passed-more rows starts done at room) ∙ ap (namesPassed rows (set starts done at)) (sym (add-one done)));
         }
 
--- something stands behind the last line
-more-than-nothing : (b : ℕ) (bs : List ℕ) → nothingMore (partsAt lineFeed (b ∷ bs)) ≡ false
-unfolding nothingMore
-more-than-nothing b bs = by (eqb b lineFeed) refl
-  where
-    rest : (first : List ℕ) × (others : List (List ℕ)) × (partsAt lineFeed bs ≡ first ∷ others)
-    rest = parts-some lineFeed bs
-
-    by : (t : Bool) → eqb b lineFeed ≡ t → nothingMore (partsAt lineFeed (b ∷ bs)) ≡ false
-    by true e = ap nothingMore (parts-at lineFeed b bs e ∙ ap (_∷_ []) (rest .2))
-    by false e = ap nothingMore (parts-other lineFeed b bs e ∙ ap (beforeFirst b) (rest .2))
-
--- all rows passed
-module _ (rows : List ℕ) (n m : ℕ) (starts : List ℕ) (at done : ℕ) (walk : RowsLeft rows n m starts at done) (h : n ≤ done) where
-  -- it is left to ask whether the file ends there
-  last : askRows m [] 1 n (linesOf rows)
-      ≡ onLine (rowLine (suc n)) (ask (nothingMore (partsAt lineFeed (drop at rows))) FileGoesOn Asked.Passed) filePassed
-  unfolding askRows
-  last =
-      let all : done ≡ n = let some = walk .some in omega arith in
-      let none : n - done ≡ 0 = omega arith in
-      walk .decide
-      ∙ ap₂ (λ count lines. askRows m (namesPassed rows starts done) (suc done) count lines) none
-      (from-within lineFeed rows at (walk .inside))
-      ∙ ap (λ k. onLine (rowLine (suc k)) (ask (nothingMore (partsAt lineFeed (drop at rows))) FileGoesOn Asked.Passed) filePassed) all
-
-  -- it goes on
-  pub walk-goes-on : at < length rows → (number : ℕ) → number ≡ rowLine (n + 1)
-      → Refused FileGoesOn number ≡ answered n m (askRows m [] 1 n (linesOf rows))
-  walk-goes-on more number k =
-      sym (ap (answered n m)
-      (last
-      ∙ ap (λ x. onLine (rowLine (suc n)) (ask x FileGoesOn Asked.Passed) filePassed)
-      (ap (λ x. nothingMore (partsAt lineFeed x)) (drop-cons rows at 0 more) ∙ more-than-nothing (getD rows at 0) (drop (suc at) rows)))
-      ∙ ap (Refused FileGoesOn) (line-number n number k))
-
-  -- it ends
-  pub walk-ends : length rows ≤ at → Accepted n m ≡ answered n m (askRows m [] 1 n (linesOf rows))
-  unfolding nothingMore partsAt
-  walk-ends end =
-      sym (ap (answered n m)
-      (last ∙ ap (λ x. onLine (rowLine (suc n)) (ask (nothingMore (partsAt lineFeed x)) FileGoesOn Asked.Passed) filePassed)
-      (drop-of-length-le rows end)))
+-- all rows passed: what follows them decides
+pub walk-ended : (rows : List ℕ) (header : Header) (first : ℕ) (starts : List ℕ) (at done : ℕ) → RowsLeft rows header first starts at done
+    → header .n ≤ done → RowsAsked rows header first (Ended at (first + header .n))
+unfolding askRows linesOf
+walk-ended rows header first starts at done walk h =
+    let all : done ≡ header .n = let some = walk .some in omega arith in
+    let none : header .n - done ≡ 0 = omega arith in
+    record {
+      says =
+          λ follow.
+          sym (walk .decide follow
+          ∙ ap₂ (λ count lines. askRows header (namesPassed rows starts done) (first + done) count lines follow) none
+          (from-within lineFeed rows at (walk .inside))
+          ∙ ap (λ k. follow (first + k) (partsAt lineFeed (drop at rows))) all);
+    }

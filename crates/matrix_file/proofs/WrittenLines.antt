@@ -16,7 +16,8 @@ use Rattle.lists.proofs.Stripes.{length-stripes, stripes-snoc}
 use Rattle.matrix.specs.Shape.{columns}
 use Rattle.matrix_file.specs.Bytes.{tab, lineFeed, firstPart, behindPart}
 use Rattle.matrix_file.specs.Decimal.{codeForm, codeOf}
-use Rattle.matrix_file.specs.Reading.{linesOf, fieldsOf, nameIn, codesIn}
+use Rattle.matrix_file.specs.Lines.{linesOf, fieldsOf}
+use Rattle.matrix_file.specs.Rows.{nameIn, codesIn}
 use Rattle.matrix_file.specs.Walk.{RowsFormed}
 use Rattle.matrix_file.specs.Written.{nameSize}
 use Rattle.matrix_file.proofs.FileLength.{name-length}

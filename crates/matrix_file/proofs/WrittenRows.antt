@@ -2,7 +2,7 @@
 use mathlib.Core.Path.{_≡_, refl, ap, ap₂, _∙_}
 use mathlib.Core.List.{List, [], _∷_, _++_, map, zipWith}
 use mathlib.Core.Bool.{true}
-use Prim.Native.Nat.{ℕ, suc}
+use Prim.Native.Nat.{ℕ, suc, _+_}
 use native.Mathlib.Omega.{arith}
 use lib.IntN.{ℤ}
 use lib.ListN.{length, length-map}
@@ -10,11 +10,14 @@ use borrow.Author.Tests.{eq-eqb, eqb-true}
 use Rattle.matrix.specs.Shape.{inRange}
 use Rattle.matrix.specs.Questions.{allInRange}
 use Rattle.matrix.specs.declared.refusal.Asked.the-variants.{Passed}
+use Rattle.matrix.specs.Outcomes.{Outcome}
+use Rattle.matrix_file.specs.declared.answer.Header.{Header}
 use Rattle.lists.specs.Tests.{every}
 use Rattle.matrix_file.specs.Bytes.{lineFeed}
 use Rattle.matrix_file.specs.Decimal.{decimal, codeOf}
 use Rattle.matrix_file.specs.Job.{nameForm, hasCodes, rowText}
-use Rattle.matrix_file.specs.Reading.{fieldsOf, nameIn, codesIn, askCodes, askRow, askRows, nothingMore, filePassed}
+use Rattle.matrix_file.specs.Lines.{fieldsOf}
+use Rattle.matrix_file.specs.Rows.{nameIn, codesIn, askCodes, askRow, askRows}
 use Rattle.lists.proofs.Both.{and-left, and-right}
 use Rattle.lists.proofs.Every.{every-head, every-tail, every-cons}
 use Rattle.matrix_file.proofs.Parts.{lacks}
@@ -61,21 +64,22 @@ module _ (name : List ℕ) (codes : List ℤ) (formed : nameForm name ≡ true) 
   row-lacks = line-lacks name (map decimal codes) fields-plain
 
 -- a row's line passes its questions
-pub row-passes : (m : ℕ) (earlier : List (List ℕ)) (name : List ℕ) (codes : List ℤ)
-    → RowWithin m earlier name codes → askRow m earlier (rowText name codes) ≡ Passed
+pub row-passes : (header : Header) (earlier : List (List ℕ)) (name : List ℕ) (codes : List ℤ)
+    → RowWithin (header .m) earlier name codes → askRow header earlier (rowText name codes) ≡ Passed
 unfolding askRow hasCodes nameIn
-row-passes m earlier name codes within =
-    let count : length (map decimal codes) ≡ m = length-map codes decimal ∙ eqb-true (length codes) m (within .full) in
-    let same = eq-eqb (suc (length (map decimal codes))) (suc m) (ap suc count) in
+row-passes header earlier name codes within =
+    let count : length (map decimal codes) ≡ header .m = length-map codes decimal ∙ eqb-true (length codes) (header .m) (within .full) in
+    let same = eq-eqb (suc (length (map decimal codes))) (suc (header .m)) (ap suc count) in
     rw (row-fields name codes (within .formed), same, within .formed, within .apart) (codes-pass codes (within .near))
 
 -- the questions of a row that passes leave those of the rows behind it
-rows-step : (m : ℕ) (earlier : List (List ℕ)) (k left : ℕ) (line : List ℕ) (lines : List (List ℕ))
-    → askRow m earlier line ≡ Passed
-    → askRows m earlier k (suc left) (line ∷ lines ++ ([] ∷ [])) ≡ askRows m (nameIn line ∷ earlier) (suc k) left (lines ++ ([] ∷ []))
+rows-step : {A : Type 0} (header : Header) (earlier : List (List ℕ)) (line left : ℕ) (row : List ℕ) (rows : List (List ℕ)) (next : List ℕ)
+    (others : List (List ℕ)) (follow : ℕ → List (List ℕ) → Outcome A) → askRow header earlier row ≡ Passed
+    → askRows header earlier line (suc left) (row ∷ rows ++ next ∷ others) follow
+    ≡ askRows header (nameIn row ∷ earlier) (suc line) left (rows ++ next ∷ others) follow
 unfolding askRows
-rows-step m earlier k left line [] e = rw e
-rows-step m earlier k left line (next ∷ lines) e = rw e
+rows-step header earlier line left row [] next others follow e = rw e
+rows-step header earlier line left row (second ∷ rows) next others follow e = rw e
 
 -- the lines of rows hold no line feed
 pub rows-lack : (names : List (List ℕ)) (rows : List (List ℤ)) → every nameForm names ≡ true
@@ -88,19 +92,23 @@ rows-lack (name ∷ names) (codes ∷ rows) e =
     (row-lacks name codes (every-head nameForm name names e))
     (rows-lack names rows (every-tail nameForm name names e))
 
--- rows within the limits pass their questions, and the file ends behind them
-pub rows-pass : (m : ℕ) (earlier : List (List ℕ)) (k : ℕ) (names : List (List ℕ)) (rows : List (List ℤ))
-    → RowsWithin m earlier names rows
-    → askRows m earlier k (length names) (zipWith rowText names rows ++ ([] ∷ [])) ≡ filePassed
-unfolding zipWith askRows nothingMore
-rows-pass m earlier k [] rows within = refl
-rows-pass m earlier k (name ∷ names) [] within = absurd (omega arith)
-rows-pass m earlier k (name ∷ names) (codes ∷ rows) within =
+-- rows within the limits pass their questions, and what stands behind them decides
+pub rows-pass : {A : Type 0} (header : Header) (earlier : List (List ℕ)) (line : ℕ) (names : List (List ℕ)) (rows : List (List ℤ))
+    (next : List ℕ) (others : List (List ℕ)) (follow : ℕ → List (List ℕ) → Outcome A) → RowsWithin (header .m) earlier names rows
+    → askRows header earlier line (length names) (zipWith rowText names rows ++ next ∷ others) follow
+    ≡ follow (line + length names) (next ∷ others)
+unfolding zipWith askRows
+rows-pass header earlier line [] rows next others follow within = let number : line ≡ line + 0 = omega arith in ap (λ k. follow k (next ∷ others)) number
+rows-pass header earlier line (name ∷ names) [] next others follow within = absurd (omega arith)
+rows-pass header earlier line (name ∷ names) (codes ∷ rows) next others follow within =
     let first = rows-first within in
-    rows-step m earlier k (length names) (rowText name codes) (zipWith rowText names rows) (row-passes m earlier name codes first)
-    ∙ ap (λ said. askRows m (said ∷ earlier) (suc k) (length names) (zipWith rowText names rows ++ ([] ∷ [])))
+    let number : suc line + length names ≡ line + suc (length names) = omega arith in
+    rows-step header earlier line (length names) (rowText name codes) (zipWith rowText names rows) next others follow
+    (row-passes header earlier name codes first)
+    ∙ ap (λ said. askRows header (said ∷ earlier) (suc line) (length names) (zipWith rowText names rows ++ next ∷ others) follow)
     (row-name name codes (first .formed))
-    ∙ rows-pass m (name ∷ earlier) (suc k) names rows (rows-others within)
+    ∙ rows-pass header (name ∷ earlier) (suc line) names rows next others follow (rows-others within)
+    ∙ ap (λ k. follow k (next ∷ others)) number
 
 -- names and codes are read back from the rows' lines
 pub names-back : {m : ℕ} {earlier : List (List ℕ)} (names : List (List ℕ)) (rows : List (List ℤ)) → RowsWithin m earlier names rows

@@ -1,12 +1,13 @@
 // Bytes of ASCII and parts of a text.
 ghost use mathlib.Core.Path.{_≡_};
-ghost use Prim.Native.Nat.{_+_};
+ghost use Prim.Native.Nat.{_+_, _<_};
 ghost use mathlib.Core.Bool.{_&&_};
 ghost use lib.Dec.{leb, eqb};
 ghost use lib.ListN.{length, drop};
 ghost use Rattle.lists.specs.Tests.{every, sameNumbers as sameText};
 ghost use Rattle.matrix_file.specs.Bytes.{isDigit, isLetter, partsAt, partLength, firstPart, behindPart};
 ghost use Rattle.matrix_file.specs.Job.{inName};
+ghost use Rattle.matrix_file.specs.Lines.{linesOf};
 ghost use Rattle.matrix_file.specs.Walk.{inAlphabet};
 
 pub(crate) const TAB: u8 = 9;
@@ -149,4 +150,18 @@ pub(crate) fn behind_part(text: &[u8], separator: u8) -> &[u8]
 {
     let end = part_length(text, separator);
     rest_from(text, end + 1)
+}
+
+// What stands behind the first `count` lines of a text that goes on behind them.
+pub(crate) fn behind_lines(text: &[u8], count: usize) -> &[u8]
+    requires { ⌜ count < length (linesOf (now text)) ⌝ }
+    ensures { λ r. ⌜ linesOf (now r) ≡ drop count (linesOf (now (text .entry))) ⌝ }
+{
+    let mut at = 0;
+    let mut passed = 0;
+    while passed < count {
+        at = at + part_length(rest_from(text, at), LINE_FEED) + 1;
+        passed += 1;
+    }
+    rest_from(text, at)
 }

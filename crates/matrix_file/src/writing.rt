@@ -15,7 +15,8 @@ ghost use lib.ListN.{length, getD, take};
 ghost use Rattle.lists.specs.Over.{over, stripes};
 ghost use Rattle.lists.specs.Tests.{every};
 ghost use Rattle.matrix_file.specs.Decimal.{codeForm, codeOf};
-ghost use Rattle.matrix_file.specs.Reading.{fieldsOf, linesOf, codesIn};
+ghost use Rattle.matrix_file.specs.Lines.{linesOf, fieldsOf};
+ghost use Rattle.matrix_file.specs.Rows.{codesIn};
 ghost use Rattle.matrix_file.specs.Walk.{RowsFormed, paddedIn};
 ghost use Rattle.matrix_file.specs.Written.{padded};
 

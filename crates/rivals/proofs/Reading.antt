@@ -1,5 +1,5 @@
 -- After an accepted read the lent matrix has the rows of the file, so the claim about the file is the claim about the matrix.
-use mathlib.Core.Path.{_≡_, sym, ap, _∙_}
+use mathlib.Core.Path.{_≡_, sym, ap, _∙_, subst, subst⁻¹}
 use mathlib.Core.List.{List, []}
 use Prim.Native.Nat.{ℕ, _+_, _-_, _<_}
 use native.Mathlib.Omega.{arith}
@@ -10,7 +10,7 @@ use Rattle.matrix.specs.NodeRows.{rowsOf}
 use Rattle.matrix.specs.Shape.{matrixSize}
 use Rattle.matrix.proofs.Passing.{matrix-passes}
 use Rattle.matrix_file.specs.Job.{Job, JobWithinLimits}
-use Rattle.matrix_file.specs.Reading.{jobIn}
+use Rattle.matrix_file.specs.declared.answer.Header.{Header}
 use Rattle.matrix_file.specs.Report.{ReadDone}
 use Rattle.matrix_file.specs.Written.{matrixWritten}
 use Rattle.matrix_file.specs.declared.answer.Read.{Read}
@@ -40,10 +40,12 @@ read-rows job within old full =
         ∙ ap (λ k. getD (job .rows) k []) place
 
 -- no rival does better on a matrix that the call has read
-pub no-rival-read : (file : List ℕ) (oldMatrix : List ℤ) (oldNames : List ℕ) (newMatrix : List ℤ) (newNames : List ℕ) (r : Read) (n m : ℕ)
-    → ReadDone file oldMatrix oldNames newMatrix newNames r → r ≡ Read.Accepted n m → NoRivalDoesBetter n m (rowsOf newMatrix m n)
-no-rival-read file oldMatrix oldNames newMatrix newNames r n m done e =
-    let accepting = read-accepting file oldMatrix oldNames newMatrix newNames r n m done e in
-    let lent = job-lent (jobIn file) (accepting .within) oldMatrix (accepting .full) in
-    rw (accepting .matrix, sym (accepting .taxa), sym (accepting .characters))
-    (no-rival _ _ _ (matrixLent _ _ _ (matrix-passes _ _ _ .1 lent)))
+pub no-rival-read : (file : List ℕ) (oldMatrix : List ℤ) (oldNames : List ℕ) (newMatrix : List ℤ) (newNames : List ℕ) (r : Read)
+    (header : Header) → ReadDone file oldMatrix oldNames newMatrix newNames r → r ≡ Read.Accepted header
+    → NoRivalDoesBetter (header .n) (header .m) (rowsOf newMatrix (header .m) (header .n))
+no-rival-read file oldMatrix oldNames newMatrix newNames r header done e =
+    let accepting = read-accepting file oldMatrix oldNames newMatrix newNames r header done e in
+    let lent = job-lent (accepting .job) (accepting .within) oldMatrix (accepting .full) in
+    subst (λ said. NoRivalDoesBetter (said .n) (said .m) (rowsOf newMatrix (said .m) (said .n))) (accepting .says)
+    (subst⁻¹ (λ matrix. NoRivalDoesBetter (accepting .job .n) (accepting .job .m) (rowsOf matrix (accepting .job .m) (accepting .job .n)))
+    (accepting .matrix) (no-rival _ _ _ (matrixLent _ _ _ (matrix-passes _ _ _ .1 lent))))

@@ -17,7 +17,8 @@ use Rattle.lists.proofs.Every.{every-at, every-from, every-append}
 use Rattle.matrix.proofs.Passing.{matrix-passes, true-oneTo}
 use Rattle.matrix.proofs.Row.{row-length}
 use Rattle.matrix_file.specs.Job.{Job, hasCodes}
-use Rattle.matrix_file.specs.Reading.{readAnswer, accepted}
+use Rattle.matrix.specs.Outcomes.{value}
+use Rattle.matrix_file.specs.Reading.{readAnswer}
 use Rattle.matrix_file.proofs.FileOfRead.{file-of-read}
 use Rattle.wagner.proofs.Lengths.{OfLength}
 use Rattle.wagner.proofs.Matrix.{length-rowsOf, rowOf-rowsOf}
@@ -43,7 +44,7 @@ pub record MatrixRows (n m : ℕ) (rows : List (List ℤ)) : Type 0 where
   pub codes : CodeRows m rows
 
 -- such are the rows of a file that a read accepts
-rows-read : (file : List ℕ) (job : Job) → readAnswer file ≡ accepted job → MatrixRows (job .n) (job .m) (job .rows)
+rows-read : (file : List ℕ) (job : Job) → readAnswer file ≡ value job → MatrixRows (job .n) (job .m) (job .rows)
 rows-read file job e =
     let within = file-of-read file job e .0 in
     record {

@@ -10,7 +10,8 @@ use lib.ListN.{length, drop}
 use mir.Facts.{toZ-ofZ}
 use Rattle.matrix_file.specs.Bytes.{tab, firstPart}
 use Rattle.matrix_file.specs.Decimal.{codeForm, codeOf}
-use Rattle.matrix_file.specs.Reading.{fieldsOf, askCodes}
+use Rattle.matrix_file.specs.Lines.{fieldsOf}
+use Rattle.matrix_file.specs.Rows.{askCodes}
 use Rattle.matrix_file.proofs.PartsFrom.{partsFrom, from-start, from-past, from-next, next-within}
 use Rattle.matrix.specs.declared.refusal.Asked.{Asked}
 use Rattle.matrix.specs.declared.refusal.Asked.the-variants.{Passed, Refused}

@@ -13,7 +13,7 @@ use Rattle.matrix_file.proofs.LinesWalk.{rest-below, rest-at, rest-next
 use Rattle.matrix_file.proofs.PartsFrom.{partsFrom, from-start, from-past, from-next, next-within}
 use Rattle.matrix_file.specs.Bytes.{tab, firstPart}
 use Rattle.matrix_file.specs.Decimal.{codeForm, codeOf}
-use Rattle.matrix_file.specs.Reading.{fieldsOf}
+use Rattle.matrix_file.specs.Lines.{fieldsOf}
 use Rattle.lists.specs.Over.{over}
 use Rattle.lists.proofs.Over.{over-nothing}
 use Rattle.matrix_file.proofs.WrittenLines.{over-next, over-all}

@@ -1,4 +1,4 @@
--- `matrix_file::judging::first_form` meets its contract: each answer follows from the tests that led to it. Assumes nothing.
+-- `matrix_file::header::first_form` meets its contract: each answer follows from the tests that led to it. Assumes nothing.
 use mathlib.Core.Path.{_≡_, sym, ap, _∙_}
 use mathlib.Core.Bool.{Bool, true, false, not, _&&_}
 use mathlib.Core.List.{List}
@@ -10,10 +10,11 @@ use lib.ListN.{length}
 use Rattle.lists.specs.Tests.{sameNumbers as sameText}
 use Rattle.matrix_file.specs.Bytes.{tab, wordW, partsAt, firstPart, behindPart}
 use Rattle.matrix_file.specs.Decimal.{numberForm}
-use Rattle.matrix_file.specs.Reading.{fieldsOf, firstForm}
+use Rattle.matrix_file.specs.Lines.{fieldsOf}
+use Rattle.matrix_file.specs.Header.{firstForm}
 use Rattle.matrix_file.proofs.Fields.{second, third, first-form-count, first-form-three}
-use Rattle.matrix_file.proofs.judging.first_form.Statement.{statement}
-use Rattle.matrix_file.proofs.judging.first_form.Tie as tie
+use Rattle.matrix_file.proofs.header.first_form.Statement.{statement}
+use Rattle.matrix_file.proofs.header.first_form.Tie as tie
 
 -- another number of tabs than two
 not-three : (line : List ℕ) (count : ℕ) → count + 1 ≡ length (partsAt tab line) → (count ≡ 2 → ⊥) → false ≡ firstForm (fieldsOf line)
