@@ -1,4 +1,4 @@
--- Document 01's example file and its further edges, read; and one refusal of each number 1 to 11 with its line.
+-- Document 01's example file and its further edges, read; one refusal of each number 1 to 11 with its line; and reads into lent lists.
 use mathlib.Core.Path.{_≡_, refl}
 use mathlib.Core.List.{List, [], _∷_, _++_, map, zipWith}
 use Prim.Native.Nat.{ℕ}
@@ -17,8 +17,12 @@ use Rattle.matrix_file.specs.Lines.{linesOf, fieldsOf}
 use Rattle.matrix_file.specs.Header.{headerIn, firstForm, firstLineForm, askFirstLine, askHeader}
 use Rattle.matrix_file.specs.Rows.{nameIn, codesIn, askCodes, askRow, askRows}
 use Rattle.matrix_file.specs.Reading.{jobOf, nothingMore, askEnd, askBehind, askFile, askLength, readAnswer}
+use Rattle.matrix_file.specs.Report.{readSays, withHeader, fullSize, readOutcome}
+use Rattle.matrix_file.specs.declared.answer.Header.{Header}
+use Rattle.matrix_file.specs.declared.answer.Read.the-variants.{Accepted, Refused}
+use Rattle.matrix.specs.declared.refusal.Refusal.the-variants.{NameTaken}
 use Rattle.matrix_file.specs.Text.{bytes}
-use Rattle.matrix_file.specs.Written.{padded, matrixWritten}
+use Rattle.matrix_file.specs.Written.{padded, matrixWritten, namesWritten}
 use Rattle.lists.specs.Over.{over, stripes}
 use Rattle.lists.specs.Filled.{filled}
 
@@ -50,7 +54,7 @@ example = refl
 one-code : ℤ → Outcome Job
 one-code code = value (record { n = 1; m = 1; names = (65 ∷ []) ∷ []; rows = (code ∷ []) ∷ [] })
 
--- the refusals 2 to 11: a file, and the number and refused that refuse it
+-- the refusals 2 to 11: a file, and the number and line that refuse it
 refusals : List (String × Outcome Job)
 refusals =
     ("", refused 2 0)
@@ -65,8 +69,8 @@ refusals =
     ∷ ("W\t1\t1\nA\t0\n\n", refused 11 3)
     ∷ []
 
--- the further edges: 999 and -999 pass, 1000 is 10, 1000000 and `-0` are 9, a missing last refused feed is 5,
--- a bad name with too few codes is 8
+-- the further edges: 999 and -999 pass, 1000 is 10, 1000000 and `-0` are 9; as n, 999999 is 4 and 1000000 is 3; a missing line feed is 3
+-- on line 1 and 5 on a row; a carriage return fails the question of its field; a bad name with too few codes is 8
 edges : List (String × Outcome Job)
 edges =
     ("W\t1\t1\nA\t999\n", one-code (pos 999))
@@ -74,7 +78,13 @@ edges =
     ∷ ("W\t1\t1\nA\t1000\n", refused 10 2)
     ∷ ("W\t1\t1\nA\t1000000\n", refused 9 2)
     ∷ ("W\t1\t1\nA\t-0\n", refused 9 2)
+    ∷ ("W\t999999\t1\nA\t0\n", refused 4 1)
+    ∷ ("W\t1000000\t1\nA\t0\n", refused 3 1)
+    ∷ ("W\t1\t1", refused 3 1)
     ∷ ("W\t1\t1\nA\t0", refused 5 2)
+    ∷ ("W\t1\t1\r\nA\t0\r\n", refused 3 1)
+    ∷ ("W\t1\t1\nA\r\t0\n", refused 6 2)
+    ∷ ("W\t1\t1\nA\t0\r\n", refused 9 2)
     ∷ ("W\t1\t2\n1A\t0\n", refused 8 2)
     ∷ []
 
@@ -129,3 +139,47 @@ two-rows : matrixWritten ((pos 1 ∷ pos 2 ∷ []) ∷ (pos 3 ∷ []) ∷ []) (r
     ≡ pos 1 ∷ pos 2 ∷ replicate 126 (pos 9) ++ pos 3 ∷ replicate 2 (pos 9)
 unfolding over stripes
 two-rows = refl
+
+-- names written into a list: each padded to its 16 bytes, and behind them all as before
+two-names : namesWritten ((65 ∷ []) ∷ (66 ∷ 67 ∷ []) ∷ []) (replicate 34 9)
+    ≡ 65 ∷ replicate 15 0 ++ 66 ∷ 67 ∷ replicate 14 0 ++ replicate 2 9
+unfolding over stripes filled
+two-names = refl
+
+-- what an answer says: a header, and a refusal with its line
+accepted-says : readSays (Accepted (record { n = 4; m = 3 })) ≡ value (record { n = 4; m = 3 })
+accepted-says = refl
+
+refused-says : readSays (Refused NameTaken 4) ≡ refused 7 4
+refused-says = refl
+
+-- a file read into a matrix of so many codes and a list of names of so many bytes
+readInto : List ℕ → ℕ → ℕ → Outcome Header
+unfolding read readOutcome fullSize
+readInto file codes names = withHeader (readOutcome file (replicate codes (pos 0)) (replicate names 0))
+
+-- lists of full size: the file decides
+full-size : readInto (bytes "W\t1\t2\nA\t0\t1\n") 16128 1024 ≡ value (record { n = 1; m = 2 })
+unfolding readInto bytes
+full-size = refl
+
+full-size-refused : readInto (bytes "W\t1\t2\nA\t0\n") 16128 1024 ≡ refused 8 2
+unfolding readInto bytes
+full-size-refused = refl
+
+-- names that are a byte too short or too long, and a matrix that is a code too short or too long: 12 with line 0, whatever the file holds
+names-short : (file : List ℕ) → readInto file 16128 1023 ≡ refused 12 0
+unfolding readInto
+names-short file = refl
+
+names-long : (file : List ℕ) → readInto file 16128 1025 ≡ refused 12 0
+unfolding readInto
+names-long file = refl
+
+matrix-short : (file : List ℕ) → readInto file 16127 1024 ≡ refused 12 0
+unfolding readInto
+matrix-short file = refl
+
+matrix-long : (file : List ℕ) → readInto file 16129 1024 ≡ refused 12 0
+unfolding readInto
+matrix-long file = refl

@@ -23,10 +23,14 @@ pub record Job : Type 0 where
 unfoldable pub inName : ℕ → Bool
 inName byte = isLetter byte || (isDigit byte || eqb byte underscore)
 
+-- a name has at most 16 bytes
+abbrev pub nameSize : ℕ
+nameSize = 16
+
 -- a name has 1 to 16 bytes: a letter first, then letters, digits or `_`
 unfoldable pub nameForm : List ℕ → Bool
 nameForm [] = false
-nameForm (byte ∷ bytes) = isLetter byte && (every inName bytes && leb (length (byte ∷ bytes)) 16)
+nameForm (byte ∷ bytes) = isLetter byte && (every inName bytes && leb (length (byte ∷ bytes)) nameSize)
 
 -- a name differs from every one of a list
 unfoldable pub differsFromAll : List ℕ → List (List ℕ) → Bool

@@ -5,12 +5,9 @@ use lib.IntN.{ℤ}
 use Rattle.lists.specs.Filled.{filled}
 use Rattle.lists.specs.Over.{stripes}
 use Rattle.matrix.specs.Shape.{columns}
+use Rattle.matrix_file.specs.Job.{nameSize}
 
--- a name in the lent list of names has 16 bytes
-abbrev pub nameSize : ℕ
-nameSize = 16
-
--- 64 names
+-- the lent list of names: 64 names of 16 bytes each
 abbrev pub namesSize : ℕ
 namesSize = 1024
 

@@ -15,7 +15,7 @@ use Rattle.matrix_file.specs.Report.{ReadDone}
 use Rattle.matrix_file.specs.Written.{matrixWritten}
 use Rattle.matrix_file.specs.declared.answer.Read.{Read}
 use Rattle.matrix_file.specs.declared.answer.Read.the-variants as Read
-use Rattle.matrix_file.proofs.ReadLists.{job-row, job-lent, read-accepting}
+use Rattle.matrix_file.proofs.Lists.ReadLists.{job-row, job-lent, read-accepting}
 use Rattle.wagner.proofs.Matrix.{length-rowsOf}
 use Rattle.rivals.specs.Accepted.{matrixLent}
 use Rattle.rivals.specs.Demand.{NoRivalDoesBetter}

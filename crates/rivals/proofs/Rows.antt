@@ -19,7 +19,7 @@ use Rattle.matrix.proofs.Row.{row-length}
 use Rattle.matrix_file.specs.Job.{Job, hasCodes}
 use Rattle.matrix.specs.Outcomes.{value}
 use Rattle.matrix_file.specs.Reading.{readAnswer}
-use Rattle.matrix_file.proofs.FileOfRead.{file-of-read}
+use Rattle.matrix_file.proofs.File.FileOfRead.{file-of-read}
 use Rattle.wagner.proofs.Lengths.{OfLength}
 use Rattle.wagner.proofs.Matrix.{length-rowsOf, rowOf-rowsOf}
 use Rattle.rivals.specs.Accepted.{CodeRows, Accepted, fileRead, matrixLent}

@@ -3,7 +3,7 @@
 use Prim.Native.Nat.{_+_, _-_}
 use native.Mathlib.Omega.{arith}
 use borrow.Author.Needs.{needs}
-use Rattle.matrix_file.proofs.LinesWalk.{LinesLeft, lines-start, line-behind, lines-behind}
+use Rattle.matrix_file.proofs.Lists.LinesWalk.{LinesLeft, lines-start, line-behind, lines-behind}
 use Rattle.matrix_file.proofs.bytes.behind_lines.Statement.{statement}
 use Rattle.matrix_file.proofs.bytes.behind_lines.Tie as tie
 

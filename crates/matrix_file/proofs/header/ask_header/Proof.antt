@@ -3,7 +3,7 @@ use mathlib.Core.Path.{sym, ap, _∙_}
 use borrow.Author.Tests.{not-false}
 use borrow.Author.Needs.{needs}
 use Rattle.matrix_file.specs.Report.{readSays}
-use Rattle.matrix_file.proofs.FileWalk.{no-feed, bad-first, beyond, header-found}
+use Rattle.matrix_file.proofs.File.FileWalk.{no-feed, bad-first, beyond, header-found}
 use Rattle.matrix_file.proofs.header.ask_header.Statement.{statement}
 use Rattle.matrix_file.proofs.header.ask_header.Tie as tie
 

@@ -4,7 +4,7 @@ use borrow.Author.Needs.{needs}
 use Rattle.matrix_file.specs.Bytes.{tab, firstPart, behindPart}
 use Rattle.matrix_file.specs.Decimal.{numberForm, numberOf}
 use Rattle.matrix_file.specs.Header.{headerFrom}
-use Rattle.matrix_file.proofs.Fields.{first-formed}
+use Rattle.matrix_file.proofs.Text.Fields.{first-formed}
 use Rattle.matrix_file.proofs.header.header_from.Statement.{statement}
 use Rattle.matrix_file.proofs.header.header_from.Tie as tie
 

@@ -2,7 +2,7 @@
 -- Assumes nothing.
 use mathlib.Core.Path.{ap, _∙_}
 use Rattle.matrix_file.specs.Report.{readSays}
-use Rattle.matrix_file.proofs.FileWalk.{rows-refused, rows-ended}
+use Rattle.matrix_file.proofs.File.FileWalk.{rows-refused, rows-ended}
 use borrow.Author.Needs.{needs}
 use Rattle.matrix_file.proofs.judging.ask_behind.Statement.{statement}
 use Rattle.matrix_file.proofs.judging.ask_behind.Tie as tie

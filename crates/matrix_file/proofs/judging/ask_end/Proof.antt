@@ -1,5 +1,5 @@
 -- `matrix_file::judging::ask_end` meets its contract: the file ends where no byte is left. Assumes nothing.
-use Rattle.matrix_file.proofs.FileWalk.{goes-on, ends}
+use Rattle.matrix_file.proofs.File.FileWalk.{goes-on, ends}
 use Rattle.matrix_file.proofs.judging.ask_end.Statement.{statement}
 use Rattle.matrix_file.proofs.judging.ask_end.Tie as tie
 

@@ -1,7 +1,7 @@
 -- `matrix_file::judging::ask_file` meets its contract: each answer follows from the questions that led to it. Assumes nothing.
 use mathlib.Core.Path.{ap, _∙_}
 use Rattle.matrix_file.specs.Report.{readSays}
-use Rattle.matrix_file.proofs.FileWalk.{too-long, empty, header-refused, header-several, header-limits, behind-decides}
+use Rattle.matrix_file.proofs.File.FileWalk.{too-long, empty, header-refused, header-several, header-limits, behind-decides}
 use borrow.Author.Needs.{needs}
 use Rattle.matrix_file.proofs.judging.ask_file.Statement.{statement}
 use Rattle.matrix_file.proofs.judging.ask_file.Tie as tie

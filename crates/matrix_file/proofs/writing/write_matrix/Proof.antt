@@ -4,8 +4,8 @@ use Prim.Native.Nat.{_+_, _-_, _*_, _≤_}
 use native.Mathlib.Omega.{arith}
 use borrow.Author.Needs.{needs}
 use lib.ListN.{length}
-use Rattle.matrix_file.proofs.LinesWalk.{RowFormed, line-formed, line-ended}
-use Rattle.matrix_file.proofs.WrittenLines.{codes-formed, codes-few, codes-said, part-room, ItemsWritten, items-start, items-next, items-all}
+use Rattle.matrix_file.proofs.Lists.LinesWalk.{RowFormed, line-formed, line-ended}
+use Rattle.matrix_file.proofs.Lists.WrittenLines.{codes-formed, codes-few, codes-said, part-room, ItemsWritten, items-start, items-next, items-all}
 use Rattle.matrix_file.specs.Rows.{codesIn}
 use Rattle.matrix.specs.Shape.{columns}
 use Rattle.matrix_file.proofs.writing.write_matrix.Statement.{statement}

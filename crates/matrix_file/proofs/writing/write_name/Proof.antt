@@ -1,36 +1,14 @@
 -- `matrix_file::writing::write_name` meets its contract. The loop's invariant: the bytes passed are those of the padded name.
 -- Assumes nothing.
-use mathlib.Core.Path.{_≡_, refl, sym, ap₂, _∙_}
-use mathlib.Core.List.{List}
-use Prim.Native.Nat.{ℕ, _+_, _-_, _≤_, _<_}
+use mathlib.Core.Path.{refl, sym}
+use Prim.Native.Nat.{_-_}
 use native.Mathlib.Omega.{arith}
 use borrow.Author.Needs.{needs}
-use lib.ListN.{length, getD, take, set, length-set}
-use Rattle.lists.specs.Over.{over}
 use Rattle.lists.proofs.Over.{over-nothing}
-use Rattle.lists.proofs.Filled.{filled-at, length-filled}
-use Rattle.matrix_file.specs.Written.{padded, nameSize}
-use Rattle.matrix_file.proofs.WrittenLines.{over-next, over-all}
+use Rattle.matrix_file.specs.Job.{nameSize}
+use Rattle.matrix_file.proofs.Lists.NameWritten.{Padded, one-more, all-written}
 use Rattle.matrix_file.proofs.writing.write_name.Statement.{statement}
 use Rattle.matrix_file.proofs.writing.write_name.Tie as tie
-
--- what a loop that writes a name knows at place i: the first i bytes are those of the padded name
-abbrev Padded : List ℕ → List ℕ → List ℕ → ℕ → Type 0
-Padded old name out i = (i ≤ nameSize) × (length out ≡ length old) × (out ≡ over 0 (take i (padded name)) old)
-
--- one byte more
-one-more : (old name out : List ℕ) (i byte : ℕ) → Padded old name out i → i < nameSize → length name ≤ nameSize → byte ≡ getD name i 0
-    → Padded old name (set out i byte) (i + 1)
-one-more old name out i byte inv h short e = (
-  omega arith,
-  length-set out i byte ∙ inv .1,
-  ap₂ (λ xs x. set xs i x) (inv .2) (e ∙ sym (filled-at 0 nameSize name i))
-      ∙ over-next 0 (padded name) old i (omega (arith, length-filled 0 nameSize name short)),
-)
-
--- all bytes
-all-written : (old name out : List ℕ) (i : ℕ) → Padded old name out i → nameSize ≤ i → length name ≤ nameSize → out ≡ over 0 (padded name) old
-all-written old name out i inv h short = inv .2 ∙ over-all (padded name) old i (omega (arith, length-filled 0 nameSize name short))
 
 abbrev Inv-loop : tie.InvT-loop
 Inv-loop out₀ name i₀ out i = Padded out₀ name out i

@@ -22,10 +22,10 @@ use Rattle.matrix_file.specs.Lines.{linesOf, fieldsOf}
 use Rattle.matrix_file.specs.Rows.{nameIn, askRow, askRows}
 use Rattle.matrix_file.specs.Walk.{namesPassed, RowsAsked}
 use Rattle.matrix.proofs.Passing.{ask-passed}
-use Rattle.matrix_file.proofs.Parts.{parts-some}
-use Rattle.matrix_file.proofs.FirstPart.{Parted, whole, shorter, parted, parts-one, first-of-front}
-use Rattle.matrix_file.proofs.PartsFrom.{partsFrom, from-within, from-past, from-start, from-next, next-within}
-use Rattle.matrix_file.proofs.Fields.{name-first}
+use Rattle.matrix_file.proofs.Text.Parts.{parts-some}
+use Rattle.matrix_file.proofs.Text.FirstPart.{Parted, whole, shorter, parted, parts-one, first-of-front}
+use Rattle.matrix_file.proofs.Text.PartsFrom.{partsFrom, from-within, from-past, from-start, from-next, next-within}
+use Rattle.matrix_file.proofs.Text.Fields.{name-first}
 
 -- what a walk knows when it has passed `done` rows and stands at a place: the lines from there on decide, whatever follows the rows
 pub record RowsLeft (rows : List ℕ) (header : Header) (first : ℕ) (starts : List ℕ) (at done : ℕ) : Type 0 where

@@ -16,8 +16,8 @@ use Rattle.matrix_file.specs.Decimal.{decimal}
 use Rattle.matrix_file.specs.Job.{Job, inName, nameForm, hasCodes, JobWithinLimits, firstText, rowText, ended, fileOf}
 use Rattle.matrix_file.specs.Reading.{mostBytes}
 use Rattle.lists.proofs.Both.{and-left, and-right}
-use Rattle.matrix_file.proofs.Digits.{digits-length}
-use Rattle.matrix_file.proofs.Rows.{RowWithin, RowsWithin, rows-first, rows-others, job-rows, limits-high}
+use Rattle.matrix_file.proofs.Decimal.Digits.{digits-length}
+use Rattle.matrix_file.proofs.Rows.Within.{RowWithin, RowsWithin, rows-first, rows-others, job-rows, limits-high}
 
 -- a code from -999 to 999 has at most 4 bytes
 code-length : (code : ℤ) → inRange code ≡ true → length (decimal code) ≤ 4

@@ -20,12 +20,12 @@ use Rattle.matrix_file.specs.Job.{nameForm, differsFromAll, hasCodes, ro
 use Rattle.matrix_file.specs.Lines.{fieldsOf}
 use Rattle.matrix_file.specs.Rows.{nameIn, codesIn, askCodes, askRow, askRows}
 use Rattle.lists.proofs.Both.{and-right, and-both}
-use Rattle.matrix_file.proofs.Parts.{parts-some, joined-parts}
-use Rattle.matrix_file.proofs.Codes.{decimal-of-code}
-use Rattle.matrix_file.proofs.Rows.{RowWithin, RowsWithin, rows-none, rows-more}
+use Rattle.matrix_file.proofs.Text.Parts.{parts-some, joined-parts}
+use Rattle.matrix_file.proofs.Decimal.Codes.{decimal-of-code}
+use Rattle.matrix_file.proofs.Rows.Within.{RowWithin, RowsWithin, rows-none, rows-more}
 use Rattle.matrix.proofs.Passing.{ask-passed, oneTo-true}
 use Rattle.matrix_file.specs.Walk.{rowForm}
-use Rattle.matrix_file.proofs.Asked.{line-passed, not-refused}
+use Rattle.matrix_file.proofs.File.Outcomes.{line-passed, not-refused}
 
 -- codes that pass are from -999 to 999 and written in the one way
 codes-read : (fields : List (List ℕ)) → askCodes fields ≡ Passed

@@ -12,9 +12,9 @@ use Rattle.matrix_file.specs.Header.{headerIn, headerLines, behindHeader
 use Rattle.matrix_file.specs.Rows.{nameIn, codesIn}
 use Rattle.matrix_file.specs.Reading.{jobOf, jobIn, readAnswer}
 use Rattle.matrix_file.specs.Walk.{rowForm, RowsFormed}
-use Rattle.matrix_file.proofs.FileOfRead.{FilePassed, file-passed, file-of-read}
-use Rattle.matrix_file.proofs.HeaderRead.{several-lines}
-use Rattle.matrix_file.proofs.Rows.{limits-high}
+use Rattle.matrix_file.proofs.File.FileOfRead.{FilePassed, file-passed, file-of-read}
+use Rattle.matrix_file.proofs.File.HeaderRead.{several-lines}
+use Rattle.matrix_file.proofs.Rows.Within.{limits-high}
 
 -- a file that is accepted with a job
 module _ (file : List ℕ) (job : Job) (e : readAnswer file ≡ value job) where

@@ -22,13 +22,13 @@ use Rattle.matrix_file.specs.declared.answer.RowsAnswer.{RowsAnswer}
 use Rattle.matrix_file.specs.declared.answer.RowsAnswer.the-variants as RowsAnswer
 use Rattle.matrix_file.specs.Bytes.{lineFeed, beforeFirst, partsAt, partLength, firstPart, behindPart}
 use Rattle.matrix_file.specs.Lines.{linesOf, fieldsOf}
-use Rattle.matrix_file.specs.Header.{headerFrom, headerIn, behindHeader, firstForm, firstLineForm, askFirstLine, askHeader}
+use Rattle.matrix_file.specs.Header.{rowLine, headerFrom, headerIn, behindHeader, firstForm, firstLineForm, askFirstLine, askHeader}
 use Rattle.matrix_file.specs.Reading.{mostBytes, thenWith, jobOf, nothingMore, askEnd, askBehind, askFile, askLength, readAnswer}
 use Rattle.matrix_file.specs.Report.{readSays, withHeader}
 use Rattle.matrix_file.specs.Walk.{headerOn, rowsSay, RowsAsked}
-use Rattle.matrix_file.proofs.HeaderRead.{HeaderPassed, header-passed, several-lines}
-use Rattle.matrix_file.proofs.Parts.{parts-some, parts-at, parts-other}
-use Rattle.matrix_file.proofs.FirstPart.{first-length, part-within, parts-one, parts-more}
+use Rattle.matrix_file.proofs.File.HeaderRead.{HeaderPassed, header-passed, several-lines}
+use Rattle.matrix_file.proofs.Text.Parts.{parts-some, parts-at, parts-other}
+use Rattle.matrix_file.proofs.Text.FirstPart.{first-length, part-within, parts-one, parts-more}
 
 -- what the header's questions bring, where its form is right or not and n and m are within their limits or not
 abbrev headerAsked : Bool → Bool → Header → Outcome Header
@@ -123,7 +123,7 @@ header-on line Asked.Passed header lines = refl
 header-on line (Asked.Refused refusal) header lines = refl
 
 -- what stands behind a header, once its rows have been asked
-module _ (rows : List ℕ) (header : Header) (answer : RowsAnswer) (asked : RowsAsked rows header 2 answer) where
+module _ (rows : List ℕ) (header : Header) (answer : RowsAnswer) (asked : RowsAsked rows header (rowLine header 1) answer) where
   -- the rows are refused
   pub rows-refused : (refusal : Refusal) (line : ℕ) → answer ≡ RowsAnswer.Refused refusal line
       → refused (refusalNumber refusal) line ≡ withHeader (askBehind header (linesOf rows))

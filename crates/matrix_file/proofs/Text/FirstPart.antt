@@ -10,7 +10,7 @@ use lib.Dec.{eqb, ltb}
 use lib.ListN.{length, getD, take, drop, length-take, length-drop, drop-of-length-le}
 use lib.Seq.{drop-cons, take-all, take-length, length-take-le, take-take}
 use Rattle.matrix_file.specs.Bytes.{beforeFirst, partsAt, partLength, firstPart, behindPart}
-use Rattle.matrix_file.proofs.Parts.{parts-at, parts-other, parts-some}
+use Rattle.matrix_file.proofs.Text.Parts.{parts-at, parts-other, parts-some}
 
 -- at a separator the first part is empty
 part-at : (s b : ℕ) (bs : List ℕ) → eqb b s ≡ true → partLength s (b ∷ bs) ≡ 0

@@ -16,14 +16,14 @@ use Rattle.matrix_file.specs.declared.answer.Header.{Header}
 use Rattle.matrix_file.specs.Bytes.{lineFeed, joinedBy}
 use Rattle.matrix_file.specs.Job.{Job, JobWithinLimits, ended, fileOf}
 use Rattle.matrix_file.specs.Lines.{linesOf}
-use Rattle.matrix_file.specs.Header.{headerIn, behindHeader, firstLineForm, askHeader}
+use Rattle.matrix_file.specs.Header.{rowLine, headerIn, behindHeader, firstLineForm, askHeader}
 use Rattle.matrix_file.specs.Rows.{nameIn, codesIn}
 use Rattle.matrix_file.specs.Reading.{mostBytes, jobOf, nothingMore, askEnd, askBehind, askFile, askLength, readAnswer}
 use Rattle.matrix_file.specs.Walk.{rowForm}
-use Rattle.matrix_file.proofs.Asked.{line-passed, then-passed}
-use Rattle.matrix_file.proofs.HeaderRead.{header-passed, lines-split, first-written}
-use Rattle.matrix_file.proofs.Parts.{joined-parts, joined-ended}
-use Rattle.matrix_file.proofs.PassedRows.{RowsRead, rows-read, rows-formed}
+use Rattle.matrix_file.proofs.File.Outcomes.{line-passed, then-passed}
+use Rattle.matrix_file.proofs.File.HeaderRead.{header-passed, lines-split, first-written}
+use Rattle.matrix_file.proofs.Text.Parts.{joined-parts, joined-ended}
+use Rattle.matrix_file.proofs.Rows.PassedRows.{RowsRead, rows-read, rows-formed}
 
 -- nothing behind the last line is one empty part
 nothing-more : (lines : List (List ℕ)) → nothingMore lines ≡ true → lines ≡ [] ∷ []
@@ -44,12 +44,12 @@ pub behind-passed : (header : Header) (lines : List (List ℕ)) (job : Job) → 
     → askBehind header lines ≡ value job → BehindPassed header lines job
 unfolding askBehind askEnd
 behind-passed header lines job limits e =
-    let read = rows-read header [] 2 (header .n) lines (askEnd (value (jobOf header lines))) job e in
-    let end = line-passed (2 + header .n) _ (value (jobOf header lines)) job (read .1) in
+    let read = rows-read header [] (rowLine header 1) (header .n) lines (askEnd (value (jobOf header lines))) job e in
+    let end = line-passed (rowLine header 1 + header .n) _ (value (jobOf header lines)) job (read .1) in
     let none = ask-passed (nothingMore (drop (header .n) lines)) FileGoesOn Passed (end .0) in
     record {
       rows = read .0;
-      formed = rows-formed header [] 2 (header .n) lines (askEnd (value (jobOf header lines))) job limits e;
+      formed = rows-formed header [] (rowLine header 1) (header .n) lines (askEnd (value (jobOf header lines))) job limits e;
       all =
           sym (take-append-drop (header .n) lines)
           ∙ ap (λ behind. take (header .n) lines ++ behind) (nothing-more (drop (header .n) lines) (none .0));

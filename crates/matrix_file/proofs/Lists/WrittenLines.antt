@@ -19,10 +19,10 @@ use Rattle.matrix_file.specs.Decimal.{codeForm, codeOf}
 use Rattle.matrix_file.specs.Lines.{linesOf, fieldsOf}
 use Rattle.matrix_file.specs.Rows.{nameIn, codesIn}
 use Rattle.matrix_file.specs.Walk.{RowsFormed}
-use Rattle.matrix_file.specs.Written.{nameSize}
-use Rattle.matrix_file.proofs.FileLength.{name-length}
-use Rattle.matrix_file.proofs.Fields.{name-first, codes-behind}
-use Rattle.matrix_file.proofs.LinesWalk.{RowFormed, LinesLeft, lines-start, line-more, lines-next}
+use Rattle.matrix_file.specs.Job.{nameSize}
+use Rattle.matrix_file.proofs.File.FileLength.{name-length}
+use Rattle.matrix_file.proofs.Text.Fields.{name-first, codes-behind}
+use Rattle.matrix_file.proofs.Lists.LinesWalk.{RowFormed, LinesLeft, lines-start, line-more, lines-next}
 
 -- a list that is written over from its front, element by element
 module _ {A : Type 0} where

@@ -14,8 +14,8 @@ use Rattle.matrix_file.specs.Job.{inName, nameForm}
 use Rattle.matrix_file.specs.Lines.{fieldsOf}
 use Rattle.lists.proofs.Both.{and-left, and-right, or-cases}
 use Rattle.lists.proofs.Every.{every-head, every-tail, every-cons, every-append, every-weaker}
-use Rattle.matrix_file.proofs.Parts.{lacks, parts-joined}
-use Rattle.matrix_file.proofs.Digits.{digit-low, digits-are-digits}
+use Rattle.matrix_file.proofs.Text.Parts.{lacks, parts-joined}
+use Rattle.matrix_file.proofs.Decimal.Digits.{digit-low, digits-are-digits}
 
 -- every byte of a text is above tab and line feed
 abbrev pub plain : List ℕ → Bool

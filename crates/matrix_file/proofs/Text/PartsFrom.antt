@@ -10,8 +10,8 @@ use lib.Dec.{leb}
 use lib.ListN.{length, drop, length-drop}
 use lib.Seq.{drop-drop}
 use Rattle.matrix_file.specs.Bytes.{partsAt, partLength, firstPart, behindPart}
-use Rattle.matrix_file.proofs.FirstPart.{Parted, whole, shorter, parted, part-within, parts-one, parts-more, first-length}
-use Rattle.matrix_file.proofs.FirstPart.{first-whole}
+use Rattle.matrix_file.proofs.Text.FirstPart.{Parted, whole, shorter, parted, part-within, parts-one, parts-more, first-length}
+use Rattle.matrix_file.proofs.Text.FirstPart.{first-whole}
 
 -- the parts from a place on: none past the end
 pub partsFrom : ℕ → List ℕ → ℕ → List (List ℕ)

@@ -20,11 +20,11 @@ use Rattle.matrix_file.specs.Decimal.{digitsOf, numberForm, numberOf}
 use Rattle.matrix_file.specs.Job.{Job, firstText}
 use Rattle.matrix_file.specs.Lines.{fieldsOf}
 use Rattle.matrix_file.specs.Header.{headerFrom, headerIn, headerOf, firstForm, firstLineForm, askFirstLine, askHeader}
-use Rattle.matrix_file.proofs.Asked.{line-passed}
-use Rattle.matrix_file.proofs.Digits.{digits-of-number, number-of-digits, digits-form}
-use Rattle.matrix_file.proofs.Parts.{lacks, joined-parts}
-use Rattle.matrix_file.proofs.Plain.{plain, digits-plain, line-fields, line-lacks}
-use Rattle.matrix_file.proofs.Rows.{limits-high}
+use Rattle.matrix_file.proofs.File.Outcomes.{line-passed}
+use Rattle.matrix_file.proofs.Decimal.Digits.{digits-of-number, number-of-digits, digits-form}
+use Rattle.matrix_file.proofs.Text.Parts.{lacks, joined-parts}
+use Rattle.matrix_file.proofs.Text.Plain.{plain, digits-plain, line-fields, line-lacks}
+use Rattle.matrix_file.proofs.Rows.Within.{limits-high}
 
 -- fields of line 1 in the right form are `W` and two numbers written in the one way
 first-form-read : (fields : List (List ℕ)) → firstForm fields ≡ true

@@ -11,14 +11,14 @@ use Rattle.matrix.specs.Outcomes.{value}
 use Rattle.matrix_file.specs.Bytes.{lineFeed}
 use Rattle.matrix_file.specs.Job.{Job, JobWithinLimits, firstText, rowText, rowTexts, ended, fileOf}
 use Rattle.matrix_file.specs.Lines.{linesOf}
-use Rattle.matrix_file.specs.Header.{headerOf, behindHeader, askHeader}
+use Rattle.matrix_file.specs.Header.{rowLine, headerOf, behindHeader, askHeader}
 use Rattle.matrix_file.specs.Rows.{nameIn, codesIn, askRows}
 use Rattle.matrix_file.specs.Reading.{mostBytes, thenWith, jobOf, nothingMore, askEnd, askBehind, askFile, askLength, readAnswer}
-use Rattle.matrix_file.proofs.FileLength.{file-short}
-use Rattle.matrix_file.proofs.HeaderRead.{first-lacks, header-passes}
-use Rattle.matrix_file.proofs.Parts.{lacks, parts-ended}
-use Rattle.matrix_file.proofs.Rows.{job-rows}
-use Rattle.matrix_file.proofs.WrittenRows.{rows-lack, rows-pass, names-back, rows-back}
+use Rattle.matrix_file.proofs.File.FileLength.{file-short}
+use Rattle.matrix_file.proofs.File.HeaderRead.{first-lacks, header-passes}
+use Rattle.matrix_file.proofs.Text.Parts.{lacks, parts-ended}
+use Rattle.matrix_file.proofs.Rows.Within.{job-rows}
+use Rattle.matrix_file.proofs.Rows.WrittenRows.{rows-lack, rows-pass, names-back, rows-back}
 
 -- two lists of one length, item by item
 length-zip : {A B C : Type 0} (f : A → B → C) (xs : List A) (ys : List B) → length ys ≡ length xs → length (zipWith f xs ys) ≡ length xs
@@ -70,8 +70,8 @@ module _ (job : Job) (within : JobWithinLimits job) where
   behind-passes : askBehind (headerOf job) behind ≡ value job
   unfolding askBehind askEnd nothingMore
   behind-passes =
-      ap (λ n. askRows (headerOf job) [] 2 n behind (askEnd (value (jobOf (headerOf job) behind)))) (sym (within .name-count))
-      ∙ rows-pass (headerOf job) [] 2 (job .names) (job .rows) [] [] (askEnd (value (jobOf (headerOf job) behind))) (job-rows job within)
+      ap (λ n. askRows (headerOf job) [] (rowLine (headerOf job) 1) n behind (askEnd (value (jobOf (headerOf job) behind)))) (sym (within .name-count))
+      ∙ rows-pass (headerOf job) [] (rowLine (headerOf job) 1) (job .names) (job .rows) [] [] (askEnd (value (jobOf (headerOf job) behind))) (job-rows job within)
       ∙ ap value job-back
 
   -- and so do all lines

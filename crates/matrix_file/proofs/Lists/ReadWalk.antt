@@ -15,16 +15,16 @@ use Rattle.matrix.specs.declared.refusal.Refusal.the-variants.{ListSize}
 use Rattle.matrix_file.specs.declared.answer.Header.{Header}
 use Rattle.matrix_file.specs.declared.answer.Read.{Read}
 use Rattle.matrix_file.specs.declared.answer.Read.the-variants.{Accepted, Refused}
-use Rattle.matrix_file.specs.Job.{Job}
+use Rattle.matrix_file.specs.Job.{Job, nameSize}
 use Rattle.matrix_file.specs.Lines.{linesOf}
 use Rattle.matrix_file.specs.Header.{headerOf, headerLines, behindHeader}
 use Rattle.matrix_file.specs.Rows.{nameIn, codesIn}
 use Rattle.matrix_file.specs.Reading.{readAnswer, jobIn}
 use Rattle.matrix_file.specs.Report.{readSays, withHeader, fullSize, readOutcome, ReadDone}
 use Rattle.matrix_file.specs.Walk.{RowsFormed, paddedIn}
-use Rattle.matrix_file.specs.Written.{nameSize, namesSize, padded, matrixWritten, namesWritten}
-use Rattle.matrix_file.proofs.Asked.{then-passed, then-refused}
-use Rattle.matrix_file.proofs.AcceptedRows.{accepted-job, accepted-most, accepted-behind, accepted-formed, accepted-codes, accepted-names}
+use Rattle.matrix_file.specs.Written.{namesSize, padded, matrixWritten, namesWritten}
+use Rattle.matrix_file.proofs.File.Outcomes.{then-passed, then-refused}
+use Rattle.matrix_file.proofs.File.AcceptedRows.{accepted-job, accepted-most, accepted-behind, accepted-formed, accepted-codes, accepted-names}
 
 -- an outcome that is refused or not, with lists as they were
 done : (file : List ℕ) (matrix : List ℤ) (names : List ℕ) (answer : Read) (number line : ℕ) → readSays answer ≡ refused number line

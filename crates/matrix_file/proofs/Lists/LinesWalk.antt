@@ -18,8 +18,8 @@ use Rattle.matrix_file.specs.Rows.{nameIn}
 use Rattle.matrix_file.specs.Walk.{rowForm, RowsFormed}
 use Rattle.lists.proofs.Both.{and-left, and-right}
 use Rattle.lists.proofs.Every.{every-at}
-use Rattle.matrix_file.proofs.PartsFrom.{partsFrom, from-within, from-past, from-start, from-next}
-use Rattle.matrix_file.proofs.FirstPart.{first-length}
+use Rattle.matrix_file.proofs.Text.PartsFrom.{partsFrom, from-within, from-past, from-start, from-next}
+use Rattle.matrix_file.proofs.Text.FirstPart.{first-length}
 
 -- a list whose rest from j on begins with x: x stands at j, and the others behind it
 module _ {A : Type 0} (xs : List A) (j : ℕ) (x : A) (others : List A) (e : drop j xs ≡ x ∷ others) where

@@ -19,7 +19,7 @@ use Rattle.matrix_file.specs.declared.answer.Header.{Header}
 use Rattle.matrix_file.specs.Decimal.{codeForm, codeOf}
 use Rattle.matrix_file.specs.Job.{nameForm, differsFromAll}
 use Rattle.matrix_file.specs.Lines.{linesOf, fieldsOf}
-use Rattle.matrix_file.specs.Header.{headerIn, behindHeader, firstLineForm, askFirstLine, askHeader}
+use Rattle.matrix_file.specs.Header.{rowLine, headerIn, behindHeader, firstLineForm, askFirstLine, askHeader}
 use Rattle.matrix_file.specs.Rows.{nameIn, askCodes, askRow, askRows}
 use Rattle.matrix_file.specs.Reading.{mostBytes, thenWith, jobOf, nothingMore, askEnd, askBehind, askFile, askLength, readAnswer}
 
@@ -99,7 +99,7 @@ numbered-header lines =
 numbered-behind : (header : Header) (lines : List (List ℕ)) → FileNumbered (askBehind header lines)
 unfolding askBehind
 numbered-behind header lines =
-    numbered-rows header [] 2 (header .n) lines (askEnd (value (jobOf header lines))) (numbered-end (value (jobOf header lines)) with-value)
+    numbered-rows header [] (rowLine header 1) (header .n) lines (askEnd (value (jobOf header lines))) (numbered-end (value (jobOf header lines)) with-value)
 
 -- a whole file
 numbered-file : (file : List ℕ) → FileNumbered (readAnswer file)

@@ -20,10 +20,10 @@ use Rattle.matrix_file.specs.Lines.{fieldsOf}
 use Rattle.matrix_file.specs.Rows.{nameIn, codesIn, askCodes, askRow, askRows}
 use Rattle.lists.proofs.Both.{and-left, and-right}
 use Rattle.lists.proofs.Every.{every-head, every-tail, every-cons}
-use Rattle.matrix_file.proofs.Parts.{lacks}
-use Rattle.matrix_file.proofs.Codes.{decimal-form, code-of-decimal}
-use Rattle.matrix_file.proofs.Plain.{plain, name-plain, decimals-plain, line-fields, line-lacks}
-use Rattle.matrix_file.proofs.Rows.{RowWithin, RowsWithin, rows-first, rows-others}
+use Rattle.matrix_file.proofs.Text.Parts.{lacks}
+use Rattle.matrix_file.proofs.Decimal.Codes.{decimal-form, code-of-decimal}
+use Rattle.matrix_file.proofs.Text.Plain.{plain, name-plain, decimals-plain, line-fields, line-lacks}
+use Rattle.matrix_file.proofs.Rows.Within.{RowWithin, RowsWithin, rows-first, rows-others}
 
 -- codes are read back from what is written
 codes-back : (codes : List ℤ) → map codeOf (map decimal codes) ≡ codes

@@ -13,7 +13,7 @@ use Rattle.matrix_file.specs.Lines.{fieldsOf}
 use Rattle.matrix_file.specs.Header.{firstForm}
 use Rattle.matrix_file.specs.Rows.{nameIn}
 use Rattle.lists.proofs.Both.{and-left, and-right}
-use Rattle.matrix_file.proofs.FirstPart.{first-of-parts, parts-several, parts-single}
+use Rattle.matrix_file.proofs.Text.FirstPart.{first-of-parts, parts-several, parts-single}
 
 -- a line's name is its first part
 pub name-first : (line : List ℕ) → nameIn line ≡ firstPart tab line

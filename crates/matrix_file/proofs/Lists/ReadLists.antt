@@ -21,16 +21,16 @@ use Rattle.matrix.specs.Shape.{columns, matrixSize, row}
 use Rattle.matrix.specs.Questions.{allInRange, LentMatrix, oneTo, withinLimits}
 use Rattle.matrix_file.specs.declared.answer.Read.{Read}
 use Rattle.matrix_file.specs.declared.answer.Read.the-variants.{Accepted}
-use Rattle.matrix_file.specs.Job.{Job, JobWithinLimits, hasCodes, nameForm}
+use Rattle.matrix_file.specs.Job.{Job, JobWithinLimits, hasCodes, nameForm, nameSize}
 use Rattle.matrix_file.specs.Reading.{readAnswer}
 use Rattle.matrix_file.specs.Report.{readSays, fullSize, readOutcome, ReadDone}
 use Rattle.matrix_file.specs.Header.{headerOf}
-use Rattle.matrix_file.specs.Written.{nameSize, namesSize, padded, matrixWritten, namesWritten}
+use Rattle.matrix_file.specs.Written.{namesSize, padded, matrixWritten, namesWritten}
 use Rattle.matrix.proofs.Passing.{ask-passed, oneTo-true}
-use Rattle.matrix_file.proofs.FileLength.{name-length}
-use Rattle.matrix_file.proofs.FileOfRead.{file-of-read}
-use Rattle.matrix_file.proofs.AcceptedRows.{accepted-job}
-use Rattle.matrix_file.proofs.Asked.{line-passed, then-passed}
+use Rattle.matrix_file.proofs.File.FileLength.{name-length}
+use Rattle.matrix_file.proofs.File.FileOfRead.{file-of-read}
+use Rattle.matrix_file.proofs.File.AcceptedRows.{accepted-job}
+use Rattle.matrix_file.proofs.File.Outcomes.{line-passed, then-passed}
 
 -- items of which none is too wide, by their places
 items-narrow : {A : Type 0} (width : ℕ) (items : List (List A)) → ((k : ℕ) → k < length items → length (getD items k []) ≤ width)

@@ -6,8 +6,8 @@ use Prim.Native.Nat.{ℕ}
 use Rattle.matrix.specs.Outcomes.{value}
 use Rattle.matrix_file.specs.Job.{Job, JobWithinLimits, fileOf}
 use Rattle.matrix_file.specs.Reading.{readAnswer}
-use Rattle.matrix_file.proofs.ReadOfFile.{read-of-file}
-use Rattle.matrix_file.proofs.FileOfRead.{file-of-read}
+use Rattle.matrix_file.proofs.File.ReadOfFile.{read-of-file}
+use Rattle.matrix_file.proofs.File.FileOfRead.{file-of-read}
 
 -- read with a job, exactly if the job is within the limits and the file is its file
 pub accepted-exactly : (file : List ℕ) (job : Job) → (readAnswer file ≡ value job) ↔ (JobWithinLimits job × (file ≡ fileOf job))
