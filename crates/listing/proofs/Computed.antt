@@ -14,6 +14,9 @@ use Rattle.difference.specs.Rows as difference-Rows
 use Rattle.matrix_file.specs.Bytes as matrix-file-Bytes
 use Rattle.matrix_file.specs.Decimal as matrix-file-Decimal
 use Rattle.matrix_file.specs.Job as matrix-file-Job
+use Rattle.matrix_file.specs.Lines as matrix-file-Lines
+use Rattle.matrix_file.specs.Header as matrix-file-Header
+use Rattle.matrix_file.specs.Rows as matrix-file-Rows
 use Rattle.matrix_file.specs.Reading as matrix-file-Reading
 use Rattle.matrix_file.specs.Text as matrix-file-Text
 use Rattle.prim.specs.Network as prim-Network
@@ -47,12 +50,11 @@ unfolding flatMap matrix-Shape.row matrix-Shape.inRange matrix-Shape.lastNode li
     matrix-file-Decimal.numberForm matrix-file-Decimal.numberFrom matrix-file-Decimal.numberOf matrix-file-Decimal.codeForm
     matrix-file-Decimal.codeOf matrix-file-Job.inName matrix-file-Job.nameForm matrix-file-Job.differsFromAll matrix-file-Job.allDiffer
     matrix-file-Job.hasCodes matrix-file-Job.firstText matrix-file-Job.rowText matrix-file-Job.ended matrix-file-Job.fileOf
-    matrix-file-Job.padded matrix-file-Job.paddedNames matrix-file-Job.namesWritten matrix-file-Reading.rowLine
-    matrix-file-Reading.linesOf matrix-file-Reading.fieldsOf matrix-file-Reading.firstFields matrix-file-Reading.taxaIn
-    matrix-file-Reading.charactersIn matrix-file-Reading.nameIn matrix-file-Reading.codesIn matrix-file-Reading.rowsOn
-    matrix-file-Reading.jobIn matrix-file-Reading.firstForm matrix-file-Reading.firstLineForm matrix-file-Reading.askCodes
-    matrix-file-Reading.askRow matrix-file-Reading.nothingMore matrix-file-Reading.askRows matrix-file-Reading.askFile
-    matrix-file-Reading.readAnswer matrix-file-Text.bytes prim-Network.taxa prim-Network.networkLength lists-Tests.among lists-Filters.without
+    matrix-file-Lines.linesOf matrix-file-Lines.fieldsOf matrix-file-Header.headerIn matrix-file-Header.firstForm
+    matrix-file-Header.firstLineForm matrix-file-Header.askFirstLine matrix-file-Header.askHeader matrix-file-Rows.nameIn
+    matrix-file-Rows.codesIn matrix-file-Rows.askCodes matrix-file-Rows.askRow matrix-file-Rows.askRows matrix-file-Reading.jobOf
+    matrix-file-Reading.nothingMore matrix-file-Reading.askEnd matrix-file-Reading.askBehind matrix-file-Reading.askFile
+    matrix-file-Reading.askLength matrix-file-Reading.readAnswer matrix-file-Text.bytes prim-Network.taxa prim-Network.networkLength lists-Tests.among lists-Filters.without
     prim-Network.unplaced prim-Network.nearestPlaced prim-Network.distance prim-Network.link prim-Network.next prim-Network.grow
     prim-Network.network difference-Rows.nodeDifference branching-Ancestors.ancestor branching-Ancestors.descendants
     branching-Nodes.hasAncestor branching-Nodes.inTree lists-Filters.keep branching-Nodes.nodesIn branching-Nodes.nodesOut

@@ -2,12 +2,11 @@
 use mathlib.Core.List.{List, [], _∷_, _++_, map, flatMap}
 use Prim.Native.Nat.{ℕ}
 use Rattle.matrix.specs.NodeRows.{rowOf}
-use Rattle.matrix.specs.Refusals.{refusalNumber}
-use Rattle.matrix.specs.declared.refusal.Refusal.{Refusal}
+use Rattle.matrix.specs.Outcomes.{Outcome, value, refused}
 use Rattle.matrix_file.specs.Decimal.{digitsOf}
 use Rattle.matrix_file.specs.Text.{bytes}
 use Rattle.matrix_file.specs.Job.{Job}
-use Rattle.matrix_file.specs.Reading.{ReadAnswer, accepted, refused, readAnswer}
+use Rattle.matrix_file.specs.Reading.{readAnswer}
 use Rattle.difference.specs.Rows.{Measure, plain, nodeDifference}
 use Rattle.prim.specs.Network.{network, networkLength}
 use Rattle.wagner.specs.Build.{Built, wagner, wagnerLength}
@@ -52,13 +51,13 @@ unfoldable pub listing : Measure → Job → List (List ℕ)
 listing measure job = flatMap (λ (block : List (List ℕ)). block) (blocks measure job)
 
 -- the one line of a refusal: `R`, its number, the line of the file
-unfoldable pub refusalLine : Refusal → ℕ → List ℕ
-refusalLine refusal at = line (bytes "R" ∷ digitsOf (refusalNumber refusal) ∷ digitsOf at ∷ [])
+unfoldable pub refusalLine : ℕ → ℕ → List ℕ
+refusalLine number at = line (bytes "R" ∷ digitsOf number ∷ digitsOf at ∷ [])
 
--- the lines printed for an answer
-unfoldable pub printed : ReadAnswer → List (List ℕ)
-printed (accepted job) = listing plain job
-printed (refused refusal at) = refusalLine refusal at ∷ []
+-- the lines printed for what a file brings
+unfoldable pub printed : Outcome Job → List (List ℕ)
+printed (value job) = listing plain job
+printed (refused number at) = refusalLine number at ∷ []
 
 -- the lines printed for a file's bytes
 unfoldable pub listingOf : List ℕ → List (List ℕ)

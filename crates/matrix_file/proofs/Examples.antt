@@ -1,4 +1,4 @@
--- Document 01's example file and its further edges, read; and one refusal of each number 1 to 11 with its line.
+-- Document 01's example file and its further edges, read; one refusal of each number 1 to 11 with its line; and reads into lent lists.
 use mathlib.Core.Path.{_≡_, refl}
 use mathlib.Core.List.{List, [], _∷_, _++_, map, zipWith}
 use Prim.Native.Nat.{ℕ}
@@ -8,45 +8,39 @@ use lib.ListN.{replicate}
 use Rattle.matrix.specs.Shape.{inRange}
 use Rattle.matrix.specs.Questions.{oneTo, withinLimits}
 use Rattle.lists.specs.Numbers.{numbers}
-use Rattle.matrix.specs.Refusals.{refusalNumber}
+use Rattle.matrix.specs.Outcomes.{Outcome, value, refused}
 use Rattle.lists.specs.Tests.{every, sameNumbers as sameText}
-use Rattle.matrix.specs.declared.refusal.Refusal.the-variants.{ListSize}
-use Rattle.matrix_file.specs.declared.answer.Read.the-variants.{Refused}
 use Rattle.matrix_file.specs.Bytes.{isDigit, isLetter, partsAt, joinedBy}
 use Rattle.matrix_file.specs.Decimal.{digitsIn, digitsOf, decimal, noLeadingZero, numberForm, numberFrom, numberOf, codeForm, codeOf}
-use Rattle.matrix_file.specs.Job.{Job, inName, nameForm, differsFromAll, firstText, rowText, ended, fileOf, padded}
-use Rattle.matrix_file.specs.Reading.{rowLine, linesOf, fieldsOf, firstFields, taxaIn, charactersIn, nameIn, codesIn, rowsOn, jobIn}
-use Rattle.matrix_file.specs.Reading.{firstForm, firstLineForm, askCodes, askRow, nothingMore, askRows, askFile, ReadAnswer, accepted}
-use Rattle.matrix_file.specs.Reading.{refused, readAnswer}
-use Rattle.matrix_file.specs.Report.{fullSize, readReport}
+use Rattle.matrix_file.specs.Job.{Job, inName, nameForm, differsFromAll, firstText, rowText, ended, fileOf}
+use Rattle.matrix_file.specs.Lines.{linesOf, fieldsOf}
+use Rattle.matrix_file.specs.Header.{headerIn, firstForm, firstLineForm, askFirstLine, askHeader}
+use Rattle.matrix_file.specs.Rows.{nameIn, codesIn, askCodes, askRow, askRows}
+use Rattle.matrix_file.specs.Reading.{jobOf, nothingMore, askEnd, askBehind, askFile, askLength, readAnswer}
+use Rattle.matrix_file.specs.Report.{readSays, withHeader, fullSize, readOutcome}
+use Rattle.matrix_file.specs.declared.answer.Header.{Header}
+use Rattle.matrix_file.specs.declared.answer.Read.the-variants.{Accepted, Refused}
+use Rattle.matrix.specs.declared.refusal.Refusal.the-variants.{NameTaken}
 use Rattle.matrix_file.specs.Text.{bytes}
-use Rattle.matrix_file.specs.Written.{overFront, matrixWritten}
-
--- what an answer gives back: the job of an accepted file, or the refusal's number and line
-data Shown : Type 0 where
-  job : Job → Shown
-  line : ℕ → ℕ → Shown
-
--- an answer, with the refusal's number
-shown : ReadAnswer → Shown
-shown (accepted read) = job read
-shown (refused refusal at) = line (refusalNumber refusal) at
+use Rattle.matrix_file.specs.Written.{padded, matrixWritten, namesWritten}
+use Rattle.lists.specs.Over.{over, stripes}
+use Rattle.lists.specs.Filled.{filled}
 
 -- a file of these bytes, read
-read : List ℕ → Shown
-unfolding shown inRange withinLimits oneTo every isDigit isLetter sameText partsAt digitsIn digitsOf noLeadingZero numberForm numberFrom
-    numberOf codeForm codeOf inName nameForm differsFromAll rowLine linesOf fieldsOf firstFields taxaIn charactersIn nameIn codesIn rowsOn
-    jobIn firstForm firstLineForm askCodes askRow nothingMore askRows askFile readAnswer
-read file = shown (readAnswer file)
+read : List ℕ → Outcome Job
+unfolding inRange withinLimits oneTo every isDigit isLetter sameText partsAt digitsIn digitsOf noLeadingZero numberForm numberFrom
+    numberOf codeForm codeOf inName nameForm differsFromAll linesOf fieldsOf headerIn nameIn codesIn jobOf firstForm firstLineForm
+    askFirstLine askHeader askCodes askRow askRows nothingMore askEnd askBehind askFile askLength readAnswer
+read file = readAnswer file
 
 -- a file of this text, read
-readText : String → Shown
+readText : String → Outcome Job
 unfolding read bytes
 readText text = read (bytes text)
 
 -- document 01's example
 example : readText "W\t4\t3\nA\t0\t0\t0\nB\t2\t1\t0\nC\t2\t3\t1\nD\t-1\t1\t2\n"
-    ≡ job (record {
+    ≡ value (record {
       n = 4;
       m = 3;
       names = (65 ∷ []) ∷ (66 ∷ []) ∷ (67 ∷ []) ∷ (68 ∷ []) ∷ [];
@@ -57,39 +51,45 @@ unfolding readText
 example = refl
 
 -- one taxon `A` with one code
-one-code : ℤ → Shown
-one-code code = job (record { n = 1; m = 1; names = (65 ∷ []) ∷ []; rows = (code ∷ []) ∷ [] })
+one-code : ℤ → Outcome Job
+one-code code = value (record { n = 1; m = 1; names = (65 ∷ []) ∷ []; rows = (code ∷ []) ∷ [] })
 
 -- the refusals 2 to 11: a file, and the number and line that refuse it
-refusals : List (String × Shown)
+refusals : List (String × Outcome Job)
 refusals =
-    ("", line 2 0)
-    ∷ ("W\t1\nA\t0\n", line 3 1)
-    ∷ ("W\t0\t1\n", line 4 1)
-    ∷ ("W\t2\t1\nA\t0\n", line 5 3)
-    ∷ ("W\t1\t1\n1A\t0\n", line 6 2)
-    ∷ ("W\t3\t1\nA\t0\nB\t1\nA\t2\n", line 7 4)
-    ∷ ("W\t1\t2\nA\t0\n", line 8 2)
-    ∷ ("W\t1\t1\nA\t+1\n", line 9 2)
-    ∷ ("W\t2\t1\nA\t0\nB\t-1000\n", line 10 3)
-    ∷ ("W\t1\t1\nA\t0\n\n", line 11 3)
+    ("", refused 2 0)
+    ∷ ("W\t1\nA\t0\n", refused 3 1)
+    ∷ ("W\t0\t1\n", refused 4 1)
+    ∷ ("W\t2\t1\nA\t0\n", refused 5 3)
+    ∷ ("W\t1\t1\n1A\t0\n", refused 6 2)
+    ∷ ("W\t3\t1\nA\t0\nB\t1\nA\t2\n", refused 7 4)
+    ∷ ("W\t1\t2\nA\t0\n", refused 8 2)
+    ∷ ("W\t1\t1\nA\t+1\n", refused 9 2)
+    ∷ ("W\t2\t1\nA\t0\nB\t-1000\n", refused 10 3)
+    ∷ ("W\t1\t1\nA\t0\n\n", refused 11 3)
     ∷ []
 
--- the further edges: 999 and -999 pass, 1000 is 10, 1000000 and `-0` are 9, a missing last line feed is 5,
--- a bad name with too few codes is 8
-edges : List (String × Shown)
+-- the further edges: 999 and -999 pass, 1000 is 10, 1000000 and `-0` are 9; as n, 999999 is 4 and 1000000 is 3; a missing line feed is 3
+-- on line 1 and 5 on a row; a carriage return fails the question of its field; a bad name with too few codes is 8
+edges : List (String × Outcome Job)
 edges =
     ("W\t1\t1\nA\t999\n", one-code (pos 999))
     ∷ ("W\t1\t1\nA\t-999\n", one-code (negsuc 998))
-    ∷ ("W\t1\t1\nA\t1000\n", line 10 2)
-    ∷ ("W\t1\t1\nA\t1000000\n", line 9 2)
-    ∷ ("W\t1\t1\nA\t-0\n", line 9 2)
-    ∷ ("W\t1\t1\nA\t0", line 5 2)
-    ∷ ("W\t1\t2\n1A\t0\n", line 8 2)
+    ∷ ("W\t1\t1\nA\t1000\n", refused 10 2)
+    ∷ ("W\t1\t1\nA\t1000000\n", refused 9 2)
+    ∷ ("W\t1\t1\nA\t-0\n", refused 9 2)
+    ∷ ("W\t999999\t1\nA\t0\n", refused 4 1)
+    ∷ ("W\t1000000\t1\nA\t0\n", refused 3 1)
+    ∷ ("W\t1\t1", refused 3 1)
+    ∷ ("W\t1\t1\nA\t0", refused 5 2)
+    ∷ ("W\t1\t1\r\nA\t0\r\n", refused 3 1)
+    ∷ ("W\t1\t1\nA\r\t0\n", refused 6 2)
+    ∷ ("W\t1\t1\nA\t0\r\n", refused 9 2)
+    ∷ ("W\t1\t2\n1A\t0\n", refused 8 2)
     ∷ []
 
 -- each file of a table is read as the table says
-AsSaid : List (String × Shown) → Type 0
+AsSaid : List (String × Outcome Job) → Type 0
 AsSaid table = map (λ row. readText (row .0)) table ≡ map (λ row. row .1) table
 
 refusals-read : AsSaid refusals
@@ -101,7 +101,7 @@ unfolding AsSaid readText edges one-code
 edges-read = refl
 
 -- refusal 1
-too-long : read (replicate 45001 65) ≡ line 1 0
+too-long : read (replicate 45001 65) ≡ refused 1 0
 unfolding read
 too-long = refl
 
@@ -116,11 +116,11 @@ alike n =
       rows = replicate n (pos 0 ∷ []);
     }
 
-sixty-four-taxa : read (fileOf (alike 64)) ≡ job (alike 64)
+sixty-four-taxa : read (fileOf (alike 64)) ≡ value (alike 64)
 unfolding read alike joinedBy decimal zipWith firstText rowText ended fileOf
 sixty-four-taxa = refl
 
-sixty-five-taxa : read (fileOf (alike 65)) ≡ line 4 1
+sixty-five-taxa : read (fileOf (alike 65)) ≡ refused 4 1
 unfolding read alike joinedBy decimal zipWith firstText rowText ended fileOf
 sixty-five-taxa = refl
 
@@ -131,16 +131,55 @@ long-number = refl
 
 -- a name as it stands in the lent list
 padded-name : padded (97 ∷ 98 ∷ []) ≡ 97 ∷ 98 ∷ replicate 14 0
-unfolding padded
+unfolding filled
 padded-name = refl
 
 -- rows written into a matrix: each over the front of its 128 codes, and all else as before
 two-rows : matrixWritten ((pos 1 ∷ pos 2 ∷ []) ∷ (pos 3 ∷ []) ∷ []) (replicate 131 (pos 9))
     ≡ pos 1 ∷ pos 2 ∷ replicate 126 (pos 9) ++ pos 3 ∷ replicate 2 (pos 9)
-unfolding matrixWritten overFront
+unfolding over stripes
 two-rows = refl
 
--- a read into a list that has not its full size is 12, with line 0
-not-full : readReport [] (replicate 16128 (pos 0)) (replicate 1023 0) ≡ Refused ListSize 0
-unfolding readReport fullSize
-not-full = refl
+-- names written into a list: each padded to its 16 bytes, and behind them all as before
+two-names : namesWritten ((65 ∷ []) ∷ (66 ∷ 67 ∷ []) ∷ []) (replicate 34 9)
+    ≡ 65 ∷ replicate 15 0 ++ 66 ∷ 67 ∷ replicate 14 0 ++ replicate 2 9
+unfolding over stripes filled
+two-names = refl
+
+-- what an answer says: a header, and a refusal with its line
+accepted-says : readSays (Accepted (record { n = 4; m = 3 })) ≡ value (record { n = 4; m = 3 })
+accepted-says = refl
+
+refused-says : readSays (Refused NameTaken 4) ≡ refused 7 4
+refused-says = refl
+
+-- a file read into a matrix of so many codes and a list of names of so many bytes
+readInto : List ℕ → ℕ → ℕ → Outcome Header
+unfolding read readOutcome fullSize
+readInto file codes names = withHeader (readOutcome file (replicate codes (pos 0)) (replicate names 0))
+
+-- lists of full size: the file decides
+full-size : readInto (bytes "W\t1\t2\nA\t0\t1\n") 16128 1024 ≡ value (record { n = 1; m = 2 })
+unfolding readInto bytes
+full-size = refl
+
+full-size-refused : readInto (bytes "W\t1\t2\nA\t0\n") 16128 1024 ≡ refused 8 2
+unfolding readInto bytes
+full-size-refused = refl
+
+-- names that are a byte too short or too long, and a matrix that is a code too short or too long: 12 with line 0, whatever the file holds
+names-short : (file : List ℕ) → readInto file 16128 1023 ≡ refused 12 0
+unfolding readInto
+names-short file = refl
+
+names-long : (file : List ℕ) → readInto file 16128 1025 ≡ refused 12 0
+unfolding readInto
+names-long file = refl
+
+matrix-short : (file : List ℕ) → readInto file 16127 1024 ≡ refused 12 0
+unfolding readInto
+matrix-short file = refl
+
+matrix-long : (file : List ℕ) → readInto file 16129 1024 ≡ refused 12 0
+unfolding readInto
+matrix-long file = refl

@@ -1,27 +1,8 @@
--- Laws of reading a matrix file. `Accepted` has the law that joins the file of a job and the questions; `ReadLists` says what the lent
--- lists hold after a read.
-pub mod Parts
-pub mod Digits
-pub mod Codes
-pub mod Plain
-pub mod Names
+-- Laws of reading a matrix file. `File.Accepted` has the law that joins the file of a job and the questions; `Lists.ReadLists` says what
+-- the lent lists hold after a read.
+pub mod Text
+pub mod Decimal
 pub mod Rows
-pub mod WrittenRows
-pub mod FileLength
-pub mod Asked
-pub mod PassedRows
-pub mod ReadOfFile
-pub mod FileOfRead
-pub mod Accepted
-pub mod FirstPart
-pub mod PartsFrom
-pub mod Fields
-pub mod RowsWalk
-pub mod FileWalk
-pub mod AcceptedRows
-pub mod LinesWalk
-pub mod Overwriting
-pub mod WrittenLines
-pub mod ReadLists
+pub mod File
+pub mod Lists
 pub mod Examples
-pub mod Numbered

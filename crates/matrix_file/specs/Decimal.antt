@@ -41,9 +41,16 @@ noLeadingZero [] = true
 noLeadingZero (digit ∷ []) = true
 noLeadingZero (digit ∷ next ∷ digits) = not (eqb digit zeroDigit)
 
+-- a number has at most 6 digits, so it is below a million
+abbrev pub mostDigits : ℕ
+mostDigits = 6
+
+abbrev pub aMillion : ℕ
+aMillion = 1000000
+
 -- the form of the numbers n and m: 1 to 6 decimal digits, no leading zero
 unfoldable pub numberForm : List ℕ → Bool
-numberForm text = (leb 1 (length text) && leb (length text) 6) && (every isDigit text && noLeadingZero text)
+numberForm text = (leb 1 (length text) && leb (length text) mostDigits) && (every isDigit text && noLeadingZero text)
 
 -- the number that digits say behind others that say `before`
 unfoldable pub numberFrom : ℕ → List ℕ → ℕ
@@ -69,4 +76,4 @@ codeOf (byte ∷ bytes) =
 -- r is the number that digits say, and below a million
 pub record NumberSaid (digits : List ℕ) (r : ℕ) : Type 0 where
   pub is : r ≡ numberOf digits
-  pub small : r < 1000000
+  pub small : r < aMillion

@@ -3,10 +3,10 @@
 use mathlib.Core.Path.{_≡_}
 use mathlib.Core.List.{List, [], _∷_, _++_, map, zipWith}
 use mathlib.Core.Bool.{Bool, true, false, _&&_, _||_, not}
-use Prim.Native.Nat.{ℕ, _*_, _-_}
+use Prim.Native.Nat.{ℕ}
 use lib.Dec.{leb, eqb}
 use lib.IntN.{ℤ}
-use lib.ListN.{length, drop, replicate}
+use lib.ListN.{length}
 use Rattle.matrix.specs.Questions.{withinLimits, allInRange}
 use Rattle.lists.specs.Tests.{every, sameNumbers as sameText}
 use Rattle.matrix_file.specs.Bytes.{tab, lineFeed, underscore, wordW, isDigit, isLetter, joinedBy}
@@ -23,10 +23,14 @@ pub record Job : Type 0 where
 unfoldable pub inName : ℕ → Bool
 inName byte = isLetter byte || (isDigit byte || eqb byte underscore)
 
+-- a name has at most 16 bytes
+abbrev pub nameSize : ℕ
+nameSize = 16
+
 -- a name has 1 to 16 bytes: a letter first, then letters, digits or `_`
 unfoldable pub nameForm : List ℕ → Bool
 nameForm [] = false
-nameForm (byte ∷ bytes) = isLetter byte && (every inName bytes && leb (length (byte ∷ bytes)) 16)
+nameForm (byte ∷ bytes) = isLetter byte && (every inName bytes && leb (length (byte ∷ bytes)) nameSize)
 
 -- a name differs from every one of a list
 unfoldable pub differsFromAll : List ℕ → List (List ℕ) → Bool
@@ -73,24 +77,3 @@ ended (line ∷ lines) = line ++ lineFeed ∷ ended lines
 -- the one file that says a job
 unfoldable pub fileOf : Job → List ℕ
 fileOf job = ended (firstText job ∷ rowTexts job)
-
--- a name in the lent list of names has 16 bytes
-abbrev pub nameSize : ℕ
-nameSize = 16
-
--- 64 names
-abbrev pub namesSize : ℕ
-namesSize = 1024
-
--- a name as it stands in the lent list: its bytes, and zeros behind them
-unfoldable pub padded : List ℕ → List ℕ
-padded name = name ++ replicate (nameSize - length name) 0
-
--- names one after another, each padded
-unfoldable pub paddedNames : List (List ℕ) → List ℕ
-paddedNames [] = []
-paddedNames (name ∷ names) = padded name ++ paddedNames names
-
--- the lent list after an accepted read: the names by row, and behind them what stood there
-unfoldable pub namesWritten : List (List ℕ) → List ℕ → List ℕ
-namesWritten names lent = paddedNames names ++ drop (length names * nameSize) lent

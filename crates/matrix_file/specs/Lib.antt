@@ -2,8 +2,11 @@
 pub mod Bytes
 pub mod Decimal
 pub mod Job
+pub mod Lines
+pub mod Header
+pub mod Rows
 pub mod Reading
-pub mod Walk
 pub mod Written
 pub mod Report
+pub mod Walk
 pub mod Text

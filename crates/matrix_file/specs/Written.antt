@@ -1,14 +1,24 @@
 -- What the lent lists hold after an accepted read.
-use mathlib.Core.List.{List, [], _∷_, _++_}
+use mathlib.Core.List.{List, map}
+use Prim.Native.Nat.{ℕ}
 use lib.IntN.{ℤ}
-use lib.ListN.{length, take, drop}
+use Rattle.lists.specs.Filled.{filled}
+use Rattle.lists.specs.Over.{stripes}
 use Rattle.matrix.specs.Shape.{columns}
+use Rattle.matrix_file.specs.Job.{nameSize}
 
--- a list with another one written over its front
-unfoldable pub overFront : {A : Type 0} → List A → List A → List A
-overFront front old = front ++ drop (length front) old
+-- the lent list of names: 64 names of 16 bytes each
+abbrev pub namesSize : ℕ
+namesSize = 1024
 
--- the matrix with rows of codes written over it, row 1 first: each over the front of its row, and all else as before
-unfoldable pub matrixWritten : List (List ℤ) → List ℤ → List ℤ
-matrixWritten [] old = old
-matrixWritten (codes ∷ rows) old = overFront codes (take columns old) ++ matrixWritten rows (drop columns old)
+-- a name as it stands in the lent list: its bytes, and zeros behind them
+abbrev pub padded : List ℕ → List ℕ
+padded name = filled nameSize 0 name
+
+-- the matrix with rows of codes written over it, row 1 first: each over the front of its 128 codes, and all else as before
+abbrev pub matrixWritten : List (List ℤ) → List ℤ → List ℤ
+matrixWritten rows old = stripes columns 0 rows old
+
+-- the lent list with names written over it, that of row 1 first: each padded, and behind them all as before
+abbrev pub namesWritten : List (List ℕ) → List ℕ → List ℕ
+namesWritten names old = stripes nameSize 0 (map padded names) old

@@ -1,15 +1,40 @@
 // What a read answers.
+use matrix::refusal::Asked;
 use matrix::refusal::Refusal;
 ghost use mathlib.Core.Path.{_≡_};
+ghost use Rattle.matrix_file.specs.Walk.{headerOn};
 
-// The numbers of taxa and characters of an accepted file, or why a file is refused and at which line.
+// What the header of a file says: the numbers of taxa and characters.
+pub struct Header {
+    pub n: usize,
+    pub m: usize,
+}
+
+// The header of an accepted file, or why a file is refused and at which line.
 pub enum Read {
-    Accepted { n: usize, m: usize },
+    Accepted(Header),
     Refused { refusal: Refusal, line: usize },
 }
 
+// Where the rows end and the number of the line behind them, or why they are refused and at which line.
+pub(crate) enum RowsAnswer {
+    Ended { at: usize, line: usize },
+    Refused { refusal: Refusal, line: usize },
+}
+
+// A refusal and its line.
 pub(crate) fn refused(refusal: Refusal, line: usize) -> Read
     ensures { λ r. ⌜ r ≡ Read.Refused refusal line ⌝ }
 {
     Read::Refused { refusal, line }
+}
+
+// The header if the questions put to a line pass, else their refusal and the line.
+pub(crate) fn on_line(line: usize, asked: Asked, header: Header) -> Read
+    ensures { λ r. ⌜ r ≡ headerOn line asked header ⌝ }
+{
+    match asked {
+        Asked::Passed => Read::Accepted(header),
+        Asked::Refused(refusal) => Read::Refused { refusal, line },
+    }
 }

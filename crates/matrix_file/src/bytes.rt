@@ -1,12 +1,14 @@
 // Bytes of ASCII and parts of a text.
 ghost use mathlib.Core.Path.{_≡_};
-ghost use Prim.Native.Nat.{_+_};
+ghost use Prim.Native.Nat.{_+_, _<_};
 ghost use mathlib.Core.Bool.{_&&_};
 ghost use lib.Dec.{leb, eqb};
 ghost use lib.ListN.{length, drop};
-ghost use Rattle.lists.specs.Tests.{sameNumbers as sameText};
+ghost use Rattle.lists.specs.Tests.{every, sameNumbers as sameText};
 ghost use Rattle.matrix_file.specs.Bytes.{isDigit, isLetter, partsAt, partLength, firstPart, behindPart};
 ghost use Rattle.matrix_file.specs.Job.{inName};
+ghost use Rattle.matrix_file.specs.Lines.{linesOf};
+ghost use Rattle.matrix_file.specs.Walk.{inAlphabet};
 
 pub(crate) const TAB: u8 = 9;
 
@@ -20,7 +22,7 @@ fn between(low: u8, high: u8, byte: u8) -> bool
 }
 
 // Whether a byte is `0` to `9`.
-pub(crate) fn is_digit(byte: u8) -> bool
+fn is_digit(byte: u8) -> bool
     ensures { λ r. ⌜ r ≡ isDigit byte ⌝ }
 {
     between(b'0', b'9', byte)
@@ -34,10 +36,40 @@ pub(crate) fn is_letter(byte: u8) -> bool
 }
 
 // Whether a byte is a letter, a digit or `_`.
-pub(crate) fn in_name(byte: u8) -> bool
+fn in_name(byte: u8) -> bool
     ensures { λ r. ⌜ r ≡ inName byte ⌝ }
 {
     is_letter(byte) || (is_digit(byte) || byte == b'_')
+}
+
+// The bytes that a text may be made of: digits, or those of a name.
+pub(crate) enum Alphabet {
+    Digits,
+    Name,
+}
+
+// Whether a byte is one of an alphabet.
+fn in_alphabet(byte: u8, alphabet: Alphabet) -> bool
+    ensures { λ r. ⌜ r ≡ inAlphabet alphabet byte ⌝ }
+{
+    match alphabet {
+        Alphabet::Digits => is_digit(byte),
+        Alphabet::Name => in_name(byte),
+    }
+}
+
+// Whether every byte of a text is one of an alphabet.
+pub(crate) fn all_in(text: &[u8], alphabet: Alphabet) -> bool
+    ensures { λ r. ⌜ r ≡ every (inAlphabet alphabet) (now (text .entry)) ⌝ }
+{
+    let mut i = 0;
+    while i < text.len() {
+        if !in_alphabet(text[i], alphabet) {
+            return false;
+        }
+        i += 1;
+    }
+    true
 }
 
 // Whether two bytes are the same.
@@ -118,4 +150,18 @@ pub(crate) fn behind_part(text: &[u8], separator: u8) -> &[u8]
 {
     let end = part_length(text, separator);
     rest_from(text, end + 1)
+}
+
+// What stands behind the first `count` lines of a text that goes on behind them.
+pub(crate) fn behind_lines(text: &[u8], count: usize) -> &[u8]
+    requires { ⌜ count < length (linesOf (now text)) ⌝ }
+    ensures { λ r. ⌜ linesOf (now r) ≡ drop count (linesOf (now (text .entry))) ⌝ }
+{
+    let mut at = 0;
+    let mut passed = 0;
+    while passed < count {
+        at = at + part_length(rest_from(text, at), LINE_FEED) + 1;
+        passed += 1;
+    }
+    rest_from(text, at)
 }

@@ -1,55 +1,41 @@
 // The questions 1 to 11 put to a file, in order.
 use crate::NAME_SIZE;
+use crate::answer::Header;
 use crate::answer::Read;
+use crate::answer::RowsAnswer;
+use crate::answer::on_line;
 use crate::answer::refused;
+use crate::bytes::Alphabet;
 use crate::bytes::LINE_FEED;
 use crate::bytes::TAB;
+use crate::bytes::all_in;
+use crate::bytes::behind_lines;
 use crate::bytes::behind_part;
 use crate::bytes::first_part;
-use crate::bytes::in_name;
 use crate::bytes::is_letter;
 use crate::bytes::rest_from;
 use crate::bytes::same_text;
 use crate::bytes::separators;
+use crate::header::HEADER_LINES;
+use crate::header::ask_header;
 use crate::numbers::code_form;
 use crate::numbers::code_of;
-use crate::numbers::number_form;
-use crate::numbers::number_of;
 use matrix::MOST_TAXA;
 use matrix::questions::in_range;
-use matrix::questions::within_limits;
 use matrix::refusal::Asked;
 use matrix::refusal::Refusal;
 ghost use mathlib.Core.Path.{_≡_};
-ghost use mathlib.Core.Bool.{true};
-ghost use mathlib.Core.List.{[]};
-ghost use lib.ListN.{length, getD};
-ghost use Rattle.matrix_file.specs.Decimal.{numberOf};
 ghost use Prim.Native.Nat.{_≤_};
-ghost use Rattle.lists.specs.Tests.{every};
-ghost use Rattle.matrix_file.specs.Job.{inName, nameForm, differsFromAll};
-ghost use Rattle.matrix_file.specs.Reading.{rowLine, fieldsOf, linesOf, askCodes, askRow, askRows, firstForm, readAnswer};
-ghost use Rattle.matrix_file.specs.Report.{answered, reported};
-ghost use Rattle.matrix_file.specs.Walk.{namesPassed};
+ghost use lib.ListN.{length};
+ghost use Rattle.matrix.specs.Outcomes.{ask};
+ghost use Rattle.matrix_file.specs.Job.{nameForm, differsFromAll};
+ghost use Rattle.matrix_file.specs.Lines.{linesOf, fieldsOf};
+ghost use Rattle.matrix_file.specs.Rows.{askCodes, askRow};
+ghost use Rattle.matrix_file.specs.Reading.{nothingMore, askBehind, readAnswer};
+ghost use Rattle.matrix_file.specs.Report.{readSays, withHeader};
+ghost use Rattle.matrix_file.specs.Walk.{namesPassed, RowsAsked};
 
 const MOST_BYTES: usize = 45000;
-
-// The lines before row 1.
-const LINES_BEFORE_ROWS: usize = 1;
-
-// Whether every byte of a text may stand in a name.
-fn all_in_name(text: &[u8]) -> bool
-    ensures { λ r. ⌜ r ≡ every inName (now (text .entry)) ⌝ }
-{
-    let mut i = 0;
-    while i < text.len() {
-        if !in_name(text[i]) {
-            return false;
-        }
-        i += 1;
-    }
-    true
-}
 
 // Whether a name is well formed.
 pub(crate) fn name_form(name: &[u8]) -> bool
@@ -61,7 +47,7 @@ pub(crate) fn name_form(name: &[u8]) -> bool
     if NAME_SIZE < name.len() {
         return false;
     }
-    is_letter(name[0]) && all_in_name(rest_from(name, 1))
+    is_letter(name[0]) && all_in(rest_from(name, 1), Alphabet::Name)
 }
 
 // Whether a name differs from the names of the first `count` rows, which begin at the places `starts`.
@@ -99,12 +85,12 @@ fn ask_codes(text: &[u8]) -> Asked
 }
 
 // The questions put to a row's line: its number of fields, its name and its codes.
-fn ask_row(line: &[u8], m: usize, rows: &[u8], starts: &[usize], count: usize) -> Asked
-    requires { ⌜ 1 ≤ m ⌝ }
+fn ask_row(line: &[u8], header: Header, rows: &[u8], starts: &[usize], count: usize) -> Asked
+    requires { ⌜ 1 ≤ header .m ⌝ }
     requires { ⌜ count ≤ length (now starts) ⌝ }
-    ensures { λ r. ⌜ r ≡ askRow m (namesPassed (now (rows .entry)) (now (starts .entry)) count) (now (line .entry)) ⌝ }
+    ensures { λ r. ⌜ r ≡ askRow header (namesPassed (now (rows .entry)) (now (starts .entry)) count) (now (line .entry)) ⌝ }
 {
-    let counted = separators(line, TAB) == m;
+    let counted = separators(line, TAB) == header.m;
     let name = first_part(line, TAB);
     let formed = name_form(name);
     if !counted {
@@ -119,19 +105,12 @@ fn ask_row(line: &[u8], m: usize, rows: &[u8], starts: &[usize], count: usize) -
     ask_codes(behind_part(line, TAB))
 }
 
-// The number of the line of row k.
-fn row_line(k: usize) -> usize
-    requires { ⌜ k ≤ 65 ⌝ }
-    ensures { λ r. ⌜ r ≡ rowLine k ⌝ }
+// For each row in turn: is there another line, ended by a line feed? Its own questions. Row 1 stands in line `first`.
+fn ask_rows(rows: &[u8], header: Header, first: usize) -> RowsAnswer
+    requires { ⌜ (header .n ≤ 64) × (1 ≤ header .m) × (first ≤ 64) ⌝ }
+    ensures { λ r. ⌜ RowsAsked (now (rows .entry)) header first r ⌝ }
 {
-    k + LINES_BEFORE_ROWS
-}
-
-// For each row in turn: is there another line, ended by a line feed? Its own questions. Then: does the file end there?
-fn ask_rows(rows: &[u8], n: usize, m: usize) -> Read
-    requires { ⌜ (n ≤ 64) × (1 ≤ m) ⌝ }
-    ensures { λ r. ⌜ r ≡ answered n m (askRows m [] 1 n (linesOf (now (rows .entry)))) ⌝ }
-{
+    let n = header.n;
     let mut starts = [0usize; MOST_TAXA];
     let mut at = 0;
     let mut done = 0;
@@ -139,11 +118,17 @@ fn ask_rows(rows: &[u8], n: usize, m: usize) -> Read
         let line = first_part(rest_from(rows, at), LINE_FEED);
         let end = at + line.len();
         if end == rows.len() {
-            return refused(Refusal::LineMissing, row_line(done + 1));
+            return RowsAnswer::Refused {
+                refusal: Refusal::LineMissing,
+                line: first + done,
+            };
         }
-        match ask_row(line, m, rows, &starts, done) {
+        match ask_row(line, header, rows, &starts, done) {
             Asked::Refused(refusal) => {
-                return refused(refusal, row_line(done + 1));
+                return RowsAnswer::Refused {
+                    refusal: refusal,
+                    line: first + done,
+                };
             }
             Asked::Passed => {
                 starts[done] = at;
@@ -152,45 +137,36 @@ fn ask_rows(rows: &[u8], n: usize, m: usize) -> Read
             }
         }
     }
-    if at < rows.len() {
-        return refused(Refusal::FileGoesOn, row_line(n + 1));
+    RowsAnswer::Ended {
+        at: at,
+        line: first + n,
     }
-    Read::Accepted { n: n, m: m }
 }
 
-// Whether line 1 has exactly three fields: `W` and two numbers.
-fn first_form(line: &[u8]) -> bool
-    ensures { λ r. ⌜ r ≡ firstForm (fieldsOf (now (line .entry))) ⌝ }
+// Does the file end here?
+fn ask_end(rest: &[u8]) -> Asked
+    ensures { λ r. ⌜ r ≡ ask (nothingMore (linesOf (now (rest .entry)))) Refusal.FileGoesOn Asked.Passed ⌝ }
 {
-    if separators(line, TAB) != 2 {
-        return false;
+    if 0 < rest.len() {
+        return Asked::Refused(Refusal::FileGoesOn);
     }
-    if !same_text(first_part(line, TAB), b"W") {
-        return false;
-    }
-    let numbers = behind_part(line, TAB);
-    number_form(first_part(numbers, TAB)) && number_form(behind_part(numbers, TAB))
+    Asked::Passed
 }
 
-// The number n in line 1.
-fn taxa(line: &[u8]) -> usize
-    requires { ⌜ firstForm (fieldsOf (now line)) ≡ true ⌝ }
-    ensures { λ r. ⌜ r ≡ numberOf (getD (fieldsOf (now (line .entry))) 1 []) ⌝ }
+// The questions put to what stands behind the header: the rows, and then the end of the file.
+fn ask_behind(rows: &[u8], header: Header) -> Read
+    requires { ⌜ (header .n ≤ 64) × (1 ≤ header .m) ⌝ }
+    ensures { λ r. ⌜ readSays r ≡ withHeader (askBehind header (linesOf (now (rows .entry)))) ⌝ }
 {
-    number_of(first_part(behind_part(line, TAB), TAB))
-}
-
-// The number m in line 1.
-fn characters(line: &[u8]) -> usize
-    requires { ⌜ firstForm (fieldsOf (now line)) ≡ true ⌝ }
-    ensures { λ r. ⌜ r ≡ numberOf (getD (fieldsOf (now (line .entry))) 2 []) ⌝ }
-{
-    number_of(behind_part(behind_part(line, TAB), TAB))
+    match ask_rows(rows, header, HEADER_LINES + 1) {
+        RowsAnswer::Refused { refusal, line } => refused(refusal, line),
+        RowsAnswer::Ended { at, line } => on_line(line, ask_end(rest_from(rows, at)), header),
+    }
 }
 
 // The questions put to a file.
 pub(crate) fn ask_file(file: &[u8]) -> Read
-    ensures { λ r. ⌜ r ≡ reported (readAnswer (now (file .entry))) ⌝ }
+    ensures { λ r. ⌜ readSays r ≡ withHeader (readAnswer (now (file .entry))) ⌝ }
 {
     if MOST_BYTES < file.len() {
         return refused(Refusal::FileTooLong, 0);
@@ -198,17 +174,8 @@ pub(crate) fn ask_file(file: &[u8]) -> Read
     if file.len() == 0 {
         return refused(Refusal::FileEmpty, 0);
     }
-    let line = first_part(file, LINE_FEED);
-    if line.len() == file.len() {
-        return refused(Refusal::FirstLine, 1);
+    match ask_header(file) {
+        Read::Refused { refusal, line } => refused(refusal, line),
+        Read::Accepted(header) => ask_behind(behind_lines(file, HEADER_LINES), header),
     }
-    if !first_form(line) {
-        return refused(Refusal::FirstLine, 1);
-    }
-    let n = taxa(line);
-    let m = characters(line);
-    if !within_limits(n, m) {
-        return refused(Refusal::BeyondLimits, 1);
-    }
-    ask_rows(behind_part(file, LINE_FEED), n, m)
 }

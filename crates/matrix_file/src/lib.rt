@@ -1,6 +1,7 @@
 // Reading a matrix file.
 pub mod answer;
 mod bytes;
+mod header;
 mod judging;
 mod numbers;
 pub mod reading;

@@ -1,27 +1,18 @@
 // Whole numbers in decimal: their form, and the number that a text of this form says.
-use crate::bytes::is_digit;
+use crate::bytes::Alphabet;
+use crate::bytes::all_in;
 use crate::bytes::rest_from;
 ghost use mathlib.Core.Path.{_≡_};
 ghost use mathlib.Core.Bool.{true};
 ghost use Prim.Native.Nat.{_<_};
 ghost use lib.IntN.{pos, negℤ};
-ghost use Rattle.lists.specs.Tests.{every};
-ghost use Rattle.matrix_file.specs.Bytes.{isDigit};
-ghost use Rattle.matrix_file.specs.Decimal.{numberForm, NumberSaid, codeForm, codeOf};
+ghost use Rattle.matrix_file.specs.Decimal.{aMillion, numberForm, NumberSaid, codeForm, codeOf};
 
-// Whether every byte of a text is a digit.
-fn all_digits(text: &[u8]) -> bool
-    ensures { λ r. ⌜ r ≡ every isDigit (now (text .entry)) ⌝ }
-{
-    let mut i = 0;
-    while i < text.len() {
-        if !is_digit(text[i]) {
-            return false;
-        }
-        i += 1;
-    }
-    true
-}
+// A number has at most six digits.
+const MOST_DIGITS: usize = 6;
+
+// The byte `0`.
+const ZERO_DIGIT: usize = 48;
 
 // Whether a text has the form of the numbers n and m.
 pub(crate) fn number_form(text: &[u8]) -> bool
@@ -30,30 +21,33 @@ pub(crate) fn number_form(text: &[u8]) -> bool
     if text.len() < 1 {
         return false;
     }
-    if 6 < text.len() {
+    if MOST_DIGITS < text.len() {
         return false;
     }
-    if !all_digits(text) {
+    if !all_in(text, Alphabet::Digits) {
         return false;
     }
     text.len() == 1 || text[0] != b'0'
 }
 
+// A byte as a number.
 fn wide(byte: u8) -> usize
     ensures { λ r. ⌜ r ≡ byte ⌝ }
 {
     byte as usize
 }
 
+// A number as a code.
 fn signed(number: usize) -> i32
-    requires { ⌜ number < 1000000 ⌝ }
+    requires { ⌜ number < aMillion ⌝ }
     ensures { λ r. ⌜ r ≡ pos number ⌝ }
 {
     number as i32
 }
 
+// A number below zero as a code.
 fn negative(number: usize) -> i32
-    requires { ⌜ number < 1000000 ⌝ }
+    requires { ⌜ number < aMillion ⌝ }
     ensures { λ r. ⌜ r ≡ negℤ (pos number) ⌝ }
 {
     0 - number as i32
@@ -67,7 +61,7 @@ pub(crate) fn number_of(text: &[u8]) -> usize
     let mut number = 0;
     let mut i = 0;
     while i < text.len() {
-        number = number * 10 + (wide(text[i]) - 48);
+        number = number * 10 + (wide(text[i]) - ZERO_DIGIT);
         i += 1;
     }
     number

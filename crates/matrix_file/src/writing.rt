@@ -12,18 +12,21 @@ ghost use mathlib.Core.Bool.{true};
 ghost use mathlib.Core.List.{map};
 ghost use Prim.Native.Nat.{_*_, _≤_};
 ghost use lib.ListN.{length, getD, take};
+ghost use Rattle.lists.specs.Over.{over, stripes};
 ghost use Rattle.lists.specs.Tests.{every};
 ghost use Rattle.matrix_file.specs.Decimal.{codeForm, codeOf};
-ghost use Rattle.matrix_file.specs.Job.{padded, namesWritten};
-ghost use Rattle.matrix_file.specs.Reading.{fieldsOf, linesOf, nameIn, codesIn};
-ghost use Rattle.matrix_file.specs.Walk.{RowsFormed};
-ghost use Rattle.matrix_file.specs.Written.{overFront, matrixWritten};
+ghost use Rattle.matrix.specs.Shape.{columns};
+ghost use Rattle.matrix_file.specs.Job.{nameSize};
+ghost use Rattle.matrix_file.specs.Lines.{linesOf, fieldsOf};
+ghost use Rattle.matrix_file.specs.Rows.{codesIn};
+ghost use Rattle.matrix_file.specs.Walk.{RowsFormed, paddedIn};
+ghost use Rattle.matrix_file.specs.Written.{padded};
 
 // Writes the codes of a row over the front of a list.
 fn write_codes(out: &mut [i32], text: &[u8])
     requires { ⌜ every codeForm (fieldsOf (now text)) ≡ true ⌝ }
     requires { ⌜ length (fieldsOf (now text)) ≤ length (now out) ⌝ }
-    ensures { λ _. ⌜ now (out .exit) ≡ overFront (map codeOf (fieldsOf (now (text .entry)))) (now (out .entry)) ⌝ }
+    ensures { λ _. ⌜ now (out .exit) ≡ over 0 (map codeOf (fieldsOf (now (text .entry)))) (now (out .entry)) ⌝ }
 {
     let mut j = 0;
     let mut at = 0;
@@ -47,9 +50,9 @@ fn byte_or_zero(text: &[u8], i: usize) -> u8
 
 // Writes a name and zeros behind it over the first 16 bytes of a list.
 fn write_name(out: &mut [u8], name: &[u8])
-    requires { ⌜ length (now name) ≤ 16 ⌝ }
-    requires { ⌜ 16 ≤ length (now out) ⌝ }
-    ensures { λ _. ⌜ now (out .exit) ≡ overFront (padded (now (name .entry))) (now (out .entry)) ⌝ }
+    requires { ⌜ length (now name) ≤ nameSize ⌝ }
+    requires { ⌜ nameSize ≤ length (now out) ⌝ }
+    ensures { λ _. ⌜ now (out .exit) ≡ over 0 (padded (now (name .entry))) (now (out .entry)) ⌝ }
 {
     let mut i = 0;
     while i < NAME_SIZE {
@@ -60,8 +63,8 @@ fn write_name(out: &mut [u8], name: &[u8])
 
 // Writes the codes of n rows, each over the front of its row of the matrix.
 pub(crate) fn write_matrix(matrix: &mut [i32], rows: &[u8], n: usize)
-    requires { ⌜ (n * 128 ≤ length (now matrix)) × RowsFormed n (now rows) ⌝ }
-    ensures { λ _. ⌜ now (matrix .exit) ≡ matrixWritten (map codesIn (take n (linesOf (now (rows .entry))))) (now (matrix .entry)) ⌝ }
+    requires { ⌜ (n * columns ≤ length (now matrix)) × RowsFormed n (now rows) ⌝ }
+    ensures { λ _. ⌜ now (matrix .exit) ≡ stripes columns 0 (map codesIn (take n (linesOf (now (rows .entry))))) (now (matrix .entry)) ⌝ }
 {
     let mut at = 0;
     let mut done = 0;
@@ -76,8 +79,8 @@ pub(crate) fn write_matrix(matrix: &mut [i32], rows: &[u8], n: usize)
 
 // Writes the names of n rows, one after another.
 pub(crate) fn write_names(names: &mut [u8], rows: &[u8], n: usize)
-    requires { ⌜ (n * 16 ≤ length (now names)) × RowsFormed n (now rows) ⌝ }
-    ensures { λ _. ⌜ now (names .exit) ≡ namesWritten (map nameIn (take n (linesOf (now (rows .entry))))) (now (names .entry)) ⌝ }
+    requires { ⌜ (n * nameSize ≤ length (now names)) × RowsFormed n (now rows) ⌝ }
+    ensures { λ _. ⌜ now (names .exit) ≡ stripes nameSize 0 (map paddedIn (take n (linesOf (now (rows .entry))))) (now (names .entry)) ⌝ }
 {
     let mut at = 0;
     let mut done = 0;

@@ -151,13 +151,13 @@ fn print_refusal(refusal: Refusal, line: usize) {
 fn print_answer(answer: Read, matrix: &[i32], names: &[u8]) {
     match answer {
         Read::Refused { refusal, line } => print_refusal(refusal, line),
-        Read::Accepted { n, m } => {
+        Read::Accepted(header) => {
             io::write_all(STDOUT_FILENO, b"W\t");
-            print_number(n);
+            print_number(header.n);
             io::write_all(STDOUT_FILENO, b"\t");
-            print_number(m);
+            print_number(header.m);
             io::write_all(STDOUT_FILENO, b"\n");
-            print_rows(matrix, names, n, m);
+            print_rows(matrix, names, header.n, header.m);
         }
     }
     print_kept(matrix, names);

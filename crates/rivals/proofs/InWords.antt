@@ -11,7 +11,8 @@ use Rattle.matrix.specs.NodeRows.{rowOf, rowsOf}
 use Rattle.matrix.specs.Questions.{askMatrix}
 use Rattle.matrix.specs.declared.refusal.Asked.the-variants.{Passed}
 use Rattle.matrix_file.specs.Job.{Job}
-use Rattle.matrix_file.specs.Reading.{readAnswer, accepted}
+use Rattle.matrix.specs.Outcomes.{value}
+use Rattle.matrix_file.specs.Reading.{readAnswer}
 use Rattle.difference.specs.Rows.{difference, nodeDifference, plain}
 use Rattle.prim.specs.Network.{network, networkLength}
 use Rattle.prim.specs.Rival.{Connected, linkEnds, linksLength}
@@ -30,7 +31,7 @@ use Rattle.rivals.specs.Demand.{NoRivalDoesBetter, BuildIsLeast}
 use Rattle.rivals.proofs.Demand.{no-rival}
 
 -- for every file that a read accepts
-pub for-every-file : (file : List ℕ) (job : Job) → readAnswer file ≡ accepted job → NoRivalDoesBetter plain (job .n) (job .m) (job .rows)
+pub for-every-file : (file : List ℕ) (job : Job) → readAnswer file ≡ value job → NoRivalDoesBetter plain (job .n) (job .m) (job .rows)
 for-every-file file job e = no-rival (job .n) (job .m) (job .rows) (fileRead file job e)
 
 -- for every lent matrix that passes 12, 4 and the taxa's 10

@@ -7,6 +7,8 @@ use native.Mathlib.Omega.{arith}
 use borrow.Author.Tests.{eqb-true, eq-eqb}
 use lib.IntN.{ℤ}
 use lib.ListN.{length, getD}
+use Rattle.matrix.proofs.NodeRows.{rowOf-rowsOf, length-rowsOf}
+use Rattle.branching.proofs.RowLengths.{OfLength}
 use Rattle.matrix.specs.NodeRows.{rowOf, rowsOf}
 use Rattle.lists.specs.Tests.{every}
 use Rattle.matrix.specs.Shape.{row}
@@ -17,10 +19,9 @@ use Rattle.lists.proofs.Every.{every-at, every-from, every-append}
 use Rattle.matrix.proofs.Passing.{matrix-passes, true-oneTo}
 use Rattle.matrix.proofs.Row.{row-length}
 use Rattle.matrix_file.specs.Job.{Job, hasCodes}
-use Rattle.matrix_file.specs.Reading.{readAnswer, accepted}
-use Rattle.matrix_file.proofs.FileOfRead.{file-of-read}
-use Rattle.branching.proofs.RowLengths.{OfLength}
-use Rattle.matrix.proofs.NodeRows.{length-rowsOf, rowOf-rowsOf}
+use Rattle.matrix.specs.Outcomes.{value}
+use Rattle.matrix_file.specs.Reading.{readAnswer}
+use Rattle.matrix_file.proofs.File.FileOfRead.{file-of-read}
 use Rattle.rivals.specs.Accepted.{CodeRows, Accepted, fileRead, matrixLent}
 
 -- the row of each node has m codes
@@ -43,7 +44,7 @@ pub record MatrixRows (n m : ℕ) (rows : List (List ℤ)) : Type 0 where
   pub codes : CodeRows m rows
 
 -- such are the rows of a file that a read accepts
-rows-read : (file : List ℕ) (job : Job) → readAnswer file ≡ accepted job → MatrixRows (job .n) (job .m) (job .rows)
+rows-read : (file : List ℕ) (job : Job) → readAnswer file ≡ value job → MatrixRows (job .n) (job .m) (job .rows)
 rows-read file job e =
     let within = file-of-read file job e .0 in
     record {

@@ -10,13 +10,14 @@ use Rattle.lists.specs.Tests.{every}
 use Rattle.matrix.specs.Questions.{allInRange, askMatrix}
 use Rattle.matrix.specs.declared.refusal.Asked.the-variants.{Passed}
 use Rattle.matrix_file.specs.Job.{Job, hasCodes}
-use Rattle.matrix_file.specs.Reading.{readAnswer, accepted}
+use Rattle.matrix.specs.Outcomes.{value}
+use Rattle.matrix_file.specs.Reading.{readAnswer}
 use Rattle.branching.specs.Nodes.{taxaPlaced}
 use Rattle.branching.specs.Growing.{growingTree, rowOneAlone}
 
 -- an accepted matrix of n taxa and m characters, by its rows: a read accepts it, or, lent, it passes the questions 12, 4 and 10
 pub data Accepted : ℕ → ℕ → List (List ℤ) → Type 0 where
-  fileRead : (file : List ℕ) (job : Job) → readAnswer file ≡ accepted job → Accepted (job .n) (job .m) (job .rows)
+  fileRead : (file : List ℕ) (job : Job) → readAnswer file ≡ value job → Accepted (job .n) (job .m) (job .rows)
   matrixLent : (codes : List ℤ) (n m : ℕ) → askMatrix codes n m ≡ Passed → Accepted n m (rowsOf codes m n)
 
 -- rows of m codes from -999 to 999

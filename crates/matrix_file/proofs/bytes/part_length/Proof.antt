@@ -1,32 +1,14 @@
 -- `matrix_file::bytes::part_length` meets its contract. The loop's invariant: the first part is the bytes passed and what it has of the
 -- rest. Assumes nothing.
--- rest. Assumes nothing.
--- rest. Assumes nothing.
--- rest. Assumes nothing.
 use mathlib.Core.Path.{_≡_}
-use mathlib.Core.List.{List}
-use Prim.Native.Nat.{ℕ, _+_, _-_, _≤_, _<_}
+use Prim.Native.Nat.{_+_, _-_, _≤_}
 use native.Mathlib.Omega.{arith}
 use borrow.Author.Needs.{needs}
-use lib.ListN.{length, getD, drop}
+use lib.ListN.{length, drop}
 use Rattle.matrix_file.specs.Bytes.{partLength}
-use Rattle.matrix_file.proofs.FirstPart.{part-here, part-on, part-past}
+use Rattle.matrix_file.proofs.Text.PartWalk.{found, goes-on, at-end}
 use Rattle.matrix_file.proofs.bytes.part_length.Statement.{statement}
 use Rattle.matrix_file.proofs.bytes.part_length.Tie as tie
-
--- what a loop over a text knows at place i: the first part is the i bytes passed and what it has of the rest
-module _ (s : ℕ) (text : List ℕ) (i : ℕ) (inv : partLength s text ≡ i + partLength s (drop i text)) where
-  -- at a separator it ends
-  found : i < length text → getD text i 0 ≡ s → i ≡ partLength s text
-  found h e = omega (arith, part-here s text i h e)
-
-  -- at any other byte it goes on
-  goes-on : i < length text → (getD text i 0 ≡ s → ⊥) → partLength s text ≡ i + 1 + partLength s (drop (i + 1) text)
-  goes-on h e = omega (arith, part-on s text i h e)
-
-  -- at the end of the text it ends
-  at-end : i ≤ length text → length text ≤ i → i ≡ partLength s text
-  at-end low h = omega (arith, part-past s text i h)
 
 abbrev Inv-loop : tie.InvT-loop
 Inv-loop text separator i₀ i = (i ≤ length text) × (partLength separator text ≡ i + partLength separator (drop i text))

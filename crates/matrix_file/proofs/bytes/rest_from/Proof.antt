@@ -1,20 +1,10 @@
 -- `matrix_file::bytes::rest_from` meets its contract: the part lent is what `drop` leaves. Assumes nothing.
-use mathlib.Core.Path.{_≡_, sym, _∙_}
-use mathlib.Core.List.{List}
-use Prim.Native.Nat.{ℕ, _-_, _≤_, _<_}
-use native.Mathlib.Omega.{arith}
+use Prim.Native.Nat.{_-_}
 use borrow.Author.Needs.{needs}
-use lib.ListN.{length, take, drop, drop-of-length-le}
-use lib.Seq.{drop-length}
-use Rattle.matrix_file.proofs.FirstPart.{part-to-end}
+use Rattle.matrix_file.proofs.Text.FirstPart.{part-to-end}
+use Rattle.matrix_file.proofs.Text.PartWalk.{nothing-left}
 use Rattle.matrix_file.proofs.bytes.rest_from.Statement.{statement}
 use Rattle.matrix_file.proofs.bytes.rest_from.Tie as tie
-
--- past the end nothing is left
-nothing-left : (text : List ℕ) (at : ℕ) → length text < at → take (length text - length text) (drop (length text) text) ≡ drop at text
-nothing-left text at h =
-    let past : length text ≤ at = omega arith in
-    part-to-end (length text) text ∙ drop-length text ∙ sym (drop-of-length-le text past)
 
 sub-result : tie.Need-sub-result
 sub-result c = search needs

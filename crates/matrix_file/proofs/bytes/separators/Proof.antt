@@ -1,41 +1,15 @@
 -- `matrix_file::bytes::separators` meets its contract. The loop's invariant: the separators counted and the parts of the rest are the
 -- parts of the text. Assumes nothing.
--- parts of the text. Assumes nothing.
--- parts of the text. Assumes nothing.
--- parts of the text. Assumes nothing.
-use mathlib.Core.Path.{_≡_}
-use mathlib.Core.List.{List}
 use mathlib.Core.Logic.{⊎-elim}
-use Prim.Native.Nat.{ℕ, _+_, _-_, _≤_, _<_}
-use native.Mathlib.Omega.{arith}
+use Prim.Native.Nat.{_-_}
 use borrow.Author.Needs.{needs}
-use lib.ListN.{length, getD, drop}
-use Rattle.matrix_file.specs.Bytes.{partsAt}
-use Rattle.matrix_file.proofs.FirstPart.{parts-here, parts-on, parts-past}
+use lib.ListN.{length}
+use Rattle.matrix_file.proofs.Text.Separators.{Counted, counted, passed, all-counted}
 use Rattle.matrix_file.proofs.bytes.separators.Statement.{statement}
 use Rattle.matrix_file.proofs.bytes.separators.Tie as tie
 
--- what a loop over a text knows at place i: the separators counted and the parts of the rest are the parts of the text
-abbrev Counted : ℕ → List ℕ → ℕ → ℕ → Type 0
-Counted s text count i = (i ≤ length text) × (count ≤ i) × (count + length (partsAt s (drop i text)) ≡ length (partsAt s text))
-
--- one more separator
-counted : (s : ℕ) (text : List ℕ) (count i new : ℕ) → Counted s text count i → i < length text → getD text i 0 ≡ s → new ≡ count + 1
-    → Counted s text new (i + 1)
-counted s text count i new inv h e n = (omega arith, omega arith, omega (arith, parts-here s text i h e))
-
--- any other byte
-passed : (s : ℕ) (text : List ℕ) (count i new : ℕ) → Counted s text count i → i < length text → (getD text i 0 ≡ s → ⊥) → new ≡ count
-    → Counted s text new (i + 1)
-passed s text count i new inv h e n = (omega arith, omega arith, omega (arith, parts-on s text i h e))
-
--- the end of the text
-all-counted : (s : ℕ) (text : List ℕ) (count i : ℕ) → Counted s text count i → length text ≤ i → count + 1 ≡ length (partsAt s text)
-all-counted s text count i inv h = omega (arith, parts-past s text i h)
-
 abbrev Inv-loop : tie.InvT-loop
-Inv-loop text separator count₀ i₀ count i =
-    (i ≤ length text) × (count ≤ i) × (count + length (partsAt separator (drop i text)) ≡ length (partsAt separator text))
+Inv-loop text separator count₀ i₀ count i = Counted separator text count i
 
 abbrev μ-loop : tie.MeasureT-loop
 μ-loop text separator count₀ i₀ count i = length text - i

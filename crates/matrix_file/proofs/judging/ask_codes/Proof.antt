@@ -1,75 +1,21 @@
 -- `matrix_file::judging::ask_codes` meets its contract. The loop's invariant: the codes that are left decide. Assumes nothing.
 use mathlib.Core.Path.{_≡_, sym, ap, _∙_}
-use mathlib.Core.Bool.{Bool, true, false, not}
-use mathlib.Core.List.{List}
-use Prim.Native.Nat.{ℕ, _+_, _-_, _≤_, _<_}
+use Prim.Native.Nat.{_+_, _-_, _≤_}
 use native.Mathlib.Omega.{arith}
-use borrow.Author.Tests.{not-true, not-false}
+use borrow.Author.Tests.{not-false}
 use borrow.Author.Needs.{sfits-of, needs}
-use lib.ListN.{length, drop}
+use lib.ListN.{length}
 use mir.Facts.{toZ-ofZ}
-use Rattle.matrix_file.specs.Bytes.{tab, firstPart}
-use Rattle.matrix_file.specs.Decimal.{codeForm, codeOf}
-use Rattle.matrix_file.specs.Reading.{fieldsOf, askCodes}
-use Rattle.matrix_file.proofs.PartsFrom.{partsFrom, from-start, from-past, from-next, next-within}
-use Rattle.matrix.specs.declared.refusal.Asked.{Asked}
-use Rattle.matrix.specs.declared.refusal.Asked.the-variants.{Passed, Refused}
-use Rattle.matrix.specs.declared.refusal.Refusal.the-variants.{CodeForm, CodeRange}
-use Rattle.matrix.specs.Outcomes.{ask}
+use Rattle.matrix_file.specs.Bytes.{tab}
+use Rattle.matrix_file.specs.Decimal.{codeOf}
+use Rattle.matrix_file.proofs.Text.PartsFrom.{next-within}
 use Rattle.matrix.specs.Shape.{inRange}
+use Rattle.matrix_file.proofs.Rows.CodesWalk.{Decide, all-codes, bad-form, out-of-range, next-decides, none-left}
 use Rattle.matrix_file.proofs.judging.ask_codes.Statement.{statement}
 use Rattle.matrix_file.proofs.judging.ask_codes.Tie as tie
 
--- the codes from the start on
-all-codes : (text : List ℕ) → askCodes (fieldsOf text) ≡ askCodes (partsFrom tab text 0)
-unfolding fieldsOf
-all-codes text = ap askCodes (sym (from-start tab text))
-
--- what a loop over the codes knows at a place: the codes from there on decide
-abbrev Decide : List ℕ → ℕ → Type 0
-Decide text at = (at ≤ length text + 1) × (askCodes (fieldsOf text) ≡ askCodes (partsFrom tab text at))
-
-module _ (text : List ℕ) (at : ℕ) (rest field : List ℕ) (form : Bool) (inv : Decide text at) (h : at ≤ length text)
-    (r : rest ≡ drop at text) (f : field ≡ firstPart tab rest) (e : form ≡ codeForm field) where
-  -- the questions on the codes behind this one
-  abbrev behind : Asked
-  behind = askCodes (partsFrom tab text (at + length field + 1))
-
-  -- the first of the codes, and those behind it
-  step : askCodes (fieldsOf text) ≡ ask form CodeForm (ask (inRange (codeOf field)) CodeRange behind)
-  unfolding askCodes
-  step =
-      inv .1
-      ∙ ap askCodes (from-next tab text at rest field h r f)
-      ∙ ap (λ x. ask x CodeForm (ask (inRange (codeOf field)) CodeRange behind)) (sym e)
-
-  -- its form is not right
-  bad-form : not form ≡ true → Refused CodeForm ≡ askCodes (fieldsOf text)
-  bad-form t = sym (step ∙ ap (λ x. ask x CodeForm (ask (inRange (codeOf field)) CodeRange behind)) (not-true form t))
-
-  module _ (t : not form ≡ false) (near : Bool) (n : near ≡ inRange (codeOf field)) where
-    -- its form is right
-    well-formed : askCodes (fieldsOf text) ≡ ask near CodeRange behind
-    well-formed =
-        step
-        ∙ ap (λ x. ask x CodeForm (ask (inRange (codeOf field)) CodeRange behind)) (not-false form t)
-        ∙ ap (λ x. ask x CodeRange behind) (sym n)
-
-    -- it is out of range
-    out-of-range : not near ≡ true → Refused CodeRange ≡ askCodes (fieldsOf text)
-    out-of-range u = sym (well-formed ∙ ap (λ x. ask x CodeRange behind) (not-true near u))
-
-    -- it is in range
-    next-decides : not near ≡ false → askCodes (fieldsOf text) ≡ behind
-    next-decides u = well-formed ∙ ap (λ x. ask x CodeRange behind) (not-false near u)
-
--- no code is left
-none-left : (text : List ℕ) (at : ℕ) → Decide text at → length text < at → Passed ≡ askCodes (fieldsOf text)
-unfolding askCodes
-none-left text at inv h = sym (inv .1 ∙ ap askCodes (from-past tab text at h))
-
 abbrev Inv-loop : tie.InvT-loop
-Inv-loop text at₀ at = (at ≤ length text + 1) × (askCodes (fieldsOf text) ≡ askCodes (partsFrom tab text at))
+Inv-loop text at₀ at = Decide text at
 
 abbrev μ-loop : tie.MeasureT-loop
 μ-loop text at₀ at = length text + 1 - at

@@ -1,85 +1,8 @@
 -- `matrix_file::judging::ask_row` meets its contract: each answer follows from the questions that led to it. Assumes nothing.
-use mathlib.Core.Path.{_≡_, refl, sym, ap, ap₂, _∙_}
-use mathlib.Core.Bool.{Bool, true, false, not}
-use mathlib.Core.List.{List}
-use Prim.Native.Nat.{ℕ, suc, _+_, _≤_}
-use native.Mathlib.Omega.{arith}
-use borrow.Author.Tests.{eqb-true, eqb-false, not-true, not-false, eq-eqb, ne-eqb}
 use borrow.Author.Needs.{needs}
-use lib.Dec.{eqb}
-use lib.ListN.{length, drop}
-use Rattle.matrix_file.specs.Bytes.{tab, partsAt, firstPart, behindPart}
-use Rattle.matrix_file.specs.Reading.{fieldsOf, askCodes, askRow}
-use Rattle.matrix_file.proofs.Fields.{name-first, codes-behind}
-use Rattle.matrix_file.specs.Job.{nameForm, differsFromAll}
-use Rattle.matrix.specs.declared.refusal.Asked.{Asked}
-use Rattle.matrix.specs.declared.refusal.Asked.the-variants.{Refused}
-use Rattle.matrix.specs.declared.refusal.Refusal.the-variants.{FieldCount, NameForm, NameTaken}
-use Rattle.matrix.specs.Outcomes.{ask}
+use Rattle.matrix_file.proofs.Rows.RowWalk.{bad-count, bad-name, name-taken, codes-decide}
 use Rattle.matrix_file.proofs.judging.ask_row.Statement.{statement}
 use Rattle.matrix_file.proofs.judging.ask_row.Tie as tie
-
--- one more than a number is one more than another exactly if the two are equal
-eqb-next : (a b c : ℕ) → a + 1 ≡ c → eqb a b ≡ eqb c (suc b)
-eqb-next a b c e = by (eqb a b) refl
-  where
-    by : (t : Bool) → eqb a b ≡ t → eqb a b ≡ eqb c (suc b)
-    by true s = let same = eqb-true a b s in s ∙ sym (eq-eqb c (suc b) (omega arith))
-    by false s = let other = eqb-false a b s in s ∙ sym (ne-eqb c (suc b) (λ same. other (omega arith)))
-
--- the questions on a row's line that has `count` tabs and a name
-module _ (m : ℕ) (earlier : List (List ℕ)) (line : List ℕ) (count : ℕ) (name : List ℕ) (formed : Bool)
-    (e : count + 1 ≡ length (partsAt tab line))
-    (first : name ≡ firstPart tab line) (f : formed ≡ nameForm name) where
-  abbrev codes-asked : Asked
-  codes-asked = askCodes (drop 1 (fieldsOf line))
-
-  -- in order: the number of fields, the name's form, whether it is taken, the codes
-  in-order : askRow m earlier line
-      ≡ ask (eqb count m) FieldCount (ask formed NameForm (ask (differsFromAll name earlier) NameTaken codes-asked))
-  unfolding askRow fieldsOf
-  in-order = rw (eqb-next count m (length (partsAt tab line)) e, name-first, sym first, sym f)
-
-  -- another number of fields than m + 1
-  bad-count : not (eqb count m) ≡ true → Refused FieldCount ≡ askRow m earlier line
-  bad-count t =
-      sym (in-order
-      ∙ ap (λ x. ask x FieldCount (ask formed NameForm (ask (differsFromAll name earlier) NameTaken codes-asked)))
-      (not-true (eqb count m) t))
-
-  module _ (counted : not (eqb count m) ≡ false) where
-    -- the name is not well formed
-    bad-name : not formed ≡ true → Refused NameForm ≡ askRow m earlier line
-    bad-name t =
-        sym (in-order ∙ ap₂ (λ x y. ask x FieldCount (ask y NameForm (ask (differsFromAll name earlier) NameTaken codes-asked)))
-        (not-false (eqb count m) counted) (not-true formed t))
-
-    module _ (t : not formed ≡ false) (new : Bool) (d : new ≡ differsFromAll name earlier) where
-      -- the name is well formed
-      named : askRow m earlier line ≡ ask new NameTaken codes-asked
-      named =
-          in-order
-          ∙ ap₂ (λ x y. ask x FieldCount (ask y NameForm (ask (differsFromAll name earlier) NameTaken codes-asked)))
-          (not-false (eqb count m) counted) (not-false formed t)
-          ∙ ap (λ x. ask x NameTaken codes-asked) (sym d)
-
-      -- it is taken
-      name-taken : not new ≡ true → Refused NameTaken ≡ askRow m earlier line
-      name-taken u = sym (named ∙ ap (λ x. ask x NameTaken codes-asked) (not-true new u))
-
-      -- a line of m + 1 fields has several
-      several : 1 ≤ m → 2 ≤ length (fieldsOf line)
-      unfolding fieldsOf
-      several some = let same = eqb-true count m (not-false (eqb count m) counted) in omega arith
-
-      -- it differs from every earlier one: the codes decide
-      codes-decide : not new ≡ false → (codes : List ℕ) (answer : Asked) → 1 ≤ m → codes ≡ behindPart tab line
-          → answer ≡ askCodes (fieldsOf codes) → answer ≡ askRow m earlier line
-      codes-decide u codes answer some b a =
-          a
-          ∙ ap (λ x. askCodes (fieldsOf x)) b
-          ∙ ap askCodes (sym (codes-behind line (several some)))
-          ∙ sym (named ∙ ap (λ x. ask x NameTaken codes-asked) (not-false new u))
 
 separators-requires : tie.Need-separators-requires
 separators-requires c κs = search needs
@@ -92,12 +15,12 @@ name-form-requires c κs = search needs
 
 returns : tie.Need-returns
 returns c =
-    bad-count _ _ _ _ _ _ (c .before .before .before .separators .ensures) (c .before .before .first-part .ensures)
+    bad-count _ _ _ _ _ _ (c .before .before .before .before .separators .ensures) (c .before .before .first-part .ensures)
     (c .before .name-form .ensures) (c .if1 .taken)
 
 returns-2 : tie.Need-returns-2
 returns-2 c =
-    bad-name _ _ _ _ _ _ (c .before .before .before .before .separators .ensures) (c .before .before .before .first-part .ensures)
+    bad-name _ _ _ _ _ _ (c .before .before .before .before .before .separators .ensures) (c .before .before .before .first-part .ensures)
     (c .before .before .name-form .ensures) (c .before .if1 .left) (c .if2 .taken)
 
 differs-from-all-requires : tie.Need-differs-from-all-requires
@@ -105,7 +28,7 @@ differs-from-all-requires c κs = search needs
 
 returns-3 : tie.Need-returns-3
 returns-3 c =
-    name-taken _ _ _ _ _ _ (c .before .before .before .before .before .before .separators .ensures)
+    name-taken _ _ _ _ _ _ (c .before .before .before .before .before .before .before .separators .ensures)
     (c .before .before .before .before .before .first-part .ensures) (c .before .before .before .before .name-form .ensures)
     (c .before .before .before .if1 .left) (c .before .before .if2 .left) _ (c .before .differs-from-all .ensures) (c .if3 .taken)
 
@@ -117,11 +40,11 @@ ask-codes-requires c κs = search needs
 
 returns-4 : tie.Need-returns-4
 returns-4 c =
-    codes-decide _ _ _ _ _ _ (c .before .before .before .before .before .before .before .before .separators .ensures)
+    codes-decide _ _ _ _ _ _ (c .before .before .before .before .before .before .before .before .before .separators .ensures)
     (c .before .before .before .before .before .before .before .first-part .ensures)
     (c .before .before .before .before .before .before .name-form .ensures) (c .before .before .before .before .before .if1 .left)
     (c .before .before .before .before .if2 .left) _ (c .before .before .before .differs-from-all .ensures) (c .before .before .if3 .left)
-    _ _ (c .before .before .before .before .before .before .before .before .before .before .before .before .pre .0)
+    _ _ (c .before .before .before .before .before .before .before .before .before .before .before .before .before .pre .0)
     (c .before .behind-part .ensures) (c .ask-codes .ensures)
 
 pub ask-row-spec : {M : Type 1} → statement M

@@ -1,21 +1,21 @@
 -- `matrix_file::judging::ask_rows` meets its contract. The loop's invariant: the lines that are left, with the names passed, decide.
 -- Assumes nothing.
-use mathlib.Core.Path.{refl, sym, _∙_}
+use mathlib.Core.Path.{refl, sym}
 use Prim.Native.Nat.{_+_, _-_, _≤_, _<_}
 use native.Mathlib.Omega.{arith}
 use borrow.Author.Needs.{needs}
 use lib.ListN.{length}
 use Rattle.matrix_file.specs.Bytes.{lineFeed}
-use Rattle.matrix_file.proofs.RowsWalk.{RowsLeft, walk-start, line-missing, row-refused, row-passed, walk-goes-on, walk-ends}
-use Rattle.matrix_file.proofs.PartsFrom.{next-within}
+use Rattle.matrix_file.proofs.Rows.RowsWalk.{RowsLeft, walk-start, line-missing, row-refused, row-passed, walk-ended}
+use Rattle.matrix_file.proofs.Text.PartsFrom.{next-within}
 use Rattle.matrix_file.proofs.judging.ask_rows.Statement.{statement}
 use Rattle.matrix_file.proofs.judging.ask_rows.Tie as tie
 
 abbrev Inv-loop : tie.InvT-loop
-Inv-loop rows n m starts₀ at₀ done₀ starts at done = RowsLeft rows n m starts at done
+Inv-loop rows header first n starts₀ at₀ done₀ starts at done = RowsLeft rows header first starts at done
 
 abbrev μ-loop : tie.MeasureT-loop
-μ-loop rows n m starts₀ at₀ done₀ starts at done = n - done
+μ-loop rows header first n starts₀ at₀ done₀ starts at done = header .n - done
 
 -- a row is left to read: fewer than 64 have been passed
 few : (c : tie.In-loop Inv-loop μ-loop) → c .before .loop .done < 64
@@ -42,22 +42,13 @@ first-part-requires c κs = search needs
 add-end : tie.Need-add-end Inv-loop μ-loop
 add-end c = omega (arith, line-end c)
 
-add-row-line : tie.Need-add-row-line Inv-loop μ-loop
-add-row-line c = omega (arith, few (c .before .before .before))
-
-row-line-requires : tie.Need-row-line-requires Inv-loop μ-loop
-row-line-requires c κs = omega (arith, few (c .before .before .before))
-
-refused-requires : tie.Need-refused-requires Inv-loop μ-loop
-refused-requires c κs = search needs
+add-t15 : tie.Need-add-t15 Inv-loop μ-loop
+add-t15 c = omega (arith, few (c .before .before .before), c .before .before .before .before .before .before .pre .2)
 
 returns : tie.Need-returns Inv-loop μ-loop
 returns c =
-    c .refused .ensures
-    ∙ line-missing _ _ _ _ _ _ _ _ (c .before .before .before .before .before .before .loop .inv)
-    (c .before .before .before .before .before .loop-test .taken) (c .before .before .before .before .rest-from .ensures)
-    (c .before .before .before .first-part .ensures)
-    (c .before .before .if1 .taken) _ (c .before .row-line .ensures)
+    line-missing _ _ _ _ _ _ _ _ (c .before .before .before .before .loop .inv) (c .before .before .before .loop-test .taken)
+    (c .before .before .rest-from .ensures) (c .before .first-part .ensures) (c .if1 .taken)
 
 slice-aggregate-ask-row : tie.Need-slice-aggregate-ask-row Inv-loop μ-loop
 slice-aggregate-ask-row c = sym (c .before .before .before .before .before .loop .inv .places)
@@ -71,23 +62,22 @@ ask-row-requires c κs = (
 enum-known-refusal : tie.Need-enum-known-refusal Inv-loop μ-loop
 enum-known-refusal c = search needs
 
-add-row-line-2 : tie.Need-add-row-line-2 Inv-loop μ-loop
-add-row-line-2 c = omega (arith, few (c .before .before .before .before .before .before .before .before))
-
-row-line-requires-2 : tie.Need-row-line-requires-2 Inv-loop μ-loop
-row-line-requires-2 c κs = omega (arith, few (c .before .before .before .before .before .before .before .before))
-
-refused-requires-2 : tie.Need-refused-requires-2 Inv-loop μ-loop
-refused-requires-2 c κs = search needs
+add-t19 : tie.Need-add-t19 Inv-loop μ-loop
+add-t19 c =
+    let asked = c .before .before .before in
+    omega (
+      arith,
+      few (asked .before .before .before .before .before),
+      asked .before .before .before .before .before .before .before .before .pre .2,
+    )
 
 returns-2 : tie.Need-returns-2 Inv-loop μ-loop
 returns-2 c =
-    let asked = c .before .before .before .before .before in
-    c .refused2 .ensures
-    ∙ row-refused _ _ _ _ _ _ _ _ (asked .before .before .before .before .before .before .loop .inv)
+    let asked = c .before .before .before in
+    row-refused _ _ _ _ _ _ _ _ (asked .before .before .before .before .before .before .loop .inv)
     (asked .before .before .before .before .before .loop-test .taken) (asked .before .before .before .before .rest-from .ensures)
     (asked .before .before .before .first-part .ensures) (asked .before .before .if1 .left) _ (asked .ask-row .ensures) _
-    (c .before .before .before .refusal .given .1) _ (c .before .row-line2 .ensures)
+    (c .before .refusal .given .1)
 
 enum-told : tie.Need-enum-told Inv-loop μ-loop
 enum-told c = search needs
@@ -123,23 +113,11 @@ loop-again c =
     (known .0)
     (c .enum-told .given .1)
 
-add-row-line-3 : tie.Need-add-row-line-3 Inv-loop μ-loop
-add-row-line-3 c = omega (arith, c .before .before .before .before .pre .0)
-
-row-line-requires-3 : tie.Need-row-line-requires-3 Inv-loop μ-loop
-row-line-requires-3 c κs = omega (arith, c .before .before .before .before .pre .0)
-
-refused-requires-3 : tie.Need-refused-requires-3 Inv-loop μ-loop
-refused-requires-3 c κs = search needs
+add-t23 : tie.Need-add-t23 Inv-loop μ-loop
+add-t23 c = omega (arith, c .before .before .before .pre .0, c .before .before .before .pre .2)
 
 returns-3 : tie.Need-returns-3 Inv-loop μ-loop
-returns-3 c =
-    c .refused3 .ensures
-    ∙ walk-goes-on _ _ _ _ _ _ (c .before .before .before .before .loop .inv) (c .before .before .before .loop-test .left)
-    (c .before .before .if2 .taken) _ (c .before .row-line3 .ensures)
-
-returns-4 : tie.Need-returns-4 Inv-loop μ-loop
-returns-4 c = walk-ends _ _ _ _ _ _ (c .before .before .loop .inv) (c .before .loop-test .left) (c .if2 .left)
+returns-3 c = walk-ended _ _ _ _ _ _ (c .before .loop .inv) (c .loop-test .left)
 
 pub ask-rows-spec : {M : Type 1} → statement M
 ask-rows-spec =
@@ -151,16 +129,12 @@ ask-rows-spec =
     rest-from-requires
     first-part-requires
     add-end
-    add-row-line
-    row-line-requires
-    refused-requires
+    add-t15
     returns
     slice-aggregate-ask-row
     ask-row-requires
     enum-known-refusal
-    add-row-line-2
-    row-line-requires-2
-    refused-requires-2
+    add-t19
     returns-2
     enum-told
     mul-starts
@@ -169,8 +143,5 @@ ask-rows-spec =
     add-done
     loop-less
     loop-again
-    add-row-line-3
-    row-line-requires-3
-    refused-requires-3
-    returns-3
-    returns-4)
+    add-t23
+    returns-3)

@@ -1,43 +1,10 @@
 -- `matrix_file::numbers::code_form` meets its contract: each answer follows from the tests that led to it. Assumes nothing.
-use mathlib.Core.Path.{_≡_, refl, sym, ap, ap₂, _∙_}
-use mathlib.Core.Bool.{Bool, true, false, not, _&&_}
-use mathlib.Core.List.{List, [], _∷_}
-use Prim.Native.Nat.{ℕ}
-use native.Mathlib.Omega.{arith}
-use borrow.Author.Tests.{not-true, not-false}
+use mathlib.Core.Path.{sym, _∙_}
+use borrow.Author.Tests.{not-false}
 use borrow.Author.Needs.{needs}
-use lib.Dec.{leb}
-use lib.ListN.{length, getD, drop}
-use Rattle.matrix_file.specs.Decimal.{numberForm, numberOf, codeForm}
-use Rattle.matrix_file.proofs.Codes.{code-form-plain, code-form-minus}
-use Rattle.matrix_file.specs.Bytes.{minus}
+use Rattle.matrix_file.proofs.Decimal.CodeWalk.{none, plain, bad-digits, digits}
 use Rattle.matrix_file.proofs.numbers.code_form.Statement.{statement}
 use Rattle.matrix_file.proofs.numbers.code_form.Tie as tie
-
--- an empty text has not the form
-none : (text : List ℕ) → length text ≡ 0 → false ≡ codeForm text
-unfolding codeForm
-none [] e = refl
-none (byte ∷ bytes) e = absurd (omega arith)
-
--- a text without a minus in front has it if it is a number
-plain : (text : List ℕ) → (length text ≡ 0 → ⊥) → (getD text 0 0 ≡ minus → ⊥) → codeForm text ≡ numberForm text
-plain text h = code-form-plain text (omega arith)
-
--- what stands behind a minus
-module _ (text rest : List ℕ) (b : Bool) (h : length text ≡ 0 → ⊥) (m : getD text 0 0 ≡ minus) (r : rest ≡ drop 1 text)
-    (e : b ≡ numberForm rest) where
-  -- the form is that of a number that is not `0`
-  behind : codeForm text ≡ b && leb 1 (numberOf rest)
-  behind =
-      code-form-minus text (omega arith) m
-      ∙ ap₂ (λ x y. x && leb 1 (numberOf y)) (ap numberForm (sym r) ∙ sym e) (sym r)
-
-  bad-digits : not b ≡ true → false ≡ codeForm text
-  bad-digits t = sym (behind ∙ ap (λ x. x && leb 1 (numberOf rest)) (not-true b t))
-
-  digits : (number : ℕ) → not b ≡ false → number ≡ numberOf rest → leb 1 number ≡ codeForm text
-  digits number t n = sym (behind ∙ ap (λ x. x && leb 1 (numberOf rest)) (not-false b t) ∙ ap (leb 1) (sym n))
 
 returns : tie.Need-returns
 returns c = none _ (c .if1 .taken)

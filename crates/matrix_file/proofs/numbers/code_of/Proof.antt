@@ -1,26 +1,13 @@
 -- `matrix_file::numbers::code_of` meets its contract: with a minus and without one. Assumes nothing.
-use mathlib.Core.Path.{_≡_, sym, ap, _∙_}
-use mathlib.Core.Bool.{true}
-use mathlib.Core.List.{List}
-use Prim.Native.Nat.{ℕ}
+use mathlib.Core.Path.{sym, ap, _∙_}
 use borrow.Author.Needs.{sfits-of, needs}
-use lib.Dec.{leb}
 use lib.IntN.{pos, negℤ}
-use lib.ListN.{getD, drop}
 use mir.Facts.{toZ-ofZ}
-use Rattle.matrix_file.specs.Decimal.{numberForm, numberOf, codeForm}
-use Rattle.matrix_file.proofs.Codes.{code-form-plain, code-plain, code-form-minus, code-minus, code-form-some}
-use Rattle.lists.proofs.Both.{and-left}
-use Rattle.matrix_file.specs.Bytes.{minus}
+use Rattle.matrix_file.specs.Decimal.{numberOf}
+use Rattle.matrix_file.proofs.Decimal.Codes.{code-form-plain, code-plain, code-minus, code-form-some}
+use Rattle.matrix_file.proofs.Decimal.CodeWalk.{digits-behind}
 use Rattle.matrix_file.proofs.numbers.code_of.Statement.{statement}
 use Rattle.matrix_file.proofs.numbers.code_of.Tie as tie
-
--- behind a minus stands a number
-digits-behind : (text rest : List ℕ) → codeForm text ≡ true → getD text 0 0 ≡ minus → rest ≡ drop 1 text → numberForm rest ≡ true
-digits-behind text rest form m r =
-    ap numberForm r
-    ∙ and-left (numberForm (drop 1 text)) (leb 1 (numberOf (drop 1 text)))
-    (sym (code-form-minus text (code-form-some text form) m) ∙ form)
 
 shared-slice-read-if1 : tie.Need-shared-slice-read-if1
 shared-slice-read-if1 c = code-form-some _ (c .before .before .pre)

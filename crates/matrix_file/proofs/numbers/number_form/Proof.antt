@@ -3,7 +3,7 @@ use mathlib.Core.Path.{sym, _∙_}
 use borrow.Author.Tests.{not-true, not-false, le-leb, lt-leb, eq-eqb}
 use borrow.Author.Needs.{needs}
 use Rattle.matrix_file.specs.Decimal.{numberForm}
-use Rattle.matrix_file.proofs.Digits.{leading-one, leading-more}
+use Rattle.matrix_file.proofs.Decimal.Digits.{leading-one, leading-more}
 use Rattle.matrix_file.proofs.numbers.number_form.Statement.{statement}
 use Rattle.matrix_file.proofs.numbers.number_form.Tie as tie
 
@@ -15,8 +15,8 @@ returns-2 : tie.Need-returns-2
 unfolding numberForm
 returns-2 c = rw (le-leb 1 _ (c .before .if1 .left), lt-leb _ 6 (c .if2 .taken))
 
-all-digits-requires : tie.Need-all-digits-requires
-all-digits-requires c κs = search needs
+all-in-requires : tie.Need-all-in-requires
+all-in-requires c κs = search needs
 
 returns-3 : tie.Need-returns-3
 unfolding numberForm
@@ -24,7 +24,7 @@ returns-3 c =
     rw (
       le-leb 1 _ (c .before .before .before .if1 .left),
       le-leb _ 6 (c .before .before .if2 .left),
-      sym (c .before .all-digits .ensures) ∙
+      sym (c .before .all-in .ensures) ∙
           not-true _ (c .if3 .taken),
     )
 
@@ -38,7 +38,7 @@ returns-4 c =
       le-leb 1 _ (c .before .before .before .before .if1 .left),
       le-leb _ 6 (c .before .before .before .if2 .left),
       sym
-          (c .before .before .all-digits .ensures) ∙ not-false _ (c .before .if3 .left),
+          (c .before .before .all-in .ensures) ∙ not-false _ (c .before .if3 .left),
       leading-one _ (c .if4 .taken),
     )
     (eq-eqb _ 1 (c .if4 .taken))
@@ -50,7 +50,7 @@ returns-5 c =
       le-leb 1 _ (c .before .before .before .before .before .if1 .left),
       le-leb _ 6 (c .before .before .before .before .if2 .left),
       sym
-          (c .before .before .before .all-digits .ensures) ∙ not-false _ (c .before .before .if3 .left),
+          (c .before .before .before .all-in .ensures) ∙ not-false _ (c .before .before .if3 .left),
       leading-more _
           (c .before .before .before .before .before .if1 .left) (c .before .if4 .left),
     )
@@ -61,7 +61,7 @@ number-form-spec =
     (tie.spec
     returns
     returns-2
-    all-digits-requires
+    all-in-requires
     returns-3
     shared-slice-read-result
     returns-4

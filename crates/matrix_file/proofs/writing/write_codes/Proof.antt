@@ -1,78 +1,16 @@
 -- `matrix_file::writing::write_codes` meets its contract. The loop's invariant: the codes passed are written over the front, and the
 -- fields behind them are left. Assumes nothing.
--- fields behind them are left. Assumes nothing.
-use mathlib.Core.Path.{_≡_, refl, sym, ap, _∙_}
-use mathlib.Core.Bool.{true}
-use mathlib.Core.List.{List, [], _∷_, _++_, map}
-use Prim.Native.Nat.{ℕ, _+_, _-_, _≤_, _<_}
+use mathlib.Core.Path.{_∙_}
+use Prim.Native.Nat.{_+_, _-_, _≤_, _<_}
 use native.Mathlib.Omega.{arith}
 use borrow.Author.Needs.{sfits-of, needs}
-use lib.IntN.{ℤ}
-use lib.ListN.{length, take, drop, set, length-set, length-drop, length-map, List·getD-map}
+use lib.ListN.{length}
 use mir.Facts.{toZ-ofZ}
-use Rattle.matrix_file.proofs.Overwriting.{front-more, front-all}
-use Rattle.matrix_file.proofs.LinesWalk.{rest-below, rest-at, rest-next}
-use Rattle.matrix_file.proofs.PartsFrom.{partsFrom, from-start, from-past, from-next, next-within}
-use Rattle.matrix_file.specs.Bytes.{tab, firstPart}
-use Rattle.matrix_file.specs.Decimal.{codeForm, codeOf}
-use Rattle.matrix_file.specs.Reading.{fieldsOf}
-use Rattle.matrix_file.specs.Written.{overFront}
-use Rattle.lists.specs.Tests.{every}
-use Rattle.lists.proofs.Every.{every-at}
+use Rattle.matrix_file.proofs.Text.PartsFrom.{next-within}
+use Rattle.matrix_file.specs.Bytes.{tab}
+use Rattle.matrix_file.proofs.Lists.CodesWritten.{none-written, below, formed, one-more, all-written, CodesWritten}
 use Rattle.matrix_file.proofs.writing.write_codes.Statement.{statement}
 use Rattle.matrix_file.proofs.writing.write_codes.Tie as tie
-
--- what a loop that writes codes knows at a place of the text: j codes are written, and the fields behind them are left
-record CodesWritten (old : List ℤ) (text : List ℕ) (out : List ℤ) (j at : ℕ) : Type 0 where
-  near : at ≤ length text + 1
-  most : j ≤ length (fieldsOf text)
-  full : length out ≡ length old
-  left : drop j (fieldsOf text) ≡ partsFrom tab text at
-  written : out ≡ take j (map codeOf (fieldsOf text)) ++ drop j old
-
--- at the start
-none-written : (old : List ℤ) (text : List ℕ) → CodesWritten old text old 0 0
-unfolding fieldsOf
-none-written old text = record { near = omega arith; most = omega arith; full = refl; left = sym (from-start tab text); written = refl }
-
-module _ (old : List ℤ) (text : List ℕ) (out : List ℤ) (j at : ℕ) (rest field : List ℕ) (inv : CodesWritten old text out j at)
-    (h : at ≤ length text) (r : rest ≡ drop at text) (f : field ≡ firstPart tab rest) where
-  these : drop j (fieldsOf text) ≡ field ∷ partsFrom tab text (at + length field + 1)
-  these = inv .left ∙ from-next tab text at rest field h r f
-
-  -- the field is the one at j
-  below : j < length (fieldsOf text)
-  below = rest-below (fieldsOf text) j field _ these
-
-  -- it has the form of a code
-  formed : every codeForm (fieldsOf text) ≡ true → codeForm field ≡ true
-  formed all = ap codeForm (sym (rest-at (fieldsOf text) j field _ these [])) ∙ every-at codeForm (fieldsOf text) all j [] below
-
-  -- one code more
-  one-more : (code : ℤ) → length (fieldsOf text) ≤ length old → code ≡ codeOf field
-      → CodesWritten old text (set out j code) (j + 1) (at + length field + 1)
-  one-more code room e =
-      let in-text = next-within tab text at rest field h r f in
-      record {
-        near = omega arith;
-        most = omega (arith, below);
-        full = length-set out j code ∙ inv .full;
-        left = rest-next (fieldsOf text) j field _ these;
-        written =
-            let in-codes : j < length (map codeOf (fieldsOf text)) = omega (arith, below, length-map (fieldsOf text) codeOf) in
-            ap (λ xs. set xs j code) (inv .written)
-            ∙ front-more j (map codeOf (fieldsOf text)) old (codeOf []) code in-codes (omega (arith, below))
-            (e ∙ ap codeOf (sym (rest-at (fieldsOf text) j field _ these [])) ∙ sym (List·getD-map codeOf (fieldsOf text) j []));
-      }
-
--- all codes
-all-written : (old : List ℤ) (text : List ℕ) (out : List ℤ) (j at : ℕ) → CodesWritten old text out j at → length text < at
-    → out ≡ overFront (map codeOf (fieldsOf text)) old
-all-written old text out j at inv h =
-    let none = ap length (inv .left ∙ from-past tab text at h) in
-    let count : j ≡ length (map codeOf (fieldsOf text)) = omega
-    (arith, inv .most, length-drop j (fieldsOf text), length-map (fieldsOf text) codeOf) in
-    inv .written ∙ front-all j (map codeOf (fieldsOf text)) old count
 
 abbrev Inv-loop : tie.InvT-loop
 Inv-loop out₀ text j₀ at₀ out j at = CodesWritten out₀ text out j at

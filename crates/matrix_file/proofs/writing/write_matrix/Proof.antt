@@ -1,35 +1,18 @@
 -- `matrix_file::writing::write_matrix` meets its contract. The loop's invariant: the rows passed are written, and the lines behind them
 -- are left. Assumes nothing.
--- are left. Assumes nothing.
-use mathlib.Core.Path.{_≡_, refl, ap, _∙_}
-use mathlib.Core.List.{List, map}
-use Prim.Native.Nat.{ℕ, _+_, _-_, _*_, _≤_, _<_}
+use Prim.Native.Nat.{_+_, _-_, _*_, _≤_}
 use native.Mathlib.Omega.{arith}
 use borrow.Author.Needs.{needs}
-use lib.IntN.{ℤ}
-use lib.ListN.{length, take}
-use Rattle.matrix_file.proofs.LinesWalk.{RowFormed, LinesLeft, lines-start, line-formed, line-ended, lines-next}
-use Rattle.matrix_file.proofs.WrittenLines.{codes-formed, codes-few, rows-fit, said-count, all-said, matrix-more}
-use Rattle.matrix_file.proofs.Overwriting.{part-room, length-rows}
-use Rattle.matrix_file.specs.Written.{matrixWritten}
-use Rattle.matrix_file.specs.Reading.{linesOf, codesIn}
-use Rattle.matrix_file.specs.Walk.{RowsFormed}
+use lib.ListN.{length}
+use Rattle.matrix_file.proofs.Lists.LinesWalk.{RowFormed, line-formed, line-ended}
+use Rattle.matrix_file.proofs.Lists.WrittenLines.{codes-formed, codes-few, codes-said, part-room, ItemsWritten, items-start, items-next, items-all}
+use Rattle.matrix_file.specs.Rows.{codesIn}
 use Rattle.matrix.specs.Shape.{columns}
 use Rattle.matrix_file.proofs.writing.write_matrix.Statement.{statement}
 use Rattle.matrix_file.proofs.writing.write_matrix.Tie as tie
 
--- one row more leaves the length
-new-length : (rows : List ℕ) (n done : ℕ) (old new : List ℤ) → RowsFormed n rows → n * columns ≤ length old → done < n
-    → new ≡ matrixWritten (take (done + 1) (map codesIn (take n (linesOf rows)))) old → length new ≡ length old
-new-length rows n done old new formed room h e =
-    ap length e
-    ∙ length-rows (take (done + 1) (map codesIn (take n (linesOf rows)))) old (rows-fit n rows formed (done + 1))
-    (omega (arith, said-count n rows formed (done + 1) codesIn (omega arith)))
-
 abbrev Inv-loop : tie.InvT-loop
-Inv-loop matrix₀ rows n at₀ done₀ matrix at done =
-    LinesLeft rows n at done × (length matrix ≡ length matrix₀) ×
-    (matrix ≡ matrixWritten (take done (map codesIn (take n (linesOf rows)))) matrix₀)
+Inv-loop matrix₀ rows n at₀ done₀ matrix at done = ItemsWritten columns codesIn rows n matrix₀ matrix at done
 
 abbrev μ-loop : tie.MeasureT-loop
 μ-loop matrix₀ rows n at₀ done₀ matrix at done = n - done
@@ -40,7 +23,7 @@ found-formed c =
     line-formed (c .before .before .before .before .before .args .rows .now) (c .before .before .before .before .before .args .n)
     (c .before .before .before .loop .at) (c .before .before .before .loop .done) (c .before .rest-from .result .now)
     (c .first-part .result .now)
-    (c .before .before .before .before .before .pre .1) (c .before .before .before .loop .inv .0) (c .before .before .loop-test .taken)
+    (c .before .before .before .before .before .pre .1) (c .before .before .before .loop .inv .walk) (c .before .before .loop-test .taken)
     (c .before .rest-from .ensures) (c .first-part .ensures)
 
 found-ended : (c : tie.After-first-part Inv-loop μ-loop)
@@ -50,12 +33,11 @@ found-ended c =
     line-ended (c .before .before .before .before .before .args .rows .now) (c .before .before .before .before .before .args .n)
     (c .before .before .before .loop .at) (c .before .before .before .loop .done) (c .before .rest-from .result .now)
     (c .first-part .result .now)
-    (c .before .before .before .before .before .pre .1) (c .before .before .before .loop .inv .0) (c .before .before .loop-test .taken)
+    (c .before .before .before .before .before .pre .1) (c .before .before .before .loop .inv .walk) (c .before .before .loop-test .taken)
     (c .before .rest-from .ensures) (c .first-part .ensures)
 
 loop-holds : tie.Need-loop-holds Inv-loop μ-loop
-unfolding matrixWritten
-loop-holds c = (lines-start _ _, refl, refl)
+loop-holds c = items-start columns codesIn _ _ _
 
 rest-from-requires : tie.Need-rest-from-requires Inv-loop μ-loop
 rest-from-requires c κs = search needs
@@ -72,12 +54,12 @@ mul-write-codes c = omega (arith, c .before .before .before .before .before .pre
 sub-write-codes : tie.Need-sub-write-codes Inv-loop μ-loop
 sub-write-codes c =
     omega
-    (arith, c .before .before .before .before .before .pre .0, c .before .before .loop-test .taken, c .before .before .before .loop .inv .1)
+    (arith, c .before .before .before .before .before .pre .0, c .before .before .loop-test .taken, c .before .before .before .loop .inv .full)
 
 part-write-codes-start : tie.Need-part-write-codes-start Inv-loop μ-loop
 part-write-codes-start c =
     omega
-    (arith, c .before .before .before .before .before .pre .0, c .before .before .loop-test .taken, c .before .before .before .loop .inv .1)
+    (arith, c .before .before .before .before .before .pre .0, c .before .before .loop-test .taken, c .before .before .before .loop .inv .full)
 
 part-write-codes-end : tie.Need-part-write-codes-end Inv-loop μ-loop
 part-write-codes-end c = search needs
@@ -91,7 +73,7 @@ write-codes-requires c κs =
     let walk = c .before .before .before .before .before in
     let start = walk .before .before in
     let fits : walk .loop .done * columns + columns ≤ length (walk .loop .matrix) =
-    omega (arith, start .pre .0, walk .loop .inv .1, c .before .before .before .before .loop-test .taken) in (
+    omega (arith, start .pre .0, walk .loop .inv .full, c .before .before .before .before .loop-test .taken) in (
       codes-formed _ _ good (c .behind-part .ensures),
       omega (arith, codes-few _ _ good (c .behind-part .ensures), part-room (walk .loop .done * columns) columns (walk .loop .matrix) fits),
     )
@@ -112,24 +94,16 @@ loop-again : tie.Need-loop-again Inv-loop μ-loop
 loop-again c =
     let found = c .before .before .before .before in
     let known = found .before .before .before .before .before .pre in
-    let walk = found .before .before .before .loop .inv in
-    let new =
-    matrix-more _ _ _ _ _ _ (known .1) (walk .0) (found .before .before .loop-test .taken)
-    (found .before .rest-from .ensures) (found .first-part .ensures) _ _ _ _
-    (known .0) (walk .1) (walk .2) (c .before .before .behind-part .ensures) (c .before .write-codes .ensures) in (
-      lines-next _ _ _ _ _ _ (known .1) (walk .0) (found .before .before .loop-test .taken)
-          (found .before .rest-from .ensures) (found .first-part .ensures),
-      new-length _ _ _ _ _ (known .1) (known .0) (found .before .before .loop-test .taken) new,
-      new,
-    )
+    let line = codes-said _ _ (found-formed found) (c .before .before .behind-part .ensures) in
+    items-next columns codesIn _ _ _ _ _ _ _ _ _ (known .1) (known .0) (found .before .before .before .loop .inv)
+    (found .before .before .loop-test .taken) (found .before .rest-from .ensures) (found .first-part .ensures)
+    _ line (c .before .write-codes .ensures)
 
 same-length : tie.Need-same-length Inv-loop μ-loop
-same-length c = c .before .loop .inv .1
+same-length c = c .before .loop .inv .full
 
 returns : tie.Need-returns Inv-loop μ-loop
-returns c =
-    c .before .loop .inv .2
-    ∙ ap (λ said. matrixWritten said (c .before .before .before .args .matrix .now)) (all-said codesIn _ _ _ (c .loop-test .left))
+returns c = items-all columns codesIn _ _ _ _ _ _ (c .before .loop .inv) (c .loop-test .left)
 
 pub write-matrix-spec : {M : Type 1} → statement M
 write-matrix-spec =

@@ -1,0 +1,199 @@
+-- The questions put to a file, as they are put one after another: its length, the header, the rows, and the end.
+use mathlib.Core.Path.{_≡_, refl, sym, ap, ap₂, _∙_}
+use mathlib.Core.List.{List, [], _∷_}
+use mathlib.Core.Bool.{Bool, true, false, not, and-eq-true-iff}
+use Prim.Native.Nat.{ℕ, _≤_, _<_}
+use native.Mathlib.Omega.{arith}
+use borrow.Author.Tests.{le-leb, lt-leb, not-true, not-false}
+use lib.Dec.{eqb}
+use lib.ListN.{length, getD, drop}
+use Rattle.matrix.specs.Refusals.{refusalNumber}
+use Rattle.matrix.specs.declared.refusal.Refusal.{Refusal}
+use Rattle.matrix.specs.declared.refusal.Refusal.the-variants.{FirstLine, BeyondLimits, FileGoesOn}
+use Rattle.matrix.specs.declared.refusal.Asked.{Asked}
+use Rattle.matrix.specs.declared.refusal.Asked.the-variants as Asked
+use Rattle.matrix.specs.Outcomes.{ask, Outcome, value, refused, onLine}
+use Rattle.matrix.specs.Questions.{withinLimits, oneTo}
+use Rattle.matrix.proofs.Passing.{oneTo-true}
+use Rattle.matrix_file.specs.declared.answer.Header.{Header}
+use Rattle.matrix_file.specs.declared.answer.Read.{Read}
+use Rattle.matrix_file.specs.declared.answer.Read.the-variants.{Accepted, Refused}
+use Rattle.matrix_file.specs.declared.answer.RowsAnswer.{RowsAnswer}
+use Rattle.matrix_file.specs.declared.answer.RowsAnswer.the-variants as RowsAnswer
+use Rattle.matrix_file.specs.Bytes.{lineFeed, beforeFirst, partsAt, partLength, firstPart, behindPart}
+use Rattle.matrix_file.specs.Lines.{linesOf, fieldsOf}
+use Rattle.matrix_file.specs.Header.{rowLine, headerFrom, headerIn, behindHeader, firstForm, firstLineForm, askFirstLine, askHeader}
+use Rattle.matrix_file.specs.Reading.{mostBytes, thenWith, jobOf, nothingMore, askEnd, askBehind, askFile, askLength, readAnswer}
+use Rattle.matrix_file.specs.Report.{readSays, withHeader}
+use Rattle.matrix_file.specs.Walk.{headerOn, rowsSay, RowsAsked}
+use Rattle.matrix_file.proofs.File.HeaderRead.{HeaderPassed, header-passed, several-lines}
+use Rattle.matrix_file.proofs.Text.Parts.{parts-some, parts-at, parts-other}
+use Rattle.matrix_file.proofs.Text.FirstPart.{first-length, part-within, parts-one, parts-more}
+
+-- what the header's questions bring, where its form is right or not and n and m are within their limits or not
+abbrev headerAsked : Bool → Bool → Header → Outcome Header
+headerAsked good within header = onLine 1 (ask good FirstLine (ask within BeyondLimits Asked.Passed)) (value header)
+
+-- the header of a file with line 1
+module _ (file line : List ℕ) (l : line ≡ firstPart lineFeed file) where
+  -- line 1 is the first part at a line feed
+  line-length : length line ≡ partLength lineFeed file
+  line-length = ap length l ∙ first-length lineFeed file
+
+  -- it is not ended by a line feed
+  pub no-feed : length line ≡ length file → refused 3 1 ≡ askHeader (linesOf file)
+  unfolding askHeader askFirstLine firstLineForm linesOf
+  no-feed e =
+      sym (ap (λ lines. headerAsked (firstLineForm lines) (withinLimits (headerIn lines .n) (headerIn lines .m)) (headerIn lines))
+      (parts-one lineFeed file (sym line-length ∙ e)))
+
+  module _ (feed : length line ≡ length file → ⊥) (good : Bool) (g : good ≡ firstForm (fieldsOf line)) where
+    -- the file's lines: line 1, and those behind it
+    lines : linesOf file ≡ line ∷ linesOf (behindPart lineFeed file)
+    unfolding linesOf
+    lines =
+        parts-more lineFeed file (omega (arith, line-length, part-within lineFeed file))
+        ∙ ap (λ x. x ∷ partsAt lineFeed (behindPart lineFeed file)) (sym l)
+
+    form : firstLineForm (linesOf file) ≡ good
+    unfolding firstLineForm linesOf
+    form =
+        let more = parts-some lineFeed (behindPart lineFeed file) in
+        ap firstLineForm (lines ∙ ap (_∷_ line) (more .2)) ∙ sym g
+
+    -- its header is what its fields say
+    says : headerIn (linesOf file) ≡ headerFrom (fieldsOf line)
+    unfolding headerIn
+    says = ap (λ xs. headerFrom (fieldsOf (getD xs 0 []))) lines
+
+    -- its form is not right
+    pub bad-first : not good ≡ true → refused 3 1 ≡ askHeader (linesOf file)
+    unfolding askHeader askFirstLine
+    bad-first t =
+        sym (ap
+        (λ x. headerAsked x (withinLimits (headerIn (linesOf file) .n) (headerIn (linesOf file) .m)) (headerIn (linesOf file)))
+        (form ∙ not-true good t))
+
+    module _ (t : not good ≡ false) (header : Header) (e : header ≡ headerFrom (fieldsOf line)) (within : Bool)
+        (w : within ≡ withinLimits (header .n) (header .m)) where
+      -- its form is right: the limits decide
+      limited : askHeader (linesOf file) ≡ headerAsked true within header
+      unfolding askHeader askFirstLine
+      limited =
+          ap₂ (λ x read. headerAsked x (withinLimits (read .n) (read .m)) read) (form ∙ not-false good t) (says ∙ sym e)
+          ∙ ap (λ x. headerAsked true x header) (sym w)
+
+      -- n or m is beyond its limits
+      pub beyond : not within ≡ true → refused 4 1 ≡ askHeader (linesOf file)
+      beyond u = sym (limited ∙ ap (λ x. headerAsked true x header) (not-true within u))
+
+      -- both are within them
+      pub header-found : not within ≡ false → value header ≡ askHeader (linesOf file)
+      header-found u = sym (limited ∙ ap (λ x. headerAsked true x header) (not-false within u))
+
+-- something stands behind the last line
+more-than-nothing : (b : ℕ) (bs : List ℕ) → nothingMore (partsAt lineFeed (b ∷ bs)) ≡ false
+unfolding nothingMore
+more-than-nothing b bs = by (eqb b lineFeed) refl
+  where
+    rest : (first : List ℕ) × (others : List (List ℕ)) × (partsAt lineFeed bs ≡ first ∷ others)
+    rest = parts-some lineFeed bs
+
+    by : (t : Bool) → eqb b lineFeed ≡ t → nothingMore (partsAt lineFeed (b ∷ bs)) ≡ false
+    by true e = ap nothingMore (parts-at lineFeed b bs e ∙ ap (_∷_ []) (rest .2))
+    by false e = ap nothingMore (parts-other lineFeed b bs e ∙ ap (beforeFirst b) (rest .2))
+
+-- the file goes on
+pub goes-on : (rest : List ℕ) → 0 < length rest → Asked.Refused FileGoesOn ≡ ask (nothingMore (linesOf rest)) FileGoesOn Asked.Passed
+unfolding linesOf
+goes-on [] h = absurd (omega arith)
+goes-on (byte ∷ bytes) h = sym (ap (λ x. ask x FileGoesOn Asked.Passed) (more-than-nothing byte bytes))
+
+-- it ends
+pub ends : (rest : List ℕ) → length rest ≤ 0 → Asked.Passed ≡ ask (nothingMore (linesOf rest)) FileGoesOn Asked.Passed
+unfolding linesOf nothingMore partsAt
+ends [] h = refl
+ends (byte ∷ bytes) h = absurd (omega arith)
+
+-- the header or a refusal on a line, in document 01's terms
+header-on : (line : ℕ) (asked : Asked) (header : Header) (lines : List (List ℕ))
+    → readSays (headerOn line asked header) ≡ withHeader (onLine line asked (value (jobOf header lines)))
+unfolding jobOf
+header-on line Asked.Passed header lines = refl
+header-on line (Asked.Refused refusal) header lines = refl
+
+-- what stands behind a header, once its rows have been asked
+module _ (rows : List ℕ) (header : Header) (answer : RowsAnswer) (asked : RowsAsked rows header (rowLine header 1) answer) where
+  -- the rows are refused
+  pub rows-refused : (refusal : Refusal) (line : ℕ) → answer ≡ RowsAnswer.Refused refusal line
+      → refused (refusalNumber refusal) line ≡ withHeader (askBehind header (linesOf rows))
+  unfolding askBehind
+  rows-refused refusal line e =
+      ap withHeader
+      (sym (ap (λ r. rowsSay rows r (askEnd (value (jobOf header (linesOf rows))))) e)
+      ∙ asked .says (askEnd (value (jobOf header (linesOf rows)))))
+
+  -- they end: the end of the file decides
+  pub rows-ended : (at line : ℕ) → answer ≡ RowsAnswer.Ended at line → (rest : List ℕ) → rest ≡ drop at rows → (end : Asked)
+      → end ≡ ask (nothingMore (linesOf rest)) FileGoesOn Asked.Passed
+      → readSays (headerOn line end header) ≡ withHeader (askBehind header (linesOf rows))
+  unfolding askBehind askEnd
+  rows-ended at line e rest r end n =
+      header-on line end header (linesOf rows)
+      ∙ ap (λ x. withHeader (onLine line x (value (jobOf header (linesOf rows)))))
+      (n ∙ ap (λ x. ask (nothingMore (linesOf x)) FileGoesOn Asked.Passed) r)
+      ∙ ap withHeader
+      (sym (ap (λ r. rowsSay rows r (askEnd (value (jobOf header (linesOf rows))))) e)
+      ∙ asked .says (askEnd (value (jobOf header (linesOf rows)))))
+
+-- a file that is too long, and an empty one
+pub too-long : (file : List ℕ) → mostBytes < length file → refused 1 0 ≡ withHeader (readAnswer file)
+unfolding readAnswer askLength
+too-long file h = rw (lt-leb (length file) mostBytes h)
+
+pub empty : (file : List ℕ) → length file ≡ 0 → refused 2 0 ≡ withHeader (readAnswer file)
+unfolding readAnswer askLength
+empty file h = rw h
+
+-- a file of the right length, whose header has been asked
+module _ (file : List ℕ) (low : length file ≤ mostBytes) (some : length file ≡ 0 → ⊥) (answer : Read)
+    (a : readSays answer ≡ askHeader (linesOf file)) where
+  -- the header and what stands behind it decide
+  sized : readAnswer file ≡ thenWith (readSays answer) (λ header. askBehind header (behindHeader header (linesOf file)))
+  unfolding readAnswer askLength askFile
+  sized =
+      rw (le-leb (length file) mostBytes low, le-leb 1 (length file) (omega arith))
+      (ap (λ outcome. thenWith outcome (λ header. askBehind header (behindHeader header (linesOf file)))) (sym a))
+
+  -- the header is refused
+  pub header-refused : (refusal : Refusal) (line : ℕ) → answer ≡ Refused refusal line
+      → refused (refusalNumber refusal) line ≡ withHeader (readAnswer file)
+  header-refused refusal line e =
+      sym (ap withHeader
+      (sized ∙ ap (λ r. thenWith (readSays r) (λ header. askBehind header (behindHeader header (linesOf file)))) e))
+
+  module _ (header : Header) (e : answer ≡ Accepted header) where
+    passed : HeaderPassed (linesOf file) header
+    passed = header-passed (linesOf file) header (sym a ∙ ap readSays e)
+
+    -- lines stand behind it
+    pub header-several : 1 < length (linesOf file)
+    header-several = several-lines (linesOf file) (passed .form)
+
+    -- it has at most 64 taxa, and a character
+    pub header-limits : (header .n ≤ 64) × (1 ≤ header .m)
+    unfolding withinLimits
+    header-limits =
+        let limits : withinLimits (header .n) (header .m) ≡ true =
+        ap (λ read. withinLimits (read .n) (read .m)) (sym (passed .is)) ∙ passed .limits in
+        let both = and-eq-true-iff (oneTo 64 (header .n)) (oneTo 128 (header .m)) .0 limits in
+        (oneTo-true 64 (header .n) (both .0) .1, oneTo-true 128 (header .m) (both .1) .0)
+
+    -- what stands behind it decides
+    pub behind-decides : (rows : List ℕ) → linesOf rows ≡ behindHeader header (linesOf file) → (outcome : Outcome Header)
+        → outcome ≡ withHeader (askBehind header (linesOf rows)) → outcome ≡ withHeader (readAnswer file)
+    behind-decides rows r outcome o =
+        o
+        ∙ ap (λ lines. withHeader (askBehind header lines)) r
+        ∙ sym (ap withHeader
+        (sized ∙ ap (λ r. thenWith (readSays r) (λ header. askBehind header (behindHeader header (linesOf file)))) e))

@@ -1,0 +1,121 @@
+-- A file is refused by a number from 1 to 11 and by no other. (That each of them is met is shown by the examples.)
+use mathlib.Core.Path.{_≡_, subst}
+use mathlib.Core.Bool.{Bool, true, false}
+use mathlib.Core.List.{List, [], _∷_}
+use Prim.Native.Nat.{ℕ, zero, suc, _≤_}
+use native.Mathlib.Omega.{arith}
+use lib.Dec.{leb, eqb}
+use lib.ListN.{length, drop}
+use Rattle.matrix.specs.Refusals.{refusalNumber}
+use Rattle.matrix.specs.Shape.{inRange}
+use Rattle.matrix.specs.Outcomes.{ask, Outcome, value, refused, onLine}
+use Rattle.matrix.specs.Questions.{withinLimits}
+use Rattle.matrix.specs.declared.refusal.Refusal.the-variants.{FileTooLong, FileEmpty, FirstLine, BeyondLimits, NameForm, NameTaken}
+use Rattle.matrix.specs.declared.refusal.Refusal.the-variants.{LineMissing, FieldCount, CodeForm, CodeRange, FileGoesOn}
+use Rattle.matrix.specs.declared.refusal.Refusal.{Refusal}
+use Rattle.matrix.specs.declared.refusal.Asked.{Asked}
+use Rattle.matrix.specs.declared.refusal.Asked.the-variants.{Passed, Refused}
+use Rattle.matrix_file.specs.declared.answer.Header.{Header}
+use Rattle.matrix_file.specs.Decimal.{codeForm, codeOf}
+use Rattle.matrix_file.specs.Job.{nameForm, differsFromAll}
+use Rattle.matrix_file.specs.Lines.{linesOf, fieldsOf}
+use Rattle.matrix_file.specs.Header.{rowLine, headerIn, behindHeader, firstLineForm, askFirstLine, askHeader}
+use Rattle.matrix_file.specs.Rows.{nameIn, askCodes, askRow, askRows}
+use Rattle.matrix_file.specs.Reading.{mostBytes, thenWith, jobOf, nothingMore, askEnd, askBehind, askFile, askLength, readAnswer}
+
+-- the number of a refusal that a file can meet
+abbrev pub OfFile : ℕ → Type 0
+OfFile number = (1 ≤ number) × (number ≤ 11)
+
+-- questions that refuse, if they do, by such a number
+data Numbered : Asked → Type 0 where
+  passed : Numbered Passed
+  numbered : {refusal : Refusal} → OfFile (refusalNumber refusal) → Numbered (Refused refusal)
+
+data FileNumbered {A : Type 0} : Outcome A → Type 0 where
+  with-value : {a : A} → FileNumbered (value a)
+  with-number : {number line : ℕ} → OfFile number → FileNumbered (refused number line)
+
+-- one question, and those that follow
+numbered-ask : (b : Bool) (refusal : Refusal) {rest : Asked} → OfFile (refusalNumber refusal) → Numbered rest → Numbered (ask b refusal rest)
+numbered-ask true refusal own others = others
+numbered-ask false refusal own others = numbered own
+
+-- the questions put to one line, and those that follow
+numbered-line : {A : Type 0} (line : ℕ) {asked : Asked} {rest : Outcome A} → Numbered asked → FileNumbered rest
+    → FileNumbered (onLine line asked rest)
+numbered-line line passed others = others
+numbered-line line (numbered own) others = with-number own
+
+-- an outcome, and what follows it
+numbered-then : {A B : Type 0} {outcome : Outcome A} (follow : A → Outcome B) → FileNumbered outcome → ((a : A) → FileNumbered (follow a))
+    → FileNumbered (thenWith outcome follow)
+numbered-then follow (with-value {a = a}) others = others a
+numbered-then follow (with-number own) others = with-number own
+
+-- the codes of a row
+numbered-codes : (fields : List (List ℕ)) → Numbered (askCodes fields)
+unfolding askCodes
+numbered-codes [] = passed
+numbered-codes (field ∷ fields) =
+    numbered-ask (codeForm field) CodeForm (omega arith)
+    (numbered-ask (inRange (codeOf field)) CodeRange (omega arith) (numbered-codes fields))
+
+-- a row
+numbered-row : (header : Header) (earlier : List (List ℕ)) (line : List ℕ) → Numbered (askRow header earlier line)
+unfolding askRow
+numbered-row header earlier line =
+    numbered-ask (eqb (length (fieldsOf line)) (suc (header .m))) FieldCount (omega arith)
+    (numbered-ask (nameForm (nameIn line)) NameForm (omega arith)
+    (numbered-ask (differsFromAll (nameIn line) earlier) NameTaken (omega arith) (numbered-codes (drop 1 (fieldsOf line)))))
+
+-- the rows, and what follows them
+numbered-rows : {A : Type 0} (header : Header) (earlier : List (List ℕ)) (line left : ℕ) (lines : List (List ℕ))
+    (follow : ℕ → List (List ℕ) → Outcome A) → ((k : ℕ) (others : List (List ℕ)) → FileNumbered (follow k others))
+    → FileNumbered (askRows header earlier line left lines follow)
+unfolding askRows
+numbered-rows header earlier line zero lines follow own = own line lines
+numbered-rows header earlier line (suc left) [] follow own = with-number {number = refusalNumber LineMissing} (omega arith)
+numbered-rows header earlier line (suc left) (behind ∷ []) follow own = with-number {number = refusalNumber LineMissing} (omega arith)
+numbered-rows header earlier line (suc left) (row ∷ next ∷ lines) follow own =
+    numbered-line line (numbered-row header earlier row)
+    (numbered-rows header (nameIn row ∷ earlier) (suc line) left (next ∷ lines) follow own)
+
+-- the end of the file
+numbered-end : {A : Type 0} (rest : Outcome A) → FileNumbered rest → (line : ℕ) (lines : List (List ℕ)) → FileNumbered (askEnd rest line lines)
+unfolding askEnd
+numbered-end rest others line lines = numbered-line line (numbered-ask (nothingMore lines) FileGoesOn (omega arith) passed) others
+
+-- the header
+numbered-header : (lines : List (List ℕ)) → FileNumbered (askHeader lines)
+unfolding askHeader askFirstLine
+numbered-header lines =
+    numbered-line 1
+    (numbered-ask (firstLineForm lines) FirstLine (omega arith)
+    (numbered-ask (withinLimits (headerIn lines .n) (headerIn lines .m)) BeyondLimits (omega arith) passed))
+    with-value
+
+-- what stands behind it
+numbered-behind : (header : Header) (lines : List (List ℕ)) → FileNumbered (askBehind header lines)
+unfolding askBehind
+numbered-behind header lines =
+    numbered-rows header [] (rowLine header 1) (header .n) lines (askEnd (value (jobOf header lines))) (numbered-end (value (jobOf header lines)) with-value)
+
+-- a whole file
+numbered-file : (file : List ℕ) → FileNumbered (readAnswer file)
+unfolding readAnswer askLength askFile
+numbered-file file =
+    numbered-line 0
+    (numbered-ask (leb (length file) mostBytes) FileTooLong (omega arith)
+    (numbered-ask (leb 1 (length file)) FileEmpty (omega arith) passed))
+    (numbered-then (λ header. askBehind header (behindHeader header (linesOf file))) (numbered-header (linesOf file))
+    (λ header. numbered-behind header (behindHeader header (linesOf file))))
+
+-- the number of a refusal
+number-of : {A : Type 0} {outcome : Outcome A} (number line : ℕ) → FileNumbered outcome → outcome ≡ refused number line → OfFile number
+number-of number line with-value e = let never : _≡_ {A = ℕ} 0 1 = cc in absurd (omega arith)
+number-of number line (with-number {number = other} own) e = let same : other ≡ number = cc in subst OfFile same own
+
+-- a refused file has a number from 1 to 11
+pub refused-number : (file : List ℕ) (number line : ℕ) → readAnswer file ≡ refused number line → OfFile number
+refused-number file number line e = number-of number line (numbered-file file) e

@@ -1,0 +1,70 @@
+-- `matrix_file::header::ask_header` meets its contract: each answer follows from the questions that led to it. Assumes nothing.
+use mathlib.Core.Path.{sym, ap, _∙_}
+use borrow.Author.Tests.{not-false}
+use borrow.Author.Needs.{needs}
+use Rattle.matrix_file.specs.Report.{readSays}
+use Rattle.matrix_file.proofs.File.FileWalk.{no-feed, bad-first, beyond, header-found}
+use Rattle.matrix_file.proofs.header.ask_header.Statement.{statement}
+use Rattle.matrix_file.proofs.header.ask_header.Tie as tie
+
+first-part-requires : tie.Need-first-part-requires
+first-part-requires c κs = search needs
+
+refused-requires : tie.Need-refused-requires
+refused-requires c κs = search needs
+
+returns : tie.Need-returns
+returns c = ap readSays (c .refused .ensures) ∙ no-feed _ _ (c .before .before .first-part .ensures) (c .before .if1 .taken)
+
+first-form-requires : tie.Need-first-form-requires
+first-form-requires c κs = search needs
+
+refused-requires-2 : tie.Need-refused-requires-2
+refused-requires-2 c κs = search needs
+
+returns-2 : tie.Need-returns-2
+returns-2 c =
+    let formed = c .before .before in
+    ap readSays (c .refused2 .ensures)
+    ∙ bad-first _ _ (formed .before .before .first-part .ensures) (formed .before .if1 .left) _ (formed .first-form .ensures)
+    (c .before .if2 .taken)
+
+header-from-requires : tie.Need-header-from-requires
+header-from-requires c κs = sym (c .before .first-form .ensures) ∙ not-false _ (c .if2 .left)
+
+within-limits-requires : tie.Need-within-limits-requires
+within-limits-requires c κs = search needs
+
+refused-requires-3 : tie.Need-refused-requires-3
+refused-requires-3 c κs = search needs
+
+returns-3 : tie.Need-returns-3
+returns-3 c =
+    let read = c .before .before .before in
+    let formed = read .before .before in
+    ap readSays (c .refused3 .ensures)
+    ∙ beyond _ _ (formed .before .before .first-part .ensures) (formed .before .if1 .left) _ (formed .first-form .ensures)
+    (read .before .if2 .left) _ (read .header-from .ensures) _ (c .before .before .within-limits .ensures) (c .before .if3 .taken)
+
+returns-4 : tie.Need-returns-4
+returns-4 c =
+    let read = c .before .before in
+    let formed = read .before .before in
+    header-found _ _ (formed .before .before .first-part .ensures) (formed .before .if1 .left) _ (formed .first-form .ensures)
+    (read .before .if2 .left) _ (read .header-from .ensures) _ (c .before .within-limits .ensures) (c .if3 .left)
+
+pub ask-header-spec : {M : Type 1} → statement M
+ask-header-spec =
+    tie.close
+    (tie.spec
+    first-part-requires
+    refused-requires
+    returns
+    first-form-requires
+    refused-requires-2
+    returns-2
+    header-from-requires
+    within-limits-requires
+    refused-requires-3
+    returns-3
+    returns-4)

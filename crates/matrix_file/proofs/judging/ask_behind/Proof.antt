@@ -1,0 +1,59 @@
+-- `matrix_file::judging::ask_behind` meets its contract: a refusal of the rows stands, and behind them the end of the file decides.
+-- Assumes nothing.
+use mathlib.Core.Path.{ap, _∙_}
+use Rattle.matrix_file.specs.Report.{readSays}
+use Rattle.matrix_file.proofs.File.FileWalk.{rows-refused, rows-ended}
+use borrow.Author.Needs.{needs}
+use Rattle.matrix_file.proofs.judging.ask_behind.Statement.{statement}
+use Rattle.matrix_file.proofs.judging.ask_behind.Tie as tie
+
+add-ask-rows : tie.Need-add-ask-rows
+add-ask-rows c = search needs
+
+ask-rows-requires : tie.Need-ask-rows-requires
+ask-rows-requires c κs = search needs
+
+enum-known-refusal : tie.Need-enum-known-refusal
+enum-known-refusal c = search needs
+
+refused-requires : tie.Need-refused-requires
+refused-requires c κs = search needs
+
+enum-known-at : tie.Need-enum-known-at
+enum-known-at c = search needs
+
+rest-from-requires : tie.Need-rest-from-requires
+rest-from-requires c κs = search needs
+
+ask-end-requires : tie.Need-ask-end-requires
+ask-end-requires c κs = search needs
+
+on-line-requires : tie.Need-on-line-requires
+on-line-requires c κs = search needs
+
+returns : tie.Need-returns
+returns c =
+    ap readSays (c .refused .ensures)
+    ∙ rows-refused _ _ _ (c .before .before .before .before .ask-rows .ensures) _ _ (c .before .before .refusal .given .1)
+
+returns-2 : tie.Need-returns-2
+returns-2 c =
+    let asked = c .before .before .before .before .before .before in
+    ap readSays (c .on-line .ensures)
+    ∙ rows-ended _ _ _ (asked .ask-rows .ensures) _ _ (c .before .before .before .before .at .given .1) _
+    (c .before .before .rest-from .ensures) _ (c .before .ask-end .ensures)
+
+pub ask-behind-spec : {M : Type 1} → statement M
+ask-behind-spec =
+    tie.close
+    (tie.spec
+    add-ask-rows
+    ask-rows-requires
+    enum-known-refusal
+    refused-requires
+    enum-known-at
+    rest-from-requires
+    ask-end-requires
+    on-line-requires
+    returns
+    returns-2)
