@@ -5,6 +5,7 @@ use mathlib.Core.List.{List, [], _∷_, List·Memᴰ·head, List·Memᴰ·tail}
 use Prim.Native.Nat.{ℕ, _≤_}
 use native.Mathlib.Omega.{arith}
 use lib.IntN.{ℤ}
+use lib.ListN.{length}
 use Rattle.matrix.specs.Shape.{row}
 use Rattle.matrix.specs.Outcomes.{value}
 use Rattle.matrix.specs.Questions.{askNodes}
@@ -39,4 +40,6 @@ call-interval codes n m b c d e =
     let at-b = node-passed codes n m nodes passed b (List·Memᴰ·head refl) in
     let at-c = node-passed codes n m nodes passed c (List·Memᴰ·tail (List·Memᴰ·head refl)) in
     let at-d = node-passed codes n m nodes passed d (List·Memᴰ·tail (List·Memᴰ·tail (List·Memᴰ·head refl))) in
-    rw (e, interval-median (row codes m b) (row codes m c) (row codes m d) (omega (arith, at-b .0, at-c .0)) (omega (arith, at-c .0, at-d .0)))
+    let bc : length (row codes m b) ≡ length (row codes m c) = omega (arith, at-b .0, at-c .0) in
+    let cd : length (row codes m c) ≡ length (row codes m d) = omega (arith, at-c .0, at-d .0) in
+    rw (e, interval-median (row codes m b) (row codes m c) (row codes m d) bc cd)

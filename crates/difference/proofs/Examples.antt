@@ -12,10 +12,11 @@ use Rattle.matrix.specs.Questions.{oneTo, withinLimits, allInRange, rowsInRange
 use Rattle.difference.specs.Rows.{apart, difference, intervalBy}
 use Rattle.difference.specs.Calls.{differenceAnswer, intervalAnswer, askMedians}
 
--- a matrix of zeros, and one with a code out of range in row 3, that of the first HTU of three taxa
+-- a matrix of zeros
 abbrev zeros : List ℤ
 zeros = replicate matrixSize (pos 0)
 
+-- a matrix of zeros with a code out of range in row 4, that of the first HTU of three taxa
 abbrev badHtu : List ℤ
 badHtu = set zeros 384 (pos 1000)
 
@@ -29,6 +30,7 @@ unfolding numbers every row inRange lastNode oneTo withinLimits allInRange rowsI
     askMedians
 says codes n m a b c size = askedSays (askMedians codes n m a b c (lent size))
 
+-- the questions of the call for medians
 pub record Examples : Type 0 where
   -- a lent row of 128 codes passes, a shorter and a longer one are 12, and that before 4
   pub fits : says zeros 2 1 1 2 1 128 ≡ value tt
@@ -44,6 +46,7 @@ pub record Examples : Type 0 where
   pub htu-row : says badHtu 3 1 1 2 4 128 ≡ refused 10 0
   pub htu-unread : says badHtu 3 1 1 2 3 128 ≡ value tt
 
+-- they are as said
 pub examples : Examples
 unfolding says
 examples =
@@ -60,6 +63,7 @@ examples =
       htu-unread = refl;
     }
 
+-- the calls for an interval difference and for a difference
 pub record IntervalExamples : Type 0 where
   -- each of the nodes of an interval difference and of a difference is asked
   pub taxon : intervalAnswer zeros 2 1 3 1 2 ≡ refused 13 0
@@ -70,6 +74,7 @@ pub record IntervalExamples : Type 0 where
   pub other : differenceAnswer zeros 2 1 1 0 ≡ refused 13 0
   pub five : differenceAnswer (set zeros 128 (negsuc 4)) 2 1 1 2 ≡ value 5
 
+-- they answer so
 pub interval-examples : IntervalExamples
 unfolding numbers every row inRange lastNode oneTo withinLimits allInRange rowsInRange askMatrix nodesExist htuInRange htusInRange askNodes
     intervalAnswer differenceAnswer intervalBy difference apart

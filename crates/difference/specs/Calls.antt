@@ -39,4 +39,5 @@ askMedians codes n m a b c out = ask (eqb (length out) columns) ListSize (askNod
 -- the call for medians answers its questions; the lent row then has the medians over its first m codes, or is as before
 pub record MediansAnswer (codes : List ℤ) (n m a b c : ℕ) (old new : List ℤ) (r : Asked) : Type 0 where
   pub says : askedSays r ≡ askedSays (askMedians codes n m a b c old)
-  pub lent : new ≡ afterwards (askedSays (askMedians codes n m a b c old)) (over 0 (medians (row codes m a) (row codes m b) (row codes m c)) old) old
+  pub lent : new
+      ≡ afterwards (askedSays (askMedians codes n m a b c old)) (over 0 (medians (row codes m a) (row codes m b) (row codes m c)) old) old

@@ -10,9 +10,11 @@ use lib.Signed.{leZ}
 unfoldable pub apart : ℤ → ℤ → ℕ
 apart a b = natAbs (a -ℤ b)
 
+-- the lower of two codes
 unfoldable pub lower : ℤ → ℤ → ℤ
 lower a b = cond (leZ a b) a b
 
+-- the higher of two codes
 unfoldable pub higher : ℤ → ℤ → ℤ
 higher a b = cond (leZ a b) b a
 

@@ -5,6 +5,7 @@ ghost use lib.IntN.{natAbs};
 ghost use lib.Signed.{mag};
 ghost use Rattle.difference.specs.Rows.{apart, lower, higher, median};
 
+// A code as a wider number.
 fn wide(code: i32) -> i64
     ensures { λ r. ⌜ r ≡ code ⌝ }
 {

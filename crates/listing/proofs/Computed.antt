@@ -43,38 +43,38 @@ unfolding flatMap matrix-Shape.row matrix-Shape.inRange matrix-Shape.lastNode li
     lists-Tests.every lists-Tests.sameNumbers matrix-Questions.oneTo matrix-Questions.withinLimits matrix-Questions.allInRange
     matrix-Questions.rowsInRange matrix-Questions.askMatrix matrix-Questions.nodesExist matrix-Questions.htuInRange
     matrix-Questions.htusInRange matrix-Questions.askNodes difference-Rows.apart difference-Rows.lower difference-Rows.higher
-    difference-Rows.median difference-Rows.difference difference-Rows.medians
-    matrix-file-Bytes.isDigit matrix-file-Bytes.isLetter matrix-file-Bytes.partsAt
-    matrix-file-Bytes.partLength matrix-file-Bytes.firstPart matrix-file-Bytes.behindPart matrix-file-Bytes.joinedBy
-    matrix-file-Decimal.digitsIn matrix-file-Decimal.digitsOf matrix-file-Decimal.decimal matrix-file-Decimal.noLeadingZero
-    matrix-file-Decimal.numberForm matrix-file-Decimal.numberFrom matrix-file-Decimal.numberOf matrix-file-Decimal.codeForm
-    matrix-file-Decimal.codeOf matrix-file-Job.inName matrix-file-Job.nameForm matrix-file-Job.differsFromAll matrix-file-Job.allDiffer
-    matrix-file-Job.hasCodes matrix-file-Job.firstText matrix-file-Job.rowText matrix-file-Job.ended matrix-file-Job.fileOf
-    matrix-file-Lines.linesOf matrix-file-Lines.fieldsOf matrix-file-Header.headerIn matrix-file-Header.firstForm
-    matrix-file-Header.firstLineForm matrix-file-Header.askFirstLine matrix-file-Header.askHeader matrix-file-Rows.nameIn
-    matrix-file-Rows.codesIn matrix-file-Rows.askCodes matrix-file-Rows.askRow matrix-file-Rows.askRows matrix-file-Reading.jobOf
-    matrix-file-Reading.nothingMore matrix-file-Reading.askEnd matrix-file-Reading.askBehind matrix-file-Reading.askFile
-    matrix-file-Reading.askLength matrix-file-Reading.readAnswer matrix-file-Text.bytes prim-Network.taxa prim-Network.networkLength lists-Tests.among lists-Filters.without
-    prim-Network.unplaced prim-Network.nearestPlaced prim-Network.distance prim-Network.link prim-Network.next prim-Network.grow
-    prim-Network.network difference-Rows.nodeDifference branching-Ancestors.ancestor branching-Ancestors.descendants
-    branching-Nodes.hasAncestor branching-Nodes.inTree lists-Filters.keep branching-Nodes.nodesIn branching-Nodes.nodesOut
-    branching-Nodes.otherNodes branching-Nodes.taxaPlaced branching-Growing.descendantCount branching-Growing.descendantsWanted
-    branching-Growing.climbs branching-Growing.rowOneAlone branching-Growing.nodesOnly branching-Growing.htusIn
-    branching-Growing.ancestorsIn branching-Growing.descendantsRight branching-Growing.allClimb branching-Growing.grown
-    branching-Growing.growingTree branching-Growing.branching branching-Hanging.noBranches branching-Hanging.linked
-    branching-Hanging.hung branching-Hanging.nextHtu lists-Sums.sumOver branching-Branches.treeLength
-    branching-Branches.branchOf branching-Branches.branchRecords branching-Branches.branchesRead branching-Branches.ancestorsOf
-    branching-Branches.namedInOrder branching-Branches.lentBranching matrix-NodeRows.rowOf lists-Least.leastOf
-    difference-Rows.intervalBy branching-RowLengths.nodeInterval wagner-Build.advancement branching-RowLengths.lengthUnder branching-Placing.medianRow
-    branching-Placing.fromInterval branching-Placing.nearestInterval branching-Placing.linkFirst branching-Placing.hang branching-Placing.placeOn
-    branching-Placing.place wagner-Build.byAdvancement wagner-Build.addedLength wagner-Build.buildOn wagner-Build.build wagner-Build.wagner
-    wagner-Build.wagnerLength wagner-Build.wagnerBranches fitting-Sets.only fitting-Sets.join fitting-Sets.nearestMember fitting-Sets.insert
-    fitting-Sets.inOrder fitting-Sets.middle fitting-Clades.above fitting-Clades.cladeAt fitting-Clades.cladesBelow fitting-Character.valueAt
+    difference-Rows.median difference-Rows.difference difference-Rows.medians matrix-file-Bytes.isDigit matrix-file-Bytes.isLetter
+    matrix-file-Bytes.partsAt matrix-file-Bytes.partLength matrix-file-Bytes.firstPart matrix-file-Bytes.behindPart
+    matrix-file-Bytes.joinedBy matrix-file-Decimal.digitsIn matrix-file-Decimal.digitsOf matrix-file-Decimal.decimal
+    matrix-file-Decimal.noLeadingZero matrix-file-Decimal.numberForm matrix-file-Decimal.numberFrom matrix-file-Decimal.numberOf
+    matrix-file-Decimal.codeForm matrix-file-Decimal.codeOf matrix-file-Job.inName matrix-file-Job.nameForm
+    matrix-file-Job.differsFromAll matrix-file-Job.allDiffer matrix-file-Job.hasCodes matrix-file-Job.firstText matrix-file-Job.rowText
+    matrix-file-Job.ended matrix-file-Job.fileOf matrix-file-Lines.linesOf matrix-file-Lines.fieldsOf matrix-file-Header.headerIn
+    matrix-file-Header.firstForm matrix-file-Header.firstLineForm matrix-file-Header.askFirstLine matrix-file-Header.askHeader
+    matrix-file-Rows.nameIn matrix-file-Rows.codesIn matrix-file-Rows.askCodes matrix-file-Rows.askRow matrix-file-Rows.askRows
+    matrix-file-Reading.jobOf matrix-file-Reading.nothingMore matrix-file-Reading.askEnd matrix-file-Reading.askBehind
+    matrix-file-Reading.askFile matrix-file-Reading.askLength matrix-file-Reading.readAnswer matrix-file-Text.bytes prim-Network.taxa
+    prim-Network.networkLength lists-Tests.among lists-Filters.without prim-Network.unplaced prim-Network.nearestPlaced
+    prim-Network.distance prim-Network.link prim-Network.next prim-Network.grow prim-Network.network difference-Rows.nodeDifference
+    branching-Ancestors.ancestor branching-Ancestors.descendants branching-Nodes.hasAncestor branching-Nodes.inTree lists-Filters.keep
+    branching-Nodes.nodesIn branching-Nodes.nodesOut branching-Nodes.otherNodes branching-Nodes.taxaPlaced
+    branching-Growing.descendantCount branching-Growing.descendantsWanted branching-Growing.climbs branching-Growing.rowOneAlone
+    branching-Growing.nodesOnly branching-Growing.htusIn branching-Growing.ancestorsIn branching-Growing.descendantsRight
+    branching-Growing.allClimb branching-Growing.grown branching-Growing.growingTree branching-Growing.branching
+    branching-Hanging.noBranches branching-Hanging.linked branching-Hanging.hung branching-Hanging.nextHtu lists-Sums.sumOver
+    branching-Branches.treeLength branching-Branches.branchOf branching-Branches.branchRecords branching-Branches.branchesRead
+    branching-Branches.ancestorsOf branching-Branches.namedInOrder branching-Branches.lentBranching matrix-NodeRows.rowOf
+    lists-Least.leastOf difference-Rows.intervalBy branching-RowLengths.nodeInterval wagner-Build.advancement
+    branching-RowLengths.lengthUnder branching-Placing.medianRow branching-Placing.fromInterval branching-Placing.nearestInterval
+    branching-Placing.linkFirst branching-Placing.hang branching-Placing.placeOn branching-Placing.place wagner-Build.byAdvancement
+    wagner-Build.addedLength wagner-Build.buildOn wagner-Build.build wagner-Build.wagner wagner-Build.wagnerLength
+    wagner-Build.wagnerBranches fitting-Sets.only fitting-Sets.join fitting-Sets.nearestMember fitting-Sets.insert fitting-Sets.inOrder
+    fitting-Sets.middle fitting-Clades.above fitting-Clades.cladeAt fitting-Clades.cladesBelow fitting-Character.valueAt
     fitting-Character.up fitting-Character.chosen fitting-Character.ranges fitting-Assignments.character
     fitting-Assignments.branchLength fitting-Assignments.total fitting-Fit.chosenState fitting-Fit.range fitting-Fit.fittedLength
     fitting-Fit.fittedTotal fitting-Fit.marked listing-Lines.line listing-Lines.hyphen listing-Lines.htuName listing-Lines.nodeName
     listing-Blocks.totalLine listing-Blocks.mark listing-Blocks.primLine listing-Blocks.wagnerLine listing-Blocks.fittedLine
     listing-Blocks.rangeLine listing-Blocks.fittedLines listing-Blocks.rangeLines listing-Listing.primBlock listing-Listing.wagnerBlock
-    listing-Listing.fittedBlock listing-Listing.rangeBlock listing-Listing.blocks listing-Listing.listing listing-Listing.refusalLine listing-Listing.printed
-    listing-Listing.listingOf listing-Listing.output
+    listing-Listing.fittedBlock listing-Listing.rangeBlock listing-Listing.blocks listing-Listing.listing listing-Listing.refusalLine
+    listing-Listing.printed listing-Listing.listingOf listing-Listing.output
 computed lines = listing-Listing.output (flatMap matrix-file-Text.bytes lines)

@@ -71,6 +71,7 @@ fiveListed =
     ∷ "H\t#3\t3\t2\t2\t2\n"
     ∷ []
 
+-- it is the listing of its file
 five-taxa : computed fiveTaxa ≡ text fiveListed
 unfolding computed text flatMap bytes
 five-taxa = refl

@@ -17,6 +17,7 @@ use Rattle.fitting.specs.Fit.{fittedTotal}
 use Rattle.listing.specs.Blocks.{totalLine, fittedLines, rangeLines}
 use Rattle.listing.specs.Listing.{primBlock, wagnerBlock, fittedBlock, rangeBlock, blocks, listing}
 
+-- one taxon: three totals of 0
 pub one-taxon : (measure : Measure) (m : ℕ) (names : List (List ℕ)) (rows : List (List ℤ))
     → listing measure (record { n = 1; m = m; names = names; rows = rows }) ≡ totalLine "p" 0 ∷ totalLine "w" 0 ∷ totalLine "t" 0 ∷ []
 unfolding listing blocks primBlock wagnerBlock fittedBlock rangeBlock network networkLength grow wagner wagnerLength build buildOn

@@ -107,6 +107,7 @@ module _ {A : Type 0} where
     firstLeast-head x [] h = refl
     firstLeast-head x (v ∷ vs) h = take-head x (firstLeast key v vs) (h (firstLeast key v vs) (firstLeast-mem v vs))
 
+    -- an element before which all keys are greater, and behind which none is less, is chosen
     from-split : (before : List A) (z : A) (after : List A)
         → ((y : A) → List·Memᴰ y before → key z < key y)
         → ((y : A) → List·Memᴰ y after → key z ≤ key y)
@@ -146,6 +147,7 @@ module _ {A : Type 0} where
             let h₂ : key y < key z = leb-false (key z) (key y) e₂ in
             take-later x y (omega arith) ∙ sym (take-later z y h₂)
 
+    -- one more at the end is compared with the one chosen so far
     snoc-earlier : (x : A) (xs : List A) (y : A) → firstLeast key x (xs ++ (y ∷ [])) ≡ earlier (firstLeast key x xs) y
     unfolding firstLeast
     snoc-earlier x [] y = refl

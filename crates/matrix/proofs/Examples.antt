@@ -30,6 +30,7 @@ all =
     ∷ NotBranching
     ∷ []
 
+-- numbers, first refusals, lines and lent memory
 pub record Examples : Type 0 where
   -- the numbers of the refusals are 1 to 14
   pub numbers : map refusalNumber all ≡ 1 ∷ 2 ∷ 3 ∷ 4 ∷ 5 ∷ 6 ∷ 7 ∷ 8 ∷ 9 ∷ 10 ∷ 11 ∷ 12 ∷ 13 ∷ 14 ∷ []
@@ -45,6 +46,7 @@ pub record Examples : Type 0 where
   pub written : _≡_ {A = ℕ} (afterwards (askedSays Passed) 5 4) 5
   pub kept : _≡_ {A = ℕ} (afterwards (askedSays (Refused ListSize)) 5 4) 4
 
+-- they are as said
 pub examples : Examples
 examples =
     record {

@@ -32,13 +32,14 @@ pub ask-passed : (b : Bool) (r : Refusal) (rest : Asked) → ask b r rest ≡ Pa
 ask-passed true r rest e = (refl, e)
 ask-passed false r rest e = absurd (refused-not-passed r e)
 
--- an item that is one of `last` lies between 1 and `last`, and the other way round
+-- an item that is one of `last` lies between 1 and `last`
 pub oneTo-true : (last item : ℕ) → oneTo last item ≡ true → (1 ≤ item) × (item ≤ last)
 unfolding oneTo
 oneTo-true last item e =
     let p = and-eq-true-iff (leb 1 item) (leb item last) .0 e in
     (leb-true 1 item (p .0), leb-true item last (p .1))
 
+-- and what lies between them is one
 pub true-oneTo : (last item : ℕ) → 1 ≤ item → item ≤ last → oneTo last item ≡ true
 unfolding oneTo
 true-oneTo last item low high = and-eq-true-iff (leb 1 item) (leb item last) .1 (le-leb 1 item low, le-leb item last high)
@@ -102,6 +103,7 @@ pub andThen-passed : (first rest : Asked) → andThen first rest ≡ Passed → 
 andThen-passed Passed rest e = (refl, e)
 andThen-passed (Refused r) rest e = absurd (refused-not-passed r e)
 
+-- questions on a lent matrix and some nodes that pass tell that
 pub nodes-passed : (codes : List ℤ) (n m : ℕ) (nodes : List ℕ) → askNodes codes n m nodes ≡ Passed → NodesPassed codes n m nodes
 unfolding askNodes
 nodes-passed codes n m nodes e =

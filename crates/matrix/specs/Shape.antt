@@ -7,6 +7,7 @@ use lib.Dec.{leb}
 use lib.IntN.{ℤ, natAbs}
 use lib.ListN.{take, drop}
 
+-- a row has 128 codes
 abbrev pub columns : ℕ
 columns = 128
 

@@ -38,13 +38,15 @@ example =
     ∷ (negsuc 0 ∷ pos 1 ∷ pos 2 ∷ [])
     ∷ []
 
--- rows of one code, and of two
+-- rows of one code
 abbrev ones : List (List ℤ)
 ones = (pos 0 ∷ []) ∷ (pos 1 ∷ []) ∷ (negsuc 0 ∷ []) ∷ []
 
+-- rows of two codes
 abbrev twos : List (List ℤ)
 twos = (pos 0 ∷ pos 0 ∷ []) ∷ (pos 4 ∷ pos 0 ∷ []) ∷ (pos 2 ∷ pos 0 ∷ []) ∷ (pos 3 ∷ pos 5 ∷ []) ∷ []
 
+-- networks with a tie of each kind
 pub record Examples : Type 0 where
   -- document 01: B joins A at 3, C joins B at 3, D joins A at 4; the total is 10
   pub document : of 4 3 example ≡ joins 2 1 3 ∷ joins 3 2 3 ∷ joins 4 1 4 ∷ []
@@ -57,6 +59,7 @@ pub record Examples : Type 0 where
   -- row 4 is equally near to rows 2 and 3: it joins row 3, which was placed before row 2
   pub earliest : of 4 2 twos ≡ joins 3 1 2 ∷ joins 2 3 2 ∷ joins 4 3 6 ∷ []
 
+-- they are as said
 pub examples : Examples
 unfolding Network.network Network.grow Network.next Network.link Network.distance Network.nearestPlaced Network.unplaced
     Filters.without Filters.keep Tests.among Network.taxa Network.networkLength Rows.nodeDifference Sums.sumOver

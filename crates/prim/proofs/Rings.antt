@@ -13,10 +13,11 @@ use Rattle.matrix.specs.Questions.{oneTo}
 use Rattle.matrix.proofs.Passing.{oneTo-true}
 use Rattle.prim.specs.Rival.{Joins, Reached, start, step, IsTaxon, Connected}
 
--- a link joins its ends in either order
+-- a link is gone along its direction
 forwards : Joins {A = ℕ} ((2, 3) ∷ []) 2 3
 forwards = inl (List·Memᴰ·head refl)
 
+-- and against its direction
 backwards : Joins {A = ℕ} ((2, 3) ∷ []) 3 2
 backwards = inr (List·Memᴰ·head refl)
 
@@ -24,10 +25,11 @@ backwards = inr (List·Memᴰ·head refl)
 abbrev ring : List (ℕ × ℕ)
 ring = (2, 1) ∷ (2, 3) ∷ (1, 3) ∷ (2, 3) ∷ (2, 2) ∷ []
 
--- row 2 is reached against the direction of its link, row 3 along the direction of its own
+-- row 2 is reached against the direction of its link
 second : Reached (λ x. x ≡ 1) ring 2
 second = step (start refl) (inr (List·Memᴰ·head refl))
 
+-- row 3 is reached along the direction of its link
 third : Reached (λ x. x ≡ 1) ring 3
 third = step second (inl (List·Memᴰ·tail (List·Memᴰ·head refl)))
 

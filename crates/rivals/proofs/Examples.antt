@@ -36,24 +36,27 @@ rows =
     ∷ (negsuc 0 ∷ negsuc 0 ∷ pos 2 ∷ [])
     ∷ []
 
--- D alone is linked to A; then B is hung on D through #1; then C on #1 through #2
+-- D alone is linked to A
 abbrev two : List ℕ
 two = set noBranches 4 1
 
+-- then B is hung on D through #1
 abbrev three : List ℕ
 three = set (set (set noBranches 4 6) 2 6) 6 1
 
+-- then C on #1 through #2
 abbrev four : List ℕ
 four = set (set (set three 3 7) 6 7) 7 1
 
--- the rows of #1 and #2
+-- the row of #1
 abbrev first : List ℤ
 first = pos 0 ∷ negsuc 1 ∷ pos 0 ∷ []
 
+-- the row of #2
 abbrev second : List ℤ
 second = pos 0 ∷ pos 0 ∷ pos 0 ∷ []
 
--- each of them is handed in with the rows of its HTUs
+-- the tree of two taxa is handed in, without HTUs
 pub handed-two : HandedIn 5 3 two []
 unfolding noBranches numbers keep every lastNode ancestor descendants hasAncestor inTree nodesIn otherNodes taxaPlaced descendantCount
     descendantsWanted climbs rowOneAlone nodesOnly htusIn ancestorsIn descendantsRight allClimb grown growingTree hasCodes allInRange
@@ -61,6 +64,7 @@ unfolding noBranches numbers keep every lastNode ancestor descendants hasAncesto
 handed-two =
     record { places = refl; growing = refl; count = refl; codes = record { full = refl; known = refl }; intervals = refl }
 
+-- the tree of four taxa with the rows of its two HTUs
 pub handed-four : HandedIn 5 3 four (first ∷ second ∷ [])
 unfolding noBranches numbers keep every lastNode ancestor descendants hasAncestor inTree nodesIn otherNodes taxaPlaced descendantCount
     descendantsWanted climbs rowOneAlone nodesOnly htusIn ancestorsIn descendantsRight allClimb grown growingTree hasCodes allInRange
@@ -81,6 +85,7 @@ unfolding noBranches numbers keep ancestor hasAncestor inTree nodesIn otherNodes
     lengthUnder hung nextHtu hungLength sumOver rowOf
 lengthWith c r = hungLength difference 5 four (rows ++ (first ∷ second ∷ [])) 5 c r
 
+-- placements and hangings on these trees
 pub record Examples : Type 0 where
   -- B goes onto the only interval of two taxa; C onto that of #1, an HTU; E onto that of B
   pub on-two : placement two [] 2 ≡ record { taxon = 2; lower = 4; upper = 1; htu = 6; added = 2 }
@@ -91,6 +96,7 @@ pub record Examples : Type 0 where
   pub elsewhere : lengthWith 6 (pos 5 ∷ negsuc 0 ∷ pos 0 ∷ []) ≡ 27
   pub ours : lengthWith 2 (pos 0 ∷ negsuc 1 ∷ pos 2 ∷ []) ≡ 11
 
+-- they are as said
 pub examples : Examples
 unfolding placement lengthWith
 examples = record { on-two = refl; on-three = refl; on-four = refl; on-htu = refl; elsewhere = refl; ours = refl }

@@ -48,7 +48,8 @@ module _ (n m : ℕ) (rows : List (List ℤ)) (matrix : Accepted n m rows) where
   between = nodeDifference difference (rowOf rows)
 
   -- ours is a connected network of the taxa, of length `p`
-  pub our-network : Connected n (linkEnds (network between n)) × (linksLength between (linkEnds (network between n)) ≡ networkLength (network between n))
+  pub our-network :
+      Connected n (linkEnds (network between n)) × (linksLength between (linkEnds (network between n)) ≡ networkLength (network between n))
   our-network = (claim .network .ours, claim .network .length)
 
   -- no connected list of links between taxa is shorter
@@ -57,7 +58,8 @@ module _ (n m : ℕ) (rows : List (List ℤ)) (matrix : Accepted n m rows) where
 
   module _ (tree : List ℕ) (htus : List (List ℤ)) (handed : HandedIn n m tree htus) (b : ℕ) (unplaced : Unplaced n tree b) where
     -- our placement adds its interval difference to the length of the tree
-    pub our-placement-adds : lengthUnder difference n (place difference n tree (rows ++ htus) b .tree) (place difference n tree (rows ++ htus) b .rows)
+    pub our-placement-adds :
+        lengthUnder difference n (place difference n tree (rows ++ htus) b .tree) (place difference n tree (rows ++ htus) b .rows)
         ≡ lengthUnder difference n tree (rows ++ htus) + place difference n tree (rows ++ htus) b .placement .added
     our-placement-adds = claim .placement tree htus handed b unplaced .adds
 
@@ -67,10 +69,11 @@ module _ (n m : ℕ) (rows : List (List ℤ)) (matrix : Accepted n m rows) where
         ≤ hungLength difference n tree (rows ++ htus) b c r
     no-hanging-adds-less = claim .placement tree htus handed b unplaced .least
 
-  -- so it is with each placement of our own build, which ends in a branching of all taxa
+  -- so it is with each placement of our own build
   pub each-placement-least : BuildIsLeast difference n m rows (wagner difference n rows)
   each-placement-least = claim .build
 
+  -- our tree has all n taxa
   pub our-tree-whole : branching n (wagner difference n rows .tree) ≡ true
   our-tree-whole = claim .whole
 

@@ -58,6 +58,7 @@ not-in n tree b low high e =
     let out = not-inTree tree b e in
     record { other = omega (arith, out .0); taxon = high; free = out .1 }
 
+-- questions of a placement that pass tell that
 pub placement-asked : (codes : List ℤ) (n m : ℕ) (tree : List ℕ) (b : ℕ) → askPlacement codes n m tree b ≡ Passed
     → PlacementAsked codes n m tree b
 unfolding askPlacement

@@ -54,6 +54,7 @@ module _ (n m : ℕ) (taxa : 1 ≤ n) (most : n ≤ 64) where
         each = rows-sized m (rows ++ htus) (rows-append m rows htus (a .codes) (h .codes));
       }
 
+  -- so a placement on a tree handed in is least
   pub handed-least : (rows : List (List ℤ)) → MatrixRows n m rows → (tree : List ℕ) (htus : List (List ℤ)) → HandedIn n m tree htus
       → (b : ℕ) → Unplaced n tree b
       → PlacementIsLeast difference n m tree (rows ++ htus) b (place difference n tree (rows ++ htus) b)

@@ -3,6 +3,7 @@ use mathlib.Core.Path.{refl}
 use Rattle.listing.proofs.Computed.{computed}
 use Rattle.table.specs.Table.{text, Table}
 
+-- all of the table holds
 pub table : Table
 unfolding computed text
 table =

@@ -18,15 +18,19 @@ span a b = record { low = pos a; high = pos b }
 abbrev pub anc : List ℤ
 anc = pos 0 ∷ pos 0 ∷ pos 0 ∷ pos 0 ∷ pos 0 ∷ pos 0 ∷ pos 0 ∷ pos 0 ∷ pos 0 ∷ pos 0 ∷ pos 0 ∷ pos 0 ∷ []
 
+-- C of the handout
 abbrev pub taxonC : List ℤ
 taxonC = pos 1 ∷ pos 1 ∷ pos 1 ∷ pos 1 ∷ pos 0 ∷ pos 0 ∷ pos 0 ∷ pos 0 ∷ pos 0 ∷ pos 0 ∷ pos 0 ∷ pos 0 ∷ []
 
+-- A of the handout
 abbrev pub taxonA : List ℤ
 taxonA = pos 0 ∷ pos 0 ∷ pos 0 ∷ pos 0 ∷ pos 1 ∷ pos 1 ∷ pos 1 ∷ pos 1 ∷ pos 1 ∷ pos 1 ∷ pos 1 ∷ pos 0 ∷ []
 
+-- B of the handout
 abbrev pub taxonB : List ℤ
 taxonB = pos 1 ∷ pos 0 ∷ pos 0 ∷ pos 0 ∷ pos 1 ∷ pos 1 ∷ pos 1 ∷ pos 1 ∷ pos 1 ∷ pos 1 ∷ pos 1 ∷ pos 1 ∷ []
 
+-- D of the handout
 abbrev pub taxonD : List ℤ
 taxonD = pos 1 ∷ pos 0 ∷ pos 0 ∷ pos 0 ∷ pos 1 ∷ pos 1 ∷ pos 1 ∷ pos 1 ∷ pos 1 ∷ pos 0 ∷ pos 0 ∷ pos 0 ∷ []
 
@@ -76,6 +80,7 @@ listed =
     ∷ "H\t#2\t3\t0\t1\t1\n"
     ∷ []
 
+-- the table
 pub record Table : Type 0 where
   pub median : median (negsuc 0) (pos 2) (pos 0) ≡ pos 0
   pub apart-sets : join (span 0 1) (span 2 2) ≡ span 1 2
