@@ -3,7 +3,7 @@ use mathlib.Core.Path.{_≡_}
 use mathlib.Core.List.{List, [], map}
 use Prim.Native.Nat.{ℕ, _-_, _≤_}
 use lib.IntN.{ℤ}
-use lib.ListN.{getD, take}
+use lib.ListN.{length, getD, take}
 use Rattle.lists.specs.Numbers.{numbers}
 use Rattle.lists.specs.Over.{over, stripes}
 use Rattle.matrix.specs.Shape.{columns, rowStart, row}
@@ -25,7 +25,7 @@ withRow codes v r = over (rowStart v) r codes
 unfoldable pub withRows : List ℤ → ℕ → List (List ℤ) → List ℤ
 withRows codes v rows = stripes columns (rowStart v) rows codes
 
--- a copy of the row of node v: its first codes are the row's, at most 128
+-- a copy of the row of node v: its first `count` codes are the row's, at most 128
 pub record CopyOf (codes : List ℤ) (m v : ℕ) (copy : RowCopy) : Type 0 where
   pub is : take (copy .count) (copy .codes) ≡ take columns (row codes m v)
-  pub most : copy .count ≤ columns
+  pub within : copy .count ≤ length (copy .codes)

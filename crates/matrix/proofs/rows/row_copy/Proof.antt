@@ -9,10 +9,6 @@ use borrow.Author.Needs.{needs, sfits-of}
 use Rattle.lists.specs.Over.{over}
 use Rattle.matrix.proofs.rows.row_copy.Statement.{statement}
 use Rattle.matrix.proofs.rows.row_copy.Tie as tie
-use Rattle.matrix.proofs.rows.row_copy.Reads as reads
-use Rattle.matrix.proofs.rows.row_copy.Lts as lts
-use Rattle.matrix.proofs.rows.copied.Reads as copied-reads
-use Rattle.matrix.proofs.rows.row.Reads as row-reads
 
 abbrev Inv-loop : tie.InvT-loop
 Inv-loop matrix m v from count codes₀ j₀ codes j =
@@ -71,7 +67,7 @@ returns c =
     let end : loop .j ≡ c .before .before .copied .result = omega (arith, c .loop-test .left) in
     record {
       is = copy-done _ _ (loop .codes) _ (inv .1) (inv .3) (rw end at (inv .4)) ∙ ap (take 128) (c .before .before .before .row .ensures);
-      most = omega (arith, inv .1);
+      within = omega (arith, inv .1, inv .2);
     }
 
 pub row-copy-spec : {M : Type 1} → statement M
