@@ -1,7 +1,7 @@
 -- Branch records written and read one by one: what the loops over them know, and what is written when they end.
 use mathlib.Core.Path.{_≡_, refl, sym, ap, ap₂, _∙_}
 use mathlib.Core.Logic.{by-cases, _≢_}
-use mathlib.Core.List.{List, [], _∷_, _++_, map, map-append, append-assoc}
+use mathlib.Core.List.{List, [], _∷_, _++_, map, map-append}
 use mathlib.Core.Bool.{Bool, true, false, _&&_, _||_}
 use Prim.Native.Nat.{ℕ, zero, suc, _+_, _*_, _-_, _≤_, _<_, min}
 use native.Mathlib.Numerals.{add-one}
@@ -9,14 +9,18 @@ use native.Mathlib.Nat.{min-eq-left, min-eq-right}
 use native.Mathlib.Omega.{arith}
 use native.Mathlib.Decide.{decLe}
 use lib.Dec.{eqb}
-use lib.ListN.{length, getD, set, take, drop, replicate, length-map, length-take, length-drop, length-append, length-replicate, drop-of-length-le}
-use lib.Seq.{set-at, drop-cons, take-suc, take-all, take-at, drop-length, getD-take, ext-getD}
+use lib.ListN.{length, getD, set, take, drop, length-map, length-take, drop-of-length-le}
+use lib.Seq.{drop-cons, take-suc, take-all, getD-take, ext-getD}
 use borrow.Author.Tests.{eq-eqb, ne-eqb}
 use Rattle.lists.specs.Numbers.{numbers}
 use Rattle.lists.specs.Tests.{sameNumbers}
 use Rattle.lists.specs.Filters.{keep}
 use Rattle.lists.proofs.Every.{sameNumbers-iff}
-use Rattle.lists.proofs.Numbers.{length-numbers, numbers-snoc, numbers-append, length-map-numbers}
+use Rattle.lists.proofs.Numbers.{length-numbers, length-map-numbers, map-numbers}
+use Rattle.lists.specs.Over.{over}
+use Rattle.lists.specs.Filled.{filled}
+use Rattle.lists.proofs.Over.{length-over, over-item, over-more, over-part}
+use Rattle.lists.proofs.Filled.{filled-at, filled-snoc, length-filled}
 use Rattle.branching.specs.declared.branch.Branch.{Branch}
 use Rattle.branching.specs.Nodes.{nodesIn, otherNodes, taxaPlaced}
 use Rattle.branching.specs.Ancestors.{ancestor}
@@ -24,7 +28,6 @@ use Rattle.branching.specs.Growing.{rowOneAlone, grown, growingTree, bra
 use Rattle.branching.specs.Facts.{Branching}
 use Rattle.branching.specs.Within.{branchingWithin}
 use Rattle.branching.specs.Branches.{branchOf, branchRecords, withRecords, branchesRead, ancestorsOf, placesOf, namedInOrder, lentBranching}
-use Rattle.branching.proofs.Nodes.{same-everywhere}
 use Rattle.branching.proofs.Test.{alone-iff, branching-iff}
 use Rattle.branching.proofs.Whole.{growing-same}
 use Rattle.branching.proofs.Places.{same-test}
@@ -35,53 +38,31 @@ use Rattle.branching.proofs.Records.{records-lent, records-same}
 abbrev pub noBranch : Branch
 noBranch = record { node = 0; ancestor = 0; length = 0 }
 
--- an entry is written behind those written before
-put-next : {A : Type 0} (p : List A) (y : A) (rest : List A) (x : A) (k : ℕ) → length p ≡ k
-    → set (p ++ (y ∷ rest)) k x ≡ (p ++ (x ∷ [])) ++ rest
-put-next p y rest x k e = set-at p y rest x k e ∙ sym (append-assoc p (x ∷ []) rest)
+-- the records of a tree that are written over a list of 125
+module _ (d : ℕ → ℕ → ℕ) (n : ℕ) (tree : List ℕ) (old : List Branch) where
+  -- there are 2n-3 of them
+  records-count : length (branchRecords d n tree) ≡ 2 * n - 3
+  unfolding branchRecords otherNodes
+  records-count = length-map-numbers (branchOf d tree) 2 (2 * n - 3)
 
-module _ (f : ℕ → Branch) (old now : List Branch) (i : ℕ) (inv : now ≡ map f (numbers 2 i) ++ drop i old) where
-  -- one more record is written over the old list
-  pub written-next : i < length old → set now i (f (i + 2)) ≡ map f (numbers 2 (i + 1)) ++ drop (i + 1) old
-  written-next h =
-      let place : f (i + 2) ≡ f (2 + i) = ap f (omega arith) in
-      rw (inv, drop-cons old i noBranch h, place, add-one)
-      (put-next (map f (numbers 2 i)) (getD old i noBranch) (drop (suc i) old) (f (2 + i)) i (length-map-numbers f 2 i)
-      ∙ ap (λ (p : List Branch). p ++ drop (suc i) old) (sym (ap (map f) (numbers-snoc 2 i) ∙ map-append f (numbers 2 i) ((2 + i) ∷ []))))
+  -- one more is written
+  pub written-next : (now : List Branch) (i : ℕ) → now ≡ over 0 (take i (branchRecords d n tree)) old → i < 2 * n - 3
+      → set now i (branchOf d tree (i + 2)) ≡ over 0 (take (i + 1) (branchRecords d n tree)) old
+  unfolding branchRecords otherNodes
+  written-next now i inv h =
+      let records = branchRecords d n tree in
+      let here : branchOf d tree (i + 2) ≡ getD records i noBranch =
+      ap (branchOf d tree) (omega arith) ∙ sym (map-numbers (branchOf d tree) noBranch 2 (2 * n - 3) i h) in
+      let place : i ≡ 0 + i = omega arith in
+      ap₂ (λ (list : List Branch) (x : Branch). set list i x) inv here
+      ∙ ap (λ (k : ℕ). set (over 0 (take i records) old) k (getD records i noBranch)) place
+      ∙ over-more noBranch 0 records old i (omega (arith, records-count))
 
--- all records are written: the first 2n-3, as far as the list of 125 goes
-pub written-all : (d : ℕ → ℕ → ℕ) (n : ℕ) (tree : List ℕ) (old : List Branch) (count : ℕ) → length old ≡ 125 → count ≡ min (2 * n - 3) 125
-    → map (branchOf d tree) (numbers 2 count) ++ drop count old ≡ withRecords d n tree old
-unfolding withRecords branchRecords otherNodes
-written-all d n tree old count size is = by-cases (decLe (2 * n - 3) 125) within beyond
-  where
-    f : ℕ → Branch
-    f = branchOf d tree
-
-    within : 2 * n - 3 ≤ 125
-        → map f (numbers 2 count) ++ drop count old ≡ take (length old) (map f (numbers 2 (2 * n - 3))) ++ drop (2 * n - 3) old
-    within h =
-        let same : count ≡ 2 * n - 3 = omega arith in
-        let all = length-map-numbers f 2 (2 * n - 3) in
-        rw (same, take-all (length old) (map f (numbers 2 (2 * n - 3))) (omega arith))
-
-    beyond : ¬ (2 * n - 3 ≤ 125)
-        → map f (numbers 2 count) ++ drop count old ≡ take (length old) (map f (numbers 2 (2 * n - 3))) ++ drop (2 * n - 3) old
-    beyond h =
-        let same : count ≡ length old = omega arith in
-        let parts : 2 * n - 3 ≡ length old + (2 * n - 3 - length old) = omega arith in
-        let more = 2 * n - 3 - length old in
-        let split : map f (numbers 2 (2 * n - 3)) ≡ map f (numbers 2 (length old)) ++ map f (numbers (2 + length old) more) =
-        ap (λ (k : ℕ). map f (numbers 2 k)) parts
-        ∙ ap (map f) (numbers-append 2 (length old) more)
-        ∙ map-append f (numbers 2 (length old)) (numbers (2 + length old) more) in
-        let first : take (length old) (map f (numbers 2 (2 * n - 3))) ≡ map f (numbers 2 (length old)) =
-        ap (take (length old)) split
-        ∙ take-at (map f (numbers 2 (length old))) (map f (numbers (2 + length old) more)) (length old) (length-map-numbers f 2 (length old)) in
-        let none : drop (length old) old ≡ drop (2 * n - 3) old =
-        let last : length old ≤ 2 * n - 3 = omega arith in
-        drop-length old ∙ sym (drop-of-length-le old last) in
-        rw (same, first, none)
+  -- all are written, as far as the list goes
+  pub written-all : (count : ℕ) → length old ≡ 125 → count ≡ min (2 * n - 3) 125
+      → over 0 (take count (branchRecords d n tree)) old ≡ withRecords d n tree old
+  unfolding withRecords
+  written-all count size is = over-part 0 count (branchRecords d n tree) old (omega (arith, records-count))
 
 -- the ancestors that the first i records give, with a place for node 0 and for node 1
 abbrev pub ancestorsTo : ℕ → List Branch → List ℕ
@@ -101,18 +82,19 @@ module _ (records : List Branch) (size : length records ≡ 125) where
       omega arith
 
   -- one more record is read into the places
-  pub read-next : (now : List ℕ) (i : ℕ) → i < 125 → now ≡ ancestorsTo i records ++ replicate (125 - i) 0
-      → set now (i + 2) (getD records i noBranch .ancestor) ≡ ancestorsTo (i + 1) records ++ replicate (125 - (i + 1)) 0
+  pub read-next : (now : List ℕ) (i : ℕ) → i < 125 → now ≡ filled 127 0 (ancestorsTo i records)
+      → set now (i + 2) (getD records i noBranch .ancestor) ≡ filled 127 0 (ancestorsTo (i + 1) records)
   read-next now i h inv =
       let f : Branch → ℕ = λ (branch : Branch). branch .ancestor in
       let x = getD records i noBranch .ancestor in
-      let left : 125 - i ≡ suc (125 - (i + 1)) = omega arith in
       let below : i < length records = omega arith in
-      let more : ancestorsTo (suc i) records ≡ ancestorsTo i records ++ (x ∷ []) =
-      ap (λ (rest : List ℕ). 0 ∷ (0 ∷ rest)) (ap (map f) (take-suc records i noBranch below) ∙ map-append f (take i records) (getD records i noBranch ∷ [])) in
-      ap (λ (l : List ℕ). set l (i + 2) x) (inv ∙ ap (λ (k : ℕ). ancestorsTo i records ++ replicate k 0) left)
-      ∙ put-next (ancestorsTo i records) 0 (replicate (125 - (i + 1)) 0) x (i + 2) (length-ancestors i (omega arith))
-      ∙ ap (λ (l : List ℕ). l ++ replicate (125 - (i + 1)) 0) (sym more ∙ ap (λ (k : ℕ). ancestorsTo k records) (sym (add-one i)))
+      let more : ancestorsTo i records ++ (x ∷ []) ≡ ancestorsTo (i + 1) records =
+      ap (λ (rest : List ℕ). 0 ∷ (0 ∷ rest))
+      (sym (ap (map f) (take-suc records i noBranch below) ∙ map-append f (take i records) (getD records i noBranch ∷ [])))
+      ∙ ap (λ (k : ℕ). ancestorsTo k records) (sym (add-one i)) in
+      ap (λ (l : List ℕ). set l (i + 2) x) inv
+      ∙ filled-snoc 0 127 (i + 2) (ancestorsTo i records) x (sym (length-ancestors i (omega arith))) (omega arith)
+      ∙ ap (filled 127 0) more
 
   -- as many records as there are, or fewer, are the same read from the list
   take-min : (k : ℕ) → take (min k 125) records ≡ take k records
@@ -125,15 +107,11 @@ module _ (records : List Branch) (size : length records ≡ 125) where
       rw (min-eq-right most) (take-all 125 records (omega arith) ∙ sym (take-all k records (omega arith))))
 
   -- all are read: the places of the tree
-  pub read-all : (n count : ℕ) → count ≡ min (2 * n - 3) 125 → ancestorsTo count records ++ replicate (125 - count) 0 ≡ placesOf n records
+  pub read-all : (n count : ℕ) → count ≡ min (2 * n - 3) 125 → filled 127 0 (ancestorsTo count records) ≡ placesOf n records
   unfolding placesOf ancestorsOf branchesRead
   read-all n count is =
-      let f : Branch → ℕ = λ (branch : Branch). branch .ancestor in
-      let same : ancestorsTo count records ≡ ancestorsTo (2 * n - 3) records =
-      ap (λ (k : ℕ). ancestorsTo k records) is ∙ ap (λ (read : List Branch). 0 ∷ (0 ∷ map f read)) (take-min (2 * n - 3)) in
-      let long : length (ancestorsTo count records) ≡ count + 2 = length-ancestors count (omega arith) in
-      let left : 125 - count ≡ 127 - length (ancestorsTo count records) = omega arith in
-      ap (λ (k : ℕ). ancestorsTo count records ++ replicate k 0) left ∙ ap (λ (l : List ℕ). l ++ replicate (127 - length l) 0) same
+      ap (λ (read : List Branch). filled 127 0 (0 ∷ (0 ∷ map (λ (branch : Branch). branch .ancestor) read)))
+      (ap (λ (k : ℕ). take k records) is ∙ take-min (2 * n - 3))
 
   module _ (n : ℕ) (most : n ≤ 64) where
     -- the record at i and those behind it
@@ -215,26 +193,18 @@ branching-same (suc m) old new same =
     (λ e. to .1 (growing-same (suc m) old new same (from .0 e)))
     (λ e. from .1 (growing-same (suc m) new old (λ v. sym (same v)) (to .0 e)))
 
--- zeros behind a list of ancestors change no ancestor
-padded : (tree : List ℕ) (k v : ℕ) → ancestor (tree ++ replicate k 0) v ≡ ancestor tree v
-unfolding ancestor
-padded [] k v = same-everywhere k v 0
-padded (a ∷ tree) k zero = refl
-padded (a ∷ tree) k (suc v) = padded tree k v
-
 -- the places that records give have the ancestors that they give
 pub places-ancestors : (n : ℕ) (records : List Branch) (v : ℕ) → ancestor (placesOf n records) v ≡ ancestor (ancestorsOf n records) v
-unfolding placesOf
-places-ancestors n records v = padded (ancestorsOf n records) (127 - length (ancestorsOf n records)) v
+unfolding placesOf ancestor
+places-ancestors n records v = filled-at 0 127 (ancestorsOf n records) v
 
 -- of 125 records there are 127 places
 pub length-places : (n : ℕ) (records : List Branch) → length records ≡ 125 → length (placesOf n records) ≡ 127
 unfolding placesOf ancestorsOf branchesRead
 length-places n records size =
-    let tree = ancestorsTo (2 * n - 3) records in
     let read = length-take (2 * n - 3) records in
     let all = length-map (take (2 * n - 3) records) (λ (branch : Branch). branch .ancestor) in
-    omega (arith, length-append tree (replicate (127 - length tree) 0), length-replicate {A = ℕ} (127 - length tree) 0)
+    length-filled 0 127 (ancestorsTo (2 * n - 3) records) (omega arith)
 
 -- of at most 64 taxa, the records are a branching exactly if they name the nodes in order and their places are a branching
 pub lent-places : (n : ℕ) (records : List Branch) → n ≤ 64
@@ -246,29 +216,20 @@ lent-places n records most =
 
 -- the records of a branching written over a list of 125
 module _ (d : ℕ → ℕ → ℕ) (n : ℕ) (tree : List ℕ) (old : List Branch) (size : length old ≡ 125) (most : n ≤ 64) where
-  -- what is written is its records and then the old list
-  pub written-plain : withRecords d n tree old ≡ branchRecords d n tree ++ drop (2 * n - 3) old
-  unfolding withRecords branchRecords otherNodes
-  written-plain =
-      let all = length-map-numbers (branchOf d tree) 2 (2 * n - 3) in
-      ap (λ (first : List Branch). first ++ drop (2 * n - 3) old) (take-all (length old) (branchRecords d n tree) (omega arith))
-
   -- read again, they are its records
   read-written : branchesRead n (withRecords d n tree old) ≡ branchesRead n (branchRecords d n tree)
-  unfolding branchesRead branchRecords otherNodes
+  unfolding branchesRead withRecords
   read-written =
-      let all = length-map-numbers (branchOf d tree) 2 (2 * n - 3) in
-      ap (take (2 * n - 3)) written-plain
-      ∙ take-at (branchRecords d n tree) (drop (2 * n - 3) old) (2 * n - 3) all
-      ∙ sym (take-all (2 * n - 3) (branchRecords d n tree) (omega arith))
+      let records = branchRecords d n tree in
+      let all = records-count d n tree old in
+      ap (λ (k : ℕ). take k (over 0 records old)) (sym all)
+      ∙ over-item 0 records old (omega arith)
+      ∙ sym (take-all (2 * n - 3) records (omega arith))
 
   -- as many as before
   length-written : length (withRecords d n tree old) ≡ 125
-  unfolding branchRecords otherNodes
-  length-written =
-      let all = length-map-numbers (branchOf d tree) 2 (2 * n - 3) in
-      let rest = length-drop (2 * n - 3) old in
-      omega (arith, ap length written-plain, length-append (branchRecords d n tree) (drop (2 * n - 3) old))
+  unfolding withRecords
+  length-written = length-over 0 (branchRecords d n tree) old ∙ size
 
   -- they give the ancestors that its records give
   ancestors-written : ancestorsOf n (withRecords d n tree old) ≡ ancestorsOf n (branchRecords d n tree)

@@ -20,3 +20,9 @@ pub mod Records
 pub mod Placing
 pub mod RowLengths
 pub mod Rival
+pub mod Searching
+pub mod Unasked
+pub mod Passed
+pub mod Handing
+pub mod Standing
+pub mod PlacedLaws

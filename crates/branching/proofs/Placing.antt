@@ -5,12 +5,12 @@ use mathlib.Core.List.{List, List·Memᴰ}
 use Prim.Native.Nat.{ℕ, zero, suc, _*_, _-_, _≤_, _<_}
 use native.Mathlib.Omega.{arith}
 use lib.IntN.{ℤ}
-use lib.ListN.{length}
+use lib.ListN.{length, length-set}
 use Rattle.branching.specs.Ancestors.{ancestor}
 use Rattle.branching.specs.Nodes.{nodesIn, otherNodes, taxaPlaced, Unplaced}
 use Rattle.branching.specs.Growing.{growingTree}
 use Rattle.branching.specs.Facts.{Grown, GrowingTree, alone, several}
-use Rattle.branching.specs.Hanging.{nextHtu}
+use Rattle.branching.specs.Hanging.{nextHtu, linked, hung}
 use Rattle.branching.proofs.Nodes.{node-nodesIn}
 use Rattle.branching.proofs.Counts.{grown-node, grown-nodes}
 use Rattle.branching.proofs.Test.{growing-fact, growing-placed, growing-test}
@@ -73,3 +73,13 @@ module _ (d : List ℤ → List ℤ → ℕ) (n : ℕ) (tree : List ℕ) (rows :
       let grows = place-grows (growing-fact tree n (omega arith) passes) room u in
       let new : List ℕ = place d n tree rows b .tree in
       (growing-test new n (omega arith) grows, growing-placed new n (omega arith) grows)
+
+-- a placement keeps the number of places of the tree
+pub place-places : (d : List ℤ → List ℤ → ℕ) (n : ℕ) (tree : List ℕ) (rows : List (List ℤ)) (b : ℕ)
+    → length (place d n tree rows b .tree) ≡ length tree
+unfolding place placeOn linkFirst hang linked hung
+place-places d n tree rows b = on (nearestInterval d n tree rows b)
+  where
+    on : (c : ℕ) → length (placeOn d n tree rows b c .tree) ≡ length tree
+    on zero = simp length-set
+    on (suc c) = simp length-set

@@ -1,8 +1,10 @@
 -- The length of a tree, and branch records: the form in which a branching is lent and a finished tree handed back.
-use mathlib.Core.List.{List, _∷_, _++_, map}
+use mathlib.Core.List.{List, _∷_, map}
 use mathlib.Core.Bool.{Bool, _&&_}
 use Prim.Native.Nat.{ℕ, _*_, _-_}
-use lib.ListN.{length, getD, take, drop, replicate}
+use lib.ListN.{getD, take}
+use Rattle.lists.specs.Over.{over}
+use Rattle.lists.specs.Filled.{filled}
 use Rattle.lists.specs.Sums.{sumOver}
 use Rattle.lists.specs.Tests.{sameNumbers}
 use Rattle.branching.specs.declared.branch.Branch.{Branch}
@@ -28,7 +30,7 @@ lengthsBy lengths v above = getD lengths v 0
 
 -- a list of branches with those of a branching written over the first 2n-3, as far as the list goes; what stands behind them is as before
 unfoldable pub withRecords : (ℕ → ℕ → ℕ) → ℕ → List ℕ → List Branch → List Branch
-withRecords d n tree records = take (length records) (branchRecords d n tree) ++ drop (2 * n - 3) records
+withRecords d n tree records = over 0 (branchRecords d n tree) records
 
 -- of a list of branches, the first 2n-3, which alone are read
 unfoldable pub branchesRead : ℕ → List Branch → List Branch
@@ -40,9 +42,7 @@ ancestorsOf n records = 0 ∷ (0 ∷ map (λ (branch : Branch). branch .ancestor
 
 -- the same tree with a place for each of the nodes 0 to 126
 unfoldable pub placesOf : ℕ → List Branch → List ℕ
-placesOf n records =
-    let tree = ancestorsOf n records in
-    tree ++ replicate (places - length tree) 0
+placesOf n records = filled places 0 (ancestorsOf n records)
 
 -- the first 2n-3 branches name nodes 2 to 2n-2 in order
 unfoldable pub namedInOrder : ℕ → List Branch → Bool

@@ -13,3 +13,6 @@ pub mod Asking
 pub mod RowLengths
 pub mod Placing
 pub mod Rival
+pub mod Unasked
+pub mod Placed
+pub mod Nearest

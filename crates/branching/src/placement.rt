@@ -1,4 +1,27 @@
-// What a placement did.
+// One placement: a taxon goes onto a growing tree, which comes out one taxon larger.
+use crate::questions::ask_placement;
+use crate::tree::Tree;
+use difference::rows::difference;
+use difference::rows::interval_difference;
+use difference::rows::write_medians;
+use matrix::MOST_CHARACTERS;
+use matrix::MOST_TAXA;
+use matrix::refusal::Asked;
+use matrix::rows::RowCopy;
+use matrix::rows::row;
+use matrix::rows::row_copy;
+use matrix::rows::row_start;
+ghost use mathlib.Core.Path.{_≡_};
+ghost use Prim.Native.Nat.{_+_, _*_, _-_, _≤_};
+ghost use lib.ListN.{length, take};
+ghost use Rattle.lists.specs.Over.{over};
+ghost use Rattle.matrix.specs.Shape.{row};
+ghost use Rattle.matrix.specs.NodeRows.{withRow};
+ghost use Rattle.difference.specs.Rows.{difference, medians};
+ghost use Rattle.branching.specs.Ancestors.{ancestors};
+ghost use Rattle.branching.specs.Unasked.{intervalAt, mediansAt, linkedAt, hungAt, UnaskedDone, noPlacement};
+ghost use Rattle.branching.specs.Nearest.{NearestBelow, NearestOf, Leaves};
+ghost use Rattle.branching.specs.Placed.{PlacementDone};
 
 // The taxon, the lower end of its interval (0: none), the upper end, the new HTU (0: none), the length added.
 pub struct Placement {
@@ -7,4 +30,215 @@ pub struct Placement {
     pub upper: usize,
     pub htu: usize,
     pub added: u64,
+}
+
+// A tree, and the placement that it comes from.
+pub struct Unasked {
+    pub tree: Tree,
+    pub placement: Placement,
+}
+
+// What the questions answered, the tree, and the placement that it comes from, which is one of zeros if they refused.
+pub struct Placed {
+    pub asked: Asked,
+    pub tree: Tree,
+    pub placement: Placement,
+}
+
+// An interval, by its lower end (0: none yet), and the interval difference of the taxon from it.
+struct Nearest {
+    lower: usize,
+    added: u64,
+}
+
+// A placement of zeros.
+pub fn no_placement() -> Placement
+    ensures { λ r. ⌜ r ≡ noPlacement ⌝ }
+{
+    Placement {
+        taxon: 0,
+        lower: 0,
+        upper: 0,
+        htu: 0,
+        added: 0,
+    }
+}
+
+// The number behind the last node of a tree of n taxa, and 2 for one taxon.
+fn nodes_end(n: usize) -> usize
+    requires { ⌜ n ≤ 64 ⌝ }
+    ensures { λ r. ⌜ r ≡ 2 + (2 * n - 3) ⌝ }
+{
+    if n < 2 {
+        return 2;
+    }
+    2 * n - 1
+}
+
+// The interval difference of taxon b from the interval between c and its immediate ancestor.
+fn from_interval(matrix: &[i32], m: usize, tree: Tree, b: usize, c: usize) -> u64
+    requires { ⌜ m ≤ 128 ⌝ }
+    ensures { λ r. ⌜ r ≡ intervalAt (now (matrix .entry)) m (ancestors tree) b c ⌝ }
+{
+    let above = tree.ancestor(c);
+    interval_difference(row(matrix, m, b), row(matrix, m, c), row(matrix, m, above))
+}
+
+// Of the nearest interval of those gone through and that of node c, the nearer one: that of c if c is in the tree and nearer.
+fn nearer(best: Nearest, matrix: &[i32], m: usize, tree: Tree, b: usize, c: usize) -> Nearest
+    requires { ⌜ (m ≤ 128) × (2 ≤ c) ⌝ }
+    ensures { λ r. ⌜ (NearestBelow (now (matrix .entry)) m (ancestors tree) b c best → NearestBelow (now (matrix .entry)) m (ancestors tree) b (c + 1) r) ⌝ }
+{
+    if !tree.in_tree(c) {
+        return best;
+    }
+    let added = from_interval(matrix, m, tree, b, c);
+    if best.lower == 0 {
+        return Nearest { lower: c, added };
+    }
+    if added < best.added {
+        return Nearest { lower: c, added };
+    }
+    best
+}
+
+// The interval of least interval difference, the least node number among equals.
+fn nearest_interval(matrix: &[i32], n: usize, m: usize, tree: Tree, b: usize) -> Nearest
+    requires { ⌜ (n ≤ 64) × (m ≤ 128) ⌝ }
+    ensures { λ r. ⌜ NearestOf (now (matrix .entry)) n m (ancestors tree) b r ⌝ }
+{
+    let end = nodes_end(n);
+    let mut best = Nearest { lower: 0, added: 0 };
+    let mut c = 2;
+    while c < end {
+        best = nearer(best, matrix, m, tree, b, c);
+        c += 1;
+    }
+    best
+}
+
+// Writes the medians of three rows over the front of a list.
+fn write_three(out: &mut [i32], b: RowCopy, c: RowCopy, e: RowCopy)
+    requires { ⌜ (b .count ≤ length (b .codes)) × (c .count ≤ length (c .codes)) × (e .count ≤ length (e .codes)) ⌝ }
+    ensures { λ _. ⌜ now (out .exit) ≡ over 0 (medians (take (b .count) (b .codes)) (take (c .count) (c .codes)) (take (e .count) (e .codes))) (now (out .entry)) ⌝ }
+{
+    let b_codes = b.codes;
+    let b_count = b.count;
+    let c_codes = c.codes;
+    let c_count = c.count;
+    let e_codes = e.codes;
+    let e_count = e.count;
+    write_medians(
+        out,
+        &b_codes[..b_count],
+        &c_codes[..c_count],
+        &e_codes[..e_count],
+    );
+}
+
+// Writes the median codes of nodes b, c and e into the row of node y. The three rows are copied out before.
+fn write_htu(matrix: &mut [i32], m: usize, b: usize, c: usize, e: usize, y: usize)
+    requires { ⌜ m ≤ 128 ⌝ }
+    ensures { λ _. ⌜ now (matrix .exit) ≡ withRow (now (matrix .entry)) y (mediansAt (now (matrix .entry)) m b c e) ⌝ }
+{
+    let b_row = row_copy(matrix, m, b);
+    let c_row = row_copy(matrix, m, c);
+    let e_row = row_copy(matrix, m, e);
+    let start = row_start(matrix.len(), y);
+    write_three(&mut matrix[start..], b_row, c_row, e_row);
+}
+
+impl Tree {
+    // Taxon b linked to row 1.
+    fn link_first(self, matrix: &[i32], m: usize, b: usize) -> Unasked
+        requires { ⌜ m ≤ 128 ⌝ }
+        ensures { λ r. ⌜ Leaves (linkedAt (now (matrix .entry)) m (ancestors self) b) (now (matrix .entry)) r ⌝ }
+    {
+        let added = difference(row(matrix, m, b), row(matrix, m, 1));
+        Unasked {
+            tree: self.link(b),
+            placement: Placement {
+                taxon: b,
+                lower: 0,
+                upper: 1,
+                htu: 0,
+                added,
+            },
+        }
+    }
+
+    // Taxon b hung on the interval between c and its immediate ancestor, from which it has this interval difference.
+    fn hang_on(
+        self,
+        matrix: &mut [i32],
+        n: usize,
+        m: usize,
+        b: usize,
+        c: usize,
+        added: u64,
+    ) -> Unasked
+        requires { ⌜ (n ≤ 64) × (m ≤ 128) × (added ≡ intervalAt (now matrix) m (ancestors self) b c) ⌝ }
+        ensures { λ r. ⌜ Leaves (hungAt (now (matrix .entry)) m n (ancestors self) b c) (now (matrix .exit)) r ⌝ }
+    {
+        let upper = self.ancestor(c);
+        let htu = self.next_htu(n);
+        write_htu(matrix, m, b, c, upper, htu);
+        Unasked {
+            tree: self.hang(b, c, htu),
+            placement: Placement {
+                taxon: b,
+                lower: c,
+                upper,
+                htu,
+                added,
+            },
+        }
+    }
+
+    // Taxon b placed on its interval, without the questions of a placement; nothing is done for more than 64 taxa or 128 characters.
+    pub fn place_unasked(self, matrix: &mut [i32], n: usize, m: usize, b: usize) -> Unasked
+        ensures { λ r. ⌜ UnaskedDone (now (matrix .entry)) (now (matrix .exit)) n m (ancestors self) b r ⌝ }
+    {
+        if MOST_TAXA < n {
+            return Unasked {
+                tree: self,
+                placement: no_placement(),
+            };
+        }
+        if MOST_CHARACTERS < m {
+            return Unasked {
+                tree: self,
+                placement: no_placement(),
+            };
+        }
+        let nearest = nearest_interval(matrix, n, m, self, b);
+        if nearest.lower == 0 {
+            return self.link_first(matrix, m, b);
+        }
+        self.hang_on(matrix, n, m, b, nearest.lower, nearest.added)
+    }
+
+    // The placement of taxon b on a tree handed in, with its questions: the tree comes out one taxon larger, and the codes of the new HTU are
+    // written into its row of the matrix. A refused placement hands the tree back unchanged, and writes nothing.
+    pub fn place(self, matrix: &mut [i32], n: usize, m: usize, b: usize) -> Placed
+        ensures { λ r. ⌜ PlacementDone (now (matrix .entry)) (now (matrix .exit)) n m (ancestors self) b r ⌝ }
+    {
+        match ask_placement(matrix, n, m, self, b) {
+            Asked::Refused(refusal) => Placed {
+                asked: Asked::Refused(refusal),
+                tree: self,
+                placement: no_placement(),
+            },
+            Asked::Passed => {
+                let done = self.place_unasked(matrix, n, m, b);
+                let tree = done.tree;
+                let placement = done.placement;
+                Placed {
+                    asked: Asked::Passed,
+                    tree,
+                    placement,
+                }
+            }
+        }
+    }
 }

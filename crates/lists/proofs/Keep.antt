@@ -1,7 +1,7 @@
 -- Laws of `keep`, what a test leaves of a list.
 use mathlib.Core.Path.{_≡_, refl, sym, ap, _∙_}
 use mathlib.Core.Logic.{_⊎_, inl, inr, ⊎-elim}
-use mathlib.Core.List.{List, [], _∷_, List·Memᴰ, List·Memᴰ·head, List·Memᴰ·tail, List·Memᴰ·not-nil, List·Memᴰ·cases-cons}
+use mathlib.Core.List.{List, [], _∷_, _++_, append-nil, List·Memᴰ, List·Memᴰ·head, List·Memᴰ·tail, List·Memᴰ·not-nil, List·Memᴰ·cases-cons}
 use mathlib.Core.Bool.{Bool, true, false, cond, not, false≢true}
 use Prim.Native.Nat.{suc, _+_, _≤_, _<_}
 use native.Mathlib.Omega.{arith}
@@ -116,3 +116,25 @@ module _ {A : Type 0} where
   keep-all test (u ∷ us) h =
       ap (λ (t : Bool). one-more t u (keep test us)) (h u (List·Memᴰ·head refl))
       ∙ ap (λ (rest : List A). u ∷ rest) (keep-all test us (λ v m. h v (List·Memᴰ·tail m)))
+
+  -- what is kept of two lists one after the other
+  pub keep-append : (test : A → Bool) (us vs : List A) → keep test (us ++ vs) ≡ keep test us ++ keep test vs
+  unfolding keep one-more
+  keep-append test [] vs = refl
+  keep-append test (u ∷ us) vs = go (test u) (keep-append test us vs)
+    where
+      go : (t : Bool) → keep test (us ++ vs) ≡ keep test us ++ keep test vs
+          → one-more t u (keep test (us ++ vs)) ≡ one-more t u (keep test us) ++ keep test vs
+      go true e = ap (λ (rest : List A). u ∷ rest) e
+      go false e = e
+
+  -- one element more at the end is kept if the test holds of it
+  pub keep-snoc-passes : (test : A → Bool) (us : List A) (v : A) → test v ≡ true → keep test (us ++ (v ∷ [])) ≡ keep test us ++ (v ∷ [])
+  unfolding keep one-more
+  keep-snoc-passes test us v e = keep-append test us (v ∷ []) ∙ ap (λ (t : Bool). keep test us ++ one-more t v []) e
+
+  -- and left out if it does not
+  pub keep-snoc-fails : (test : A → Bool) (us : List A) (v : A) → test v ≡ false → keep test (us ++ (v ∷ [])) ≡ keep test us
+  unfolding keep one-more
+  keep-snoc-fails test us v e =
+      keep-append test us (v ∷ []) ∙ ap (λ (t : Bool). keep test us ++ one-more t v []) e ∙ append-nil (keep test us)

@@ -2,14 +2,18 @@
 use mathlib.Core.Path.{_≡_, refl, sym, ap, _∙_}
 use mathlib.Core.Bool.{Bool, true, false, cond}
 use mathlib.Core.List.{List, [], _∷_, _++_, List·Memᴰ, List·Memᴰ·head, List·Memᴰ·tail, List·Memᴰ·not-nil, List·Memᴰ·cases-cons}
-use mathlib.Core.Logic.{_⊎_, inl, inr}
-use Prim.Native.Nat.{ℕ, _≤_, _<_}
+use mathlib.Core.Logic.{_⊎_, inl, inr, _≢_}
+use Prim.Native.Nat.{ℕ, suc, _+_, _-_, _≤_, _<_}
 use native.Mathlib.Nat.{le-refl, le-trans}
 use native.Mathlib.Omega.{arith}
-use borrow.Author.Tests.{leb-true, leb-false, le-leb, lt-leb, ltb-true, ltb-false}
+use borrow.Author.Tests.{leb-true, leb-false, le-leb, lt-leb, ltb-true, ltb-false, lt-ltb, le-ltb}
 use lib.Dec.{leb, ltb}
 use lib.ListN.{length, length-append}
-use Rattle.lists.specs.Least.{firstLeast, leastOf}
+use Rattle.lists.specs.Least.{firstLeast, leastOf, scanned}
+use Rattle.lists.specs.Filters.{keep}
+use Rattle.lists.specs.Numbers.{numbers}
+use Rattle.lists.proofs.Keep.{keep-mem, keep-snoc-passes, keep-snoc-fails}
+use Rattle.lists.proofs.Numbers.{numbers-within, numbers-snoc}
 
 -- of three items with equal keys the first is chosen
 first-of-equals : firstLeast (λ (item : ℕ). 7) 1 (2 ∷ 3 ∷ []) ≡ 1
@@ -202,3 +206,89 @@ pub leastOf-none : (key : ℕ → ℕ) (vs : List ℕ) → ((u : ℕ) → ¬ Lis
 unfolding leastOf
 leastOf-none key [] none = refl
 leastOf-none key (v ∷ vs) none = absurd (none v (List·Memᴰ·head refl))
+
+-- the choice depends only on the keys of the list
+pub leastOf-congr : (key key′ : ℕ → ℕ) (vs : List ℕ) → ((v : ℕ) → List·Memᴰ v vs → key v ≡ key′ v) → leastOf key vs ≡ leastOf key′ vs
+unfolding leastOf
+leastOf-congr key key′ [] h = refl
+leastOf-congr key key′ (v ∷ vs) h = firstLeast-congr key key′ v vs h
+
+-- one number more at the end of a list of none
+snoc-none : (key : ℕ → ℕ) (vs : List ℕ) (v : ℕ) → ((u : ℕ) → List·Memᴰ u vs → 1 ≤ u) → leastOf key vs ≡ 0
+    → leastOf key (vs ++ (v ∷ [])) ≡ v
+unfolding leastOf firstLeast
+snoc-none key [] v low e = refl
+snoc-none key (u ∷ us) v low e =
+    absurd (omega (arith, low (firstLeast key u us) (firstLeast-mem key u us)))
+
+-- at the end of a list of some: it is chosen exactly if its key is below the key of the one chosen so far
+snoc-some : (key : ℕ → ℕ) (vs : List ℕ) (v : ℕ) → leastOf key vs ≢ 0
+    → leastOf key (vs ++ (v ∷ [])) ≡ cond (ltb (key v) (key (leastOf key vs))) v (leastOf key vs)
+unfolding leastOf
+snoc-some key [] v some = absurd (some refl)
+snoc-some key (u ∷ us) v some = firstLeast-snoc key u us v
+
+-- a scan, one number after the other
+module _ (key : ℕ → ℕ) (test : ℕ → Bool) (first : ℕ) where
+  -- before the first number none is chosen
+  pub scan-start : scanned key test first first ≡ 0
+  unfolding scanned leastOf keep numbers
+  scan-start = let none : first - first ≡ 0 = omega arith in ap (λ (k : ℕ). leastOf key (keep test (numbers first k))) none
+
+  -- what is chosen is one of the numbers gone through and passes the test
+  pub scan-mem : (end : ℕ) → scanned key test first end ≢ 0
+      → (first ≤ scanned key test first end) × (scanned key test first end < end) × (test (scanned key test first end) ≡ true)
+  unfolding scanned leastOf
+  scan-mem end some = go (keep test (numbers first (end - first))) refl some
+    where
+      go : (vs : List ℕ) → keep test (numbers first (end - first)) ≡ vs → leastOf key vs ≢ 0
+          → (first ≤ leastOf key vs) × (leastOf key vs < end) × (test (leastOf key vs) ≡ true)
+      go [] e some = absurd (some refl)
+      go (v ∷ vs) e some =
+          let m = rw (sym e) at (firstLeast-mem key v vs) in
+          let k = keep-mem test (numbers first (end - first)) (firstLeast key v vs) m in
+          let w = numbers-within first (end - first) (firstLeast key v vs) (k .0) in
+          (w .0, omega arith, k .1)
+
+  module _ (v : ℕ) (low : first ≤ v) where
+    -- the numbers up to the next one are those up to v, and v
+    numbers-next : numbers first (v + 1 - first) ≡ numbers first (v - first) ++ (v ∷ [])
+    numbers-next =
+        let one : v + 1 - first ≡ suc (v - first) = omega arith in
+        let last : first + (v - first) ≡ v = omega arith in
+        ap (numbers first) one
+        ∙ numbers-snoc first (v - first)
+        ∙ ap (λ (w : ℕ). numbers first (v - first) ++ (w ∷ [])) last
+
+    -- a number that fails the test is passed over
+    pub scan-fails : test v ≡ false → scanned key test first (v + 1) ≡ scanned key test first v
+    unfolding scanned
+    scan-fails e = rw (numbers-next, keep-snoc-fails test (numbers first (v - first)) v e)
+
+    module _ (passes : test v ≡ true) where
+      -- those that pass the test up to the next number are those up to v, and v
+      kept-next : keep test (numbers first (v + 1 - first)) ≡ keep test (numbers first (v - first)) ++ (v ∷ [])
+      kept-next = ap (keep test) numbers-next ∙ keep-snoc-passes test (numbers first (v - first)) v passes
+
+      -- the first one that passes is chosen
+      pub scan-first : 1 ≤ first → scanned key test first v ≡ 0 → scanned key test first (v + 1) ≡ v
+      unfolding scanned
+      scan-first positive none =
+          ap (leastOf key) kept-next
+          ∙ snoc-none key (keep test (numbers first (v - first))) v
+          (λ u m. omega (arith, numbers-within first (v - first) u (keep-mem test (numbers first (v - first)) u m .0)))
+          none
+
+      module _ (some : scanned key test first v ≢ 0) where
+        -- one more is compared with the one chosen so far
+        compared : scanned key test first (v + 1) ≡ cond (ltb (key v) (key (scanned key test first v))) v (scanned key test first v)
+        unfolding scanned
+        compared = ap (leastOf key) kept-next ∙ snoc-some key (keep test (numbers first (v - first))) v some
+
+        -- it is chosen if its key is below that of the one chosen so far
+        pub scan-less : key v < key (scanned key test first v) → scanned key test first (v + 1) ≡ v
+        scan-less h = compared ∙ ap (λ (t : Bool). cond t v (scanned key test first v)) (lt-ltb (key v) (key (scanned key test first v)) h)
+
+        -- otherwise the one chosen so far stays
+        pub scan-stays : key (scanned key test first v) ≤ key v → scanned key test first (v + 1) ≡ scanned key test first v
+        scan-stays h = compared ∙ ap (λ (t : Bool). cond t v (scanned key test first v)) (le-ltb (key v) (key (scanned key test first v)) h)

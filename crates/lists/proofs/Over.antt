@@ -2,7 +2,9 @@
 use mathlib.Core.Path.{_≡_, refl, sym, ap, ap₂, _∙_}
 use mathlib.Core.List.{List, [], _∷_, _++_, append-nil}
 use Prim.Native.Nat.{ℕ, zero, suc, _+_, _-_, _≤_, _<_, min}
-use native.Mathlib.Nat.{zero-add, suc-add}
+use mathlib.Core.Logic.{by-cases}
+use native.Mathlib.Decide.{decLe}
+use native.Mathlib.Nat.{zero-add, suc-add, min-eq-right}
 use native.Mathlib.Numerals.{add-one}
 use native.Mathlib.Omega.{arith}
 use borrow.Rule.Slice.PartMut.{putMid, post-is}
@@ -76,6 +78,25 @@ module _ {A : Type 0} where
   over-nothing zero old = refl
   over-nothing (suc place) [] = refl
   over-nothing (suc place) (o ∷ old) = ap (λ rest. o ∷ rest) (over-nothing place old)
+
+  -- nor does what would stand beyond its end
+  over-beyond : (place : ℕ) (xs old : List A) → length old ≤ place → over place xs old ≡ old
+  unfolding over
+  over-beyond zero [] old h = refl
+  over-beyond zero (x ∷ xs) [] h = refl
+  over-beyond zero (x ∷ xs) (o ∷ old) h = absurd (omega arith)
+  over-beyond (suc place) xs [] h = refl
+  over-beyond (suc place) xs (o ∷ old) h = ap (λ rest. o ∷ rest) (over-beyond place xs old (omega arith))
+
+  -- a place beyond the end may stand for the end
+  pub over-least : (place : ℕ) (xs old : List A) → over (min (length old) place) xs old ≡ over place xs old
+  over-least place xs old =
+      by-cases
+      (decLe place (length old))
+      (λ within. ap (λ (k : ℕ). over k xs old) (min-eq-right within))
+      (λ out.
+      let beyond : length old ≤ place = omega arith in
+      over-beyond (min (length old) place) xs old (omega arith) ∙ sym (over-beyond place xs old beyond))
 
   -- one element more is written
   pub over-snoc : (place : ℕ) (xs old : List A) (x : A) → set (over place xs old) (place + length xs) x ≡ over place (xs ++ (x ∷ [])) old

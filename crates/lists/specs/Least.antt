@@ -1,9 +1,11 @@
 -- The choice that settles a tie. A key gives each item a number, as a difference or an advancement; of a list the first item with the
 -- least key is chosen.
 use mathlib.Core.List.{List, [], _∷_}
-use mathlib.Core.Bool.{cond}
-use Prim.Native.Nat.{ℕ}
+use mathlib.Core.Bool.{Bool, cond}
+use Prim.Native.Nat.{ℕ, _-_}
 use lib.Dec.{leb}
+use Rattle.lists.specs.Filters.{keep}
+use Rattle.lists.specs.Numbers.{numbers}
 
 -- of x and the items behind it, the first with the least key
 unfoldable pub firstLeast : {A : Type 0} → (A → ℕ) → A → List A → A
@@ -16,3 +18,7 @@ firstLeast key x (y ∷ ys) =
 unfoldable pub leastOf : (ℕ → ℕ) → List ℕ → ℕ
 leastOf key [] = 0
 leastOf key (v ∷ vs) = firstLeast key v vs
+
+-- a scan: of the numbers from `first` up to but not with `end` that pass a test, the first with the least key, and 0 if none passes
+unfoldable pub scanned : (ℕ → ℕ) → (ℕ → Bool) → ℕ → ℕ → ℕ
+scanned key test first end = leastOf key (keep test (numbers first (end - first)))

@@ -1,10 +1,15 @@
 -- Laws of the row of a node.
-use mathlib.Core.Path.{_≡_, sym, ap, _∙_}
+use Rattle.lists.proofs.Over.{over-item, over-more}
+use native.Mathlib.Nat.{zero-add}
+use native.Mathlib.Decide.{decLe}
+use mathlib.Core.Logic.{by-cases}
+use Rattle.lists.specs.Over.{over}
+use mathlib.Core.Path.{_≡_, sym, ap, _∙_, ap₂}
 use mathlib.Core.List.{List}
 use Prim.Native.Nat.{ℕ, _+_, _-_, _≤_, _<_, min}
 use native.Mathlib.Omega.{arith}
 use lib.IntN.{ℤ, pos}
-use lib.ListN.{length, getD, take, drop, length-take, length-drop}
+use lib.ListN.{length, getD, take, drop, length-take, length-drop, set}
 use lib.Seq.{take-all, getD-take, getD-drop, ext-getD}
 use Rattle.matrix.specs.Shape.{columns, matrixSize, rowStart, row}
 
@@ -40,3 +45,25 @@ row-same old new m v size same =
     (row old m v)
     (length-row new m v ∙ ap (λ (k : ℕ). min m (k - rowStart v)) size ∙ sym (length-row old m v))
     (λ j h. let l : j < m = omega (arith, row-most new m v) in row-code new m v j l ∙ same j l ∙ sym (row-code old m v j l))
+
+-- a row that is copied code by code: one code more
+pub copy-more : (j : ℕ) (from codes old : List ℤ) (code : ℤ) → j < length from → codes ≡ over 0 (take j from) old
+    → code ≡ getD from j (pos 0) → set codes j code ≡ over 0 (take (j + 1) from) old
+copy-more j from codes old code h inv is =
+    ap₂ (λ (list : List ℤ) (x : ℤ). set list j x) inv is
+    ∙ ap (λ (k : ℕ). set (over 0 (take j from) old) k (getD from j (pos 0))) (sym (zero-add j))
+    ∙ over-more (pos 0) 0 from old j h
+
+-- and all copied, at most 128
+pub copy-done : (count : ℕ) (from codes old : List ℤ) → count ≡ min 128 (length from) → length old ≡ 128
+    → codes ≡ over 0 (take count from) old → take count codes ≡ take 128 from
+copy-done count from codes old is size inv =
+    let long : length (take count from) ≡ count = omega (arith, length-take count from) in
+    ap₂ take (sym long) inv ∙ over-item 0 (take count from) old (omega arith) ∙ all
+  where
+    all : take count from ≡ take 128 from
+    all =
+        by-cases
+        (decLe 128 (length from))
+        (λ more. let same : count ≡ 128 = omega arith in ap (λ (k : ℕ). take k from) same)
+        (λ less. take-all count from (omega arith) ∙ sym (take-all 128 from (omega arith)))

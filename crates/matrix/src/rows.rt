@@ -2,8 +2,14 @@
 use crate::COLUMNS;
 ghost use mathlib.Core.Path.{_≡_};
 ghost use Rattle.matrix.specs.Shape.{rowStart, row};
-ghost use Rattle.matrix.specs.NodeRows.{withRow};
+ghost use Rattle.matrix.specs.NodeRows.{withRow, CopyOf};
 ghost use Prim.Native.Nat.{min};
+
+// A row by value: its first `count` codes. Behind them stand zeros.
+pub struct RowCopy {
+    pub count: usize,
+    pub codes: [i32; 128],
+}
 
 // Where the row of node v begins, or the end of the list where it has no such row.
 pub fn row_start(len: usize, v: usize) -> usize
@@ -53,4 +59,19 @@ pub fn write_row(matrix: &mut [i32], v: usize, row: &[i32])
         matrix[start + j] = row[j];
         j += 1;
     }
+}
+
+// The row of node v by value: its codes for characters 1 to m, as far as the list goes and at most 128.
+pub fn row_copy(matrix: &[i32], m: usize, v: usize) -> RowCopy
+    ensures { λ r. ⌜ CopyOf (now (matrix .entry)) m v r ⌝ }
+{
+    let from = row(matrix, m, v);
+    let count = least(COLUMNS, from.len());
+    let mut codes = [0i32; COLUMNS];
+    let mut j = 0;
+    while j < count {
+        codes[j] = from[j];
+        j += 1;
+    }
+    RowCopy { count, codes }
 }

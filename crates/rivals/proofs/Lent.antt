@@ -1,6 +1,6 @@
 -- What the claim says of a lent matrix, in the terms of the calls on it.
 use mathlib.Core.Path.{_≡_, sym, ap₂, _∙_}
-use mathlib.Core.Bool.{Bool, true, false, not}
+use mathlib.Core.Bool.{Bool, true, false}
 use mathlib.Core.List.{List, [], _++_, map, map-append}
 use Prim.Native.Nat.{ℕ, _+_, _-_, _≤_, _<_}
 use native.Mathlib.Omega.{arith}
@@ -13,15 +13,15 @@ use Rattle.matrix.specs.NodeRows.{rowsOf, rowOf}
 use Rattle.lists.specs.Numbers.{numbers}
 use Rattle.lists.specs.Tests.{every}
 use Rattle.matrix.specs.Shape.{row}
-use Rattle.matrix.specs.Questions.{oneTo, allInRange, htuInRange, htusInRange, askMatrix}
+use Rattle.matrix.specs.Questions.{allInRange, htuInRange, htusInRange, askMatrix}
 use Rattle.matrix.specs.declared.refusal.Asked.the-variants.{Passed}
-use Rattle.matrix.specs.declared.refusal.Refusal.the-variants.{CodeRange, NotThere, NotBranching, ListSize}
-use Rattle.matrix.proofs.Passing.{ask-passed, andThen-passed, oneTo-true, matrix-passes}
+use Rattle.matrix.specs.declared.refusal.Refusal.the-variants.{NotBranching, ListSize}
+use Rattle.matrix.proofs.Passing.{ask-passed, andThen-passed, matrix-passes}
 use Rattle.difference.specs.Rows.{difference, nodeDifference, plain}
 use Rattle.prim.specs.Network.{network}
 use Rattle.prim.proofs.Agreement.{network-agrees}
-use Rattle.branching.specs.Nodes.{inTree, taxaPlaced, Unplaced}
-use Rattle.branching.proofs.Nodes.{not-inTree, taxaPlaced-le}
+use Rattle.branching.specs.Nodes.{taxaPlaced}
+use Rattle.branching.proofs.Nodes.{taxaPlaced-le}
 use Rattle.lists.proofs.Numbers.{numbers-append, length-map-numbers, map-numbers, getD-numbers, length-numbers}
 use Rattle.lists.proofs.Both.{or-cases}
 use Rattle.lists.proofs.Every.{every-at, every-from}
@@ -29,12 +29,13 @@ use Rattle.matrix.proofs.Row.{row-length}
 use Rattle.matrix_file.specs.Job.{hasCodes}
 use Rattle.branching.specs.declared.branch.Branch.{Branch}
 use Rattle.branching.specs.Branches.{ancestorsOf, lentBranching}
+use Rattle.branching.proofs.Passed.{PlacementAsked}
 use Rattle.branching.specs.Placing.{place}
 use Rattle.branching.specs.Rival.{PlacementIsLeast}
 use Rattle.rivals.specs.Accepted.{CodeRows, matrixLent, HandedIn}
 use Rattle.rivals.proofs.Demand.{no-rival}
-use Rattle.branching.specs.Growing.{growingTree, rowOneAlone}
-use Rattle.branching.specs.Asking.{htusOf, askPlacement, askBranching, branchesSize}
+use Rattle.branching.specs.Growing.{rowOneAlone}
+use Rattle.branching.specs.Asking.{htusOf, askBranching, branchesSize}
 use Rattle.matrix.proofs.NodeRows.{rowOf-rowsOf}
 
 -- the network that the call answers is the one that the claim and the listing speak of
@@ -44,37 +45,6 @@ unfolding nodeDifference
 same-network codes n m =
     network-agrees (nodeDifference difference (rowOf (rowsOf codes m n))) (nodeDifference difference (row codes m)) n
     (λ x y tx ty. ap₂ difference (rowOf-rowsOf codes m n x (tx .0) (tx .1)) (rowOf-rowsOf codes m n y (ty .0) (ty .1)))
-
--- what passed questions of a placement tell
-pub record PlacementAsked (codes : List ℤ) (n m : ℕ) (tree : List ℕ) (b : ℕ) : Type 0 where
-  pub matrix : askMatrix codes n m ≡ Passed
-  pub growing : growingTree n tree ≡ true
-  pub unplaced : Unplaced n tree b
-  pub htus : htusInRange codes n m (htusOf n tree) ≡ true
-
--- a taxon that is not in the tree is neither row 1 nor has it an ancestor
-not-in : (n : ℕ) (tree : List ℕ) (b : ℕ) → 1 ≤ b → b ≤ n → not (inTree tree b) ≡ true → Unplaced n tree b
-not-in n tree b low high e =
-    let out = not-inTree tree b e in
-    record { other = omega (arith, out .0); taxon = high; free = out .1 }
-
--- questions of a placement that pass tell that
-pub placement-asked : (codes : List ℤ) (n m : ℕ) (tree : List ℕ) (b : ℕ) → askPlacement codes n m tree b ≡ Passed
-    → PlacementAsked codes n m tree b
-unfolding askPlacement
-placement-asked codes n m tree b e =
-    let both = andThen-passed (askMatrix codes n m) _ e in
-    let taxon = ask-passed (oneTo n b) NotThere _ (both .1) in
-    let tree-asked = ask-passed (growingTree n tree) NotBranching _ (taxon .1) in
-    let free = ask-passed (not (inTree tree b)) NotThere _ (tree-asked .1) in
-    let known = ask-passed (htusInRange codes n m (htusOf n tree)) CodeRange Passed (free .1) in
-    let limits = oneTo-true n b (taxon .0) in
-    record {
-      matrix = both .0;
-      growing = tree-asked .0;
-      unplaced = not-in n tree b (limits .0) (limits .1) (free .0);
-      htus = known .0;
-    }
 
 -- a test of the rows of some nodes, row by row
 rows-every : (test : List ℤ → Bool) (codes : List ℤ) (m first count : ℕ)

@@ -6,22 +6,22 @@ use Prim.Native.Nat.{ℕ, zero, suc, _+_, _*_, _-_, _≤_, _<_}
 use native.Mathlib.Omega.{arith}
 use native.Mathlib.Nat.{zero-add}
 use lib.IntN.{ℤ}
-use lib.ListN.{length, length-set}
+use lib.ListN.{length}
 use Rattle.difference.specs.Rows.{nodeDifference}
 use Rattle.matrix.specs.NodeRows.{rowOf}
 use Rattle.lists.specs.Numbers.{numbers}
 use Rattle.branching.specs.Nodes.{taxaPlaced, nodesOut, Unplaced}
 use Rattle.branching.specs.Facts.{GrowingTree, alone, Branching}
-use Rattle.branching.specs.Hanging.{noBranches, linked, hung}
+use Rattle.branching.specs.Hanging.{noBranches}
 use Rattle.branching.specs.Branches.{lentBranching}
 use Rattle.branching.proofs.Nodes.{noBranches-none, noBranches-places}
 use Rattle.branching.proofs.Counts.{some-unplaced, unplaced-taxon}
 use Rattle.branching.proofs.Test.{growing-placed}
 use Rattle.branching.proofs.Records.{records-lent}
 use Rattle.wagner.specs.Build.{advancement, byAdvancement, buildOn, build, wagner, wagnerBranches}
-use Rattle.branching.specs.Placing.{AfterPlacing, nearestInterval, linkFirst, hang, placeOn, place}
+use Rattle.branching.specs.Placing.{AfterPlacing, place}
 use Rattle.lists.proofs.Least.{leastOf-mem}
-use Rattle.branching.proofs.Placing.{place-grows}
+use Rattle.branching.proofs.Placing.{place-grows, place-places}
 
 -- a rule for the next taxon chooses one that is not placed, as long as there is one
 abbrev pub Chooses : (ℕ → List ℕ → List (List ℤ) → ℕ) → ℕ → Type 0
@@ -34,16 +34,6 @@ unfolding byAdvancement
 advancement-chooses d n tree rows h =
     let some = some-unplaced n tree h in
     unplaced-taxon n tree (byAdvancement d n tree rows) (leastOf-mem (advancement d rows) (nodesOut tree (numbers 1 n)) (some .0) (some .1))
-
--- a placement keeps the number of places of the tree
-pub place-places : (d : List ℤ → List ℤ → ℕ) (n : ℕ) (tree : List ℕ) (rows : List (List ℤ)) (b : ℕ)
-    → length (place d n tree rows b .tree) ≡ length tree
-unfolding place placeOn linkFirst hang linked hung
-place-places d n tree rows b = on (nearestInterval d n tree rows b)
-  where
-    on : (c : ℕ) → length (placeOn d n tree rows b c .tree) ≡ length tree
-    on zero = simp length-set
-    on (suc c) = simp length-set
 
 module _ (d : List ℤ → List ℤ → ℕ) (next : ℕ → List ℕ → List (List ℤ) → ℕ) (n : ℕ) (taxa : 1 ≤ n) (chooses : Chooses next n) where
   -- each placement of a build makes the growing tree one taxon larger

@@ -22,8 +22,8 @@ use Rattle.difference.specs.Rows.{nodeDifference}
 use Rattle.branching.specs.RowLengths.{lengthUnder}
 use Rattle.branching.specs.Placing.{AfterPlacing, medianRow, nearestInterval, linkFirst, hang, place}
 use Rattle.wagner.specs.Build.{Built, addedLength, buildOn, build}
-use Rattle.branching.proofs.Placing.{place-first, place-later, nearest-node, place-grows}
-use Rattle.wagner.proofs.Build.{Chooses, place-places}
+use Rattle.branching.proofs.Placing.{place-first, place-later, nearest-node, place-grows, place-places}
+use Rattle.wagner.proofs.Build.{Chooses}
 use Rattle.branching.proofs.RowLengths.{MedianLaws, OfLength, Growth, rowOf-old, rowOf-new, medianRow-sized, place-added}
 
 -- a row of m codes more

@@ -1,16 +1,16 @@
 -- `branching::lent::tree_of` meets its contract. The loop's invariant: the first places are read, the others hold 0. Assumes nothing.
 use mathlib.Core.Path.{_≡_, refl, _∙_}
-use mathlib.Core.List.{_++_}
-use Prim.Native.Nat.{_+_, _-_, _≤_}
+use Prim.Native.Nat.{_-_, _≤_}
 use native.Mathlib.Omega.{arith}
-use lib.ListN.{length, replicate}
+use lib.ListN.{length}
+use Rattle.lists.specs.Filled.{filled}
 use Rattle.branching.proofs.Lending.{ancestorsTo, read-next, read-all}
 use borrow.Author.Needs.{needs}
 use Rattle.branching.proofs.lent.tree_of.Statement.{statement}
 use Rattle.branching.proofs.lent.tree_of.Tie as tie
 
 abbrev Inv-loop : tie.InvT-loop
-Inv-loop n records count places₀ i₀ places i = (i ≤ count) × (count ≤ 125) × (places ≡ ancestorsTo i records ++ replicate (125 - i) 0)
+Inv-loop n records count places₀ i₀ places i = (i ≤ count) × (count ≤ 125) × (places ≡ filled 127 0 (ancestorsTo i records))
 
 abbrev μ-loop : tie.MeasureT-loop
 μ-loop n records count places₀ i₀ places i = count - i
@@ -19,6 +19,7 @@ record-count-requires : tie.Need-record-count-requires Inv-loop μ-loop
 record-count-requires c κs = search needs
 
 loop-holds : tie.Need-loop-holds Inv-loop μ-loop
+unfolding filled
 loop-holds c = (omega arith, omega (arith, c .record-count .ensures), refl)
 
 mul-branch : tie.Need-mul-branch Inv-loop μ-loop

@@ -1,13 +1,12 @@
 -- `branching::lent::with_records` meets its contract. The loop's invariant: the first records are written, the others as before.
 -- Assumes nothing.
 use mathlib.Core.Path.{_≡_, refl, _∙_}
-use mathlib.Core.List.{map, _++_}
-use Prim.Native.Nat.{_+_, _-_, _≤_}
+use Prim.Native.Nat.{_*_, _-_, _≤_, min}
 use native.Mathlib.Omega.{arith}
-use lib.ListN.{length, drop, length-set}
-use Rattle.lists.specs.Numbers.{numbers}
+use lib.ListN.{length, take, length-set}
+use Rattle.lists.specs.Over.{over}
 use Rattle.branching.specs.Ancestors.{ancestors}
-use Rattle.branching.specs.Branches.{lengthsBy, branchOf}
+use Rattle.branching.specs.Branches.{lengthsBy, branchRecords}
 use Rattle.branching.proofs.Lending.{written-next, written-all}
 use borrow.Author.Needs.{needs}
 use Rattle.branching.proofs.lent.with_records.Statement.{statement}
@@ -18,7 +17,8 @@ Inv-loop tree n lengths records₀ count i₀ records i = (i ≤ count)
     × (count ≤ 125)
     × (length records ≡ 125)
     × (length records₀ ≡ 125)
-    × (records ≡ map (branchOf (lengthsBy lengths) (ancestors tree)) (numbers 2 i) ++ drop i records₀)
+    × (count ≡ min (2 * n - 3) 125)
+    × (records ≡ over 0 (take i (branchRecords (lengthsBy lengths) n (ancestors tree))) records₀)
 
 abbrev μ-loop : tie.MeasureT-loop
 μ-loop tree n lengths records₀ count i₀ records i = count - i
@@ -27,9 +27,9 @@ record-count-requires : tie.Need-record-count-requires Inv-loop μ-loop
 record-count-requires c κs = search needs
 
 loop-holds : tie.Need-loop-holds Inv-loop μ-loop
-unfolding numbers
+unfolding over
 loop-holds c = let size : length (c .before .args .t4) ≡ 125 = search needs in
-    (omega arith, omega (arith, c .record-count .ensures), size, size, refl)
+    (omega arith, omega (arith, c .record-count .ensures), size, size, c .record-count .ensures, refl)
 
 add-branch-of : tie.Need-add-branch-of Inv-loop μ-loop
 add-branch-of c = search needs
@@ -56,7 +56,8 @@ loop-again c = let loop = c .before .before .loop in
       inv .1,
       simp length-set (inv .2),
       inv .3,
-      rw (c .branch-of .ensures) (written-next _ _ (loop .records) (loop .i) (inv .4) (omega arith)),
+      inv .4,
+      rw (c .branch-of .ensures) (written-next _ _ _ _ (loop .records) (loop .i) (inv .5) (omega arith)),
     )
 
 returns : tie.Need-returns Inv-loop μ-loop
@@ -64,7 +65,7 @@ returns c = let loop = c .before .loop in
     let inv = loop .inv in
     let count = c .before .before .record-count .result in
     let same : loop .i ≡ count = omega (arith, c .loop-test .left) in
-    inv .4 ∙ written-all _ _ _ _ (loop .i) (inv .3) (same ∙ c .before .before .record-count .ensures)
+    inv .5 ∙ written-all _ _ _ _ (loop .i) (inv .3) (same ∙ c .before .before .record-count .ensures)
 
 pub with-records-spec : {M : Type 1} → statement M
 with-records-spec =
