@@ -55,6 +55,7 @@ module _ (file line : List ℕ) (l : line ≡ firstPart lineFeed file) where
         parts-more lineFeed file (omega (arith, line-length, part-within lineFeed file))
         ∙ ap (λ x. x ∷ partsAt lineFeed (behindPart lineFeed file)) (sym l)
 
+    -- its form is that of its fields
     form : firstLineForm (linesOf file) ≡ good
     unfolding firstLineForm linesOf
     form =
@@ -151,6 +152,7 @@ pub too-long : (file : List ℕ) → mostBytes < length file → refused 1 0 ≡
 unfolding readAnswer askLength
 too-long file h = rw (lt-leb (length file) mostBytes h)
 
+-- an empty file
 pub empty : (file : List ℕ) → length file ≡ 0 → refused 2 0 ≡ withHeader (readAnswer file)
 unfolding readAnswer askLength
 empty file h = rw h
@@ -173,6 +175,7 @@ module _ (file : List ℕ) (low : length file ≤ mostBytes) (some : length file
       (sized ∙ ap (λ r. thenWith (readSays r) (λ header. askBehind header (behindHeader header (linesOf file)))) e))
 
   module _ (header : Header) (e : answer ≡ Accepted header) where
+    -- what it was answered
     passed : HeaderPassed (linesOf file) header
     passed = header-passed (linesOf file) header (sym a ∙ ap readSays e)
 

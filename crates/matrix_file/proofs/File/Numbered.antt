@@ -32,6 +32,7 @@ data Numbered : Asked → Type 0 where
   passed : Numbered Passed
   numbered : {refusal : Refusal} → OfFile (refusalNumber refusal) → Numbered (Refused refusal)
 
+-- and so for an outcome
 data FileNumbered {A : Type 0} : Outcome A → Type 0 where
   with-value : {a : A} → FileNumbered (value a)
   with-number : {number line : ℕ} → OfFile number → FileNumbered (refused number line)

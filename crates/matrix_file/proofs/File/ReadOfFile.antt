@@ -56,6 +56,7 @@ module _ (job : Job) (within : JobWithinLimits job) where
       take-at (rowTexts job) ([] ∷ []) (job .n)
       (length-zip rowText (job .names) (job .rows) (job-rows job within .count) ∙ within .name-count)
 
+  -- so they say the job
   job-back : jobOf (headerOf job) behind ≡ job
   unfolding jobOf
   job-back = λ i.
