@@ -35,6 +35,11 @@ answered asked a = onLine 0 asked (value a)
 abbrev pub askedSays : Asked → Outcome (Unit {0})
 askedSays asked = answered asked tt
 
+-- what follows if nothing is refused
+abbrev pub thenWith : {A B : Type 0} → Outcome A → (A → Outcome B) → Outcome B
+thenWith (value a) follow = follow a
+thenWith (refused number line) follow = refused number line
+
 -- what lent memory, or a result, then is: as written if nothing was refused, as before if something was
 abbrev pub afterwards : {A B : Type 0} → Outcome A → B → B → B
 afterwards (value a) written old = written

@@ -92,10 +92,12 @@ edges =
 AsSaid : List (String × Outcome Job) → Type 0
 AsSaid table = map (λ row. readText (row .0)) table ≡ map (λ row. row .1) table
 
+-- the refusals are as the table says
 refusals-read : AsSaid refusals
 unfolding AsSaid readText refusals
 refusals-read = refl
 
+-- and so are the edges
 edges-read : AsSaid edges
 unfolding AsSaid readText edges one-code
 edges-read = refl
@@ -116,10 +118,12 @@ alike n =
       rows = replicate n (pos 0 ∷ []);
     }
 
+-- 64 taxa pass
 sixty-four-taxa : read (fileOf (alike 64)) ≡ value (alike 64)
 unfolding read alike joinedBy decimal zipWith firstText rowText ended fileOf
 sixty-four-taxa = refl
 
+-- 65 are 4
 sixty-five-taxa : read (fileOf (alike 65)) ≡ refused 4 1
 unfolding read alike joinedBy decimal zipWith firstText rowText ended fileOf
 sixty-five-taxa = refl
@@ -150,6 +154,7 @@ two-names = refl
 accepted-says : readSays (Accepted (record { n = 4; m = 3 })) ≡ value (record { n = 4; m = 3 })
 accepted-says = refl
 
+-- a refusal: its number and its line
 refused-says : readSays (Refused NameTaken 4) ≡ refused 7 4
 refused-says = refl
 
@@ -163,6 +168,7 @@ full-size : readInto (bytes "W\t1\t2\nA\t0\t1\n") 16128 1024 ≡ value (record {
 unfolding readInto bytes
 full-size = refl
 
+-- and refuses
 full-size-refused : readInto (bytes "W\t1\t2\nA\t0\n") 16128 1024 ≡ refused 8 2
 unfolding readInto bytes
 full-size-refused = refl
@@ -172,14 +178,17 @@ names-short : (file : List ℕ) → readInto file 16128 1023 ≡ refused 12 0
 unfolding readInto
 names-short file = refl
 
+-- a byte too long
 names-long : (file : List ℕ) → readInto file 16128 1025 ≡ refused 12 0
 unfolding readInto
 names-long file = refl
 
+-- a matrix that is a code too short
 matrix-short : (file : List ℕ) → readInto file 16127 1024 ≡ refused 12 0
 unfolding readInto
 matrix-short file = refl
 
+-- a code too long
 matrix-long : (file : List ℕ) → readInto file 16129 1024 ≡ refused 12 0
 unfolding readInto
 matrix-long file = refl

@@ -5,16 +5,19 @@ use Prim.Native.Nat.{ℕ, suc}
 use lib.Dec.{leb, eqb}
 use lib.ListN.{take, drop}
 
--- tab, line feed, `-` and `_`
+-- tab
 abbrev pub tab : ℕ
 tab = 9
 
+-- line feed
 abbrev pub lineFeed : ℕ
 lineFeed = 10
 
+-- `-`
 abbrev pub minus : ℕ
 minus = 45
 
+-- `_`
 abbrev pub underscore : ℕ
 underscore = 95
 

@@ -45,6 +45,7 @@ noLeadingZero (digit ∷ next ∷ digits) = not (eqb digit zeroDigit)
 abbrev pub mostDigits : ℕ
 mostDigits = 6
 
+-- a million
 abbrev pub aMillion : ℕ
 aMillion = 1000000
 

@@ -4,7 +4,7 @@ use mathlib.Core.Bool.{Bool, true, false}
 use Prim.Native.Nat.{ℕ}
 use lib.Dec.{leb}
 use lib.ListN.{length, take}
-use Rattle.matrix.specs.Outcomes.{ask, Outcome, value, refused, onLine}
+use Rattle.matrix.specs.Outcomes.{ask, Outcome, value, onLine, thenWith}
 use Rattle.matrix.specs.declared.refusal.Refusal.the-variants.{FileTooLong, FileEmpty, FileGoesOn}
 use Rattle.matrix.specs.declared.refusal.Asked.{Asked}
 use Rattle.matrix.specs.declared.refusal.Asked.the-variants.{Passed}
@@ -17,11 +17,6 @@ use Rattle.matrix_file.specs.Rows.{nameIn, codesIn, askRows}
 -- a file has at most 45,000 bytes
 abbrev pub mostBytes : ℕ
 mostBytes = 45000
-
--- what follows if nothing is refused
-abbrev pub thenWith : {A B : Type 0} → Outcome A → (A → Outcome B) → Outcome B
-thenWith (value a) follow = follow a
-thenWith (refused number line) follow = refused number line
 
 -- what a header and the lines behind it say: n rows
 unfoldable pub jobOf : Header → List (List ℕ) → Job

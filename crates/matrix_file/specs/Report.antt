@@ -8,7 +8,7 @@ use lib.IntN.{ℤ}
 use lib.ListN.{length}
 use Rattle.matrix.specs.Shape.{matrixSize}
 use Rattle.matrix.specs.Refusals.{refusalNumber}
-use Rattle.matrix.specs.Outcomes.{ask, Outcome, value, refused, onLine, afterwards}
+use Rattle.matrix.specs.Outcomes.{ask, Outcome, value, refused, onLine, afterwards, thenWith}
 use Rattle.matrix.specs.declared.refusal.Refusal.the-variants.{ListSize}
 use Rattle.matrix.specs.declared.refusal.Asked.the-variants.{Passed}
 use Rattle.matrix_file.specs.declared.answer.Header.{Header}
@@ -16,7 +16,7 @@ use Rattle.matrix_file.specs.declared.answer.Read.{Read}
 use Rattle.matrix_file.specs.declared.answer.Read.the-variants.{Accepted, Refused}
 use Rattle.matrix_file.specs.Job.{Job}
 use Rattle.matrix_file.specs.Header.{headerOf}
-use Rattle.matrix_file.specs.Reading.{readAnswer, jobIn, thenWith}
+use Rattle.matrix_file.specs.Reading.{readAnswer, jobIn}
 use Rattle.matrix_file.specs.Written.{namesSize, matrixWritten, namesWritten}
 
 -- what an answer says in document 01's terms: the header, or the number of the refusal and the line

@@ -16,10 +16,11 @@ use Rattle.matrix_file.specs.Decimal.{codeForm, codeOf}
 use Rattle.matrix_file.specs.Job.{nameForm, differsFromAll}
 use Rattle.matrix_file.specs.Lines.{fieldsOf}
 
--- what a row's line says: a name, then codes
+-- the name that a row's line says: its first field
 unfoldable pub nameIn : List ℕ → List ℕ
 nameIn line = getD (fieldsOf line) 0 []
 
+-- the codes that it says: the other fields
 unfoldable pub codesIn : List ℕ → List ℤ
 codesIn line = map codeOf (drop 1 (fieldsOf line))
 

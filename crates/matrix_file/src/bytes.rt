@@ -10,8 +10,10 @@ ghost use Rattle.matrix_file.specs.Job.{inName};
 ghost use Rattle.matrix_file.specs.Lines.{linesOf};
 ghost use Rattle.matrix_file.specs.Walk.{inAlphabet};
 
+// What parts fields.
 pub(crate) const TAB: u8 = 9;
 
+// What ends a line.
 pub(crate) const LINE_FEED: u8 = 10;
 
 // Whether a byte is from `low` to `high`.

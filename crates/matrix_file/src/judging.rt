@@ -35,10 +35,11 @@ ghost use Rattle.matrix_file.specs.Reading.{nothingMore, askBehind, read
 ghost use Rattle.matrix_file.specs.Report.{readSays, withHeader};
 ghost use Rattle.matrix_file.specs.Walk.{namesPassed, RowsAsked};
 
+// A file has at most so many bytes.
 const MOST_BYTES: usize = 45000;
 
 // Whether a name is well formed.
-pub(crate) fn name_form(name: &[u8]) -> bool
+fn name_form(name: &[u8]) -> bool
     ensures { λ r. ⌜ r ≡ nameForm (now (name .entry)) ⌝ }
 {
     if name.len() == 0 {

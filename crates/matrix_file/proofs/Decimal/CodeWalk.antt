@@ -36,9 +36,11 @@ module _ (text rest : List ℕ) (b : Bool) (h : length text ≡ 0 → ⊥) (m : 
       code-form-minus text (omega arith) m
       ∙ ap₂ (λ x y. x && leb 1 (numberOf y)) (ap numberForm (sym r) ∙ sym e) (sym r)
 
+  -- no number stands behind the minus
   pub bad-digits : not b ≡ true → false ≡ codeForm text
   bad-digits t = sym (behind ∙ ap (λ x. x && leb 1 (numberOf rest)) (not-true b t))
 
+  -- a number stands there: it must not be zero
   pub digits : (number : ℕ) → not b ≡ false → number ≡ numberOf rest → leb 1 number ≡ codeForm text
   digits number t n = sym (behind ∙ ap (λ x. x && leb 1 (numberOf rest)) (not-false b t) ∙ ap (leb 1) (sym n))
 

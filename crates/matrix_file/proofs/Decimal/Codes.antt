@@ -18,10 +18,12 @@ use Rattle.matrix_file.proofs.Decimal.Digits.{digit-low, first-digit, d
 
 -- a text that begins with another byte than a minus is read as a number
 module _ (byte : ℕ) (bytes : List ℕ) (other : eqb byte minus ≡ false) where
+  -- its form is that of a number
   plain-form : codeForm (byte ∷ bytes) ≡ numberForm (byte ∷ bytes)
   unfolding codeForm
   plain-form = rw other
 
+  -- its code is that number
   plain-code : codeOf (byte ∷ bytes) ≡ pos (numberOf (byte ∷ bytes))
   unfolding codeOf
   plain-code = rw other
@@ -42,6 +44,7 @@ module _ (n : ℕ) where
   digits-code-form : codeForm (digitsOf n) ≡ numberForm (digitsOf n)
   digits-code-form = rw (first-digit n .2) (plain-form (first-digit n .0) (first-digit n .1) first-no-minus)
 
+  -- and they say the number
   digits-code : codeOf (digitsOf n) ≡ pos n
   digits-code =
       ap codeOf (first-digit n .2)
@@ -70,6 +73,7 @@ decimal-plain : (number : ℕ) → decimal (pos number) ≡ digitsOf number
 unfolding decimal
 decimal-plain number = refl
 
+-- below zero it is written with a minus
 decimal-negative : (number : ℕ) → 1 ≤ number → decimal (negℤ (pos number)) ≡ minus ∷ digitsOf number
 unfolding decimal
 decimal-negative zero h = absurd (omega arith)
@@ -98,6 +102,7 @@ pub code-form-plain : (text : List ℕ) → 0 < length text → (getD text 0 0 �
 code-form-plain [] h other = absurd (omega arith)
 code-form-plain (byte ∷ bytes) h other = plain-form byte bytes (ne-eqb byte minus other)
 
+-- and its code is the number
 pub code-plain : (text : List ℕ) → 0 < length text → (getD text 0 0 ≡ minus → ⊥) → codeOf text ≡ pos (numberOf text)
 code-plain [] h other = absurd (omega arith)
 code-plain (byte ∷ bytes) h other = plain-code byte bytes (ne-eqb byte minus other)
@@ -109,6 +114,7 @@ unfolding codeForm
 code-form-minus [] h same = absurd (omega arith)
 code-form-minus (byte ∷ bytes) h same = rw (eq-eqb byte minus same)
 
+-- its code is the number below zero
 pub code-minus : (text : List ℕ) → 0 < length text → getD text 0 0 ≡ minus → codeOf text ≡ negℤ (pos (numberOf (drop 1 text)))
 unfolding codeOf
 code-minus [] h same = absurd (omega arith)

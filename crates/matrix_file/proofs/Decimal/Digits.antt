@@ -32,6 +32,7 @@ data Size (n : ℕ) : Type 0 where
   short : n < 10 → Size n
   long : 10 ≤ n → Size n
 
+-- a number is of one of these sizes
 size : (n : ℕ) → Size n
 size n = by (ltb n 10) refl
   where
@@ -105,6 +106,7 @@ digit-for : (x : ℕ) → x < 10 → isDigit (digitFor x) ≡ true
 unfolding isDigit
 digit-for x h = and-both (le-leb 48 (digitFor x) (omega arith)) (le-leb (digitFor x) 57 (omega arith))
 
+-- a number below ten is written by one digit
 one-digit : (x : ℕ) → x < 10 → every isDigit (digitFor x ∷ []) ≡ true
 unfolding every
 one-digit x h = and-both (digit-for x h) refl
@@ -171,6 +173,7 @@ pub digit-low : (digit : ℕ) → isDigit digit ≡ true → zeroDigit ≤ digit
 unfolding isDigit
 digit-low digit e = leb-true zeroDigit digit (and-left (leb zeroDigit digit) (leb digit 57) e)
 
+-- a digit is at most `9`
 pub digit-high : (digit : ℕ) → isDigit digit ≡ true → digit ≤ 57
 unfolding isDigit
 digit-high digit e = leb-true digit 57 (and-right (leb zeroDigit digit) (leb digit 57) e)
@@ -194,6 +197,7 @@ unfolding numberForm
 form-digits text e =
     and-left (every isDigit text) (noLeadingZero text) (and-right (leb 1 (length text) && leb (length text) 6) _ e)
 
+-- a text of this form has no leading zero
 form-no-leading-zero : (text : List ℕ) → numberForm text ≡ true → noLeadingZero text ≡ true
 unfolding numberForm
 form-no-leading-zero text e =
@@ -230,6 +234,7 @@ leading-one [] h = refl
 leading-one (digit ∷ []) h = refl
 leading-one (digit ∷ next ∷ digits) h = absurd (omega arith)
 
+-- longer digits have none if the first is not `0`
 pub leading-more : (text : List ℕ) → 1 ≤ length text → (length text ≡ 1 → ⊥) → noLeadingZero text ≡ not (eqb (getD text 0 0) zeroDigit)
 unfolding noLeadingZero
 leading-more [] h more = absurd (omega arith)

@@ -18,6 +18,7 @@ use Rattle.matrix_file.proofs.Rows.Within.{limits-high}
 
 -- a file that is accepted with a job
 module _ (file : List ℕ) (job : Job) (e : readAnswer file ≡ value job) where
+  -- what it was answered
   passed : FilePassed file job
   passed = file-passed file job e
 
@@ -36,10 +37,12 @@ module _ (file : List ℕ) (job : Job) (e : readAnswer file ≡ value job) where
 
   -- a text of the lines behind the header
   module _ (rows : List ℕ) (r : linesOf rows ≡ behindHeader (headerIn (linesOf file)) (linesOf file)) where
+    -- its header has the job's n
     taxa : headerIn (linesOf file) .n ≡ job .n
     unfolding jobOf
     taxa = ap (λ said. said .n) (passed .behind .is)
 
+    -- its rows are the first n lines of the text
     said : take (headerIn (linesOf file) .n) (behindHeader (headerIn (linesOf file)) (linesOf file)) ≡ take (job .n) (linesOf rows)
     said = ap (λ lines. take (headerIn (linesOf file) .n) lines) (sym r) ∙ ap (λ n. take n (linesOf rows)) taxa
 
@@ -63,6 +66,7 @@ module _ (file : List ℕ) (job : Job) (e : readAnswer file ≡ value job) where
     unfolding jobOf
     accepted-codes = sym (ap (λ read. read .rows) (passed .behind .is)) ∙ ap (map codesIn) said
 
+    -- and so are the names
     pub accepted-names : job .names ≡ map nameIn (take (job .n) (linesOf rows))
     unfolding jobOf
     accepted-names = sym (ap (λ read. read .names) (passed .behind .is)) ∙ ap (map nameIn) said

@@ -40,6 +40,7 @@ pub record BehindPassed (header : Header) (lines : List (List ℕ)) (job : Job) 
   pub all : lines ≡ take (header .n) lines ++ ([] ∷ [])
   pub is : jobOf header lines ≡ job
 
+-- lines that pass tell so
 pub behind-passed : (header : Header) (lines : List (List ℕ)) (job : Job) → withinLimits (header .n) (header .m) ≡ true
     → askBehind header lines ≡ value job → BehindPassed header lines job
 unfolding askBehind askEnd
@@ -63,6 +64,7 @@ pub record FilePassed (file : List ℕ) (job : Job) : Type 0 where
   pub limits : withinLimits (headerIn (linesOf file) .n) (headerIn (linesOf file) .m) ≡ true
   pub behind : BehindPassed (headerIn (linesOf file)) (behindHeader (headerIn (linesOf file)) (linesOf file)) job
 
+-- a file that passes tells so
 pub file-passed : (file : List ℕ) (job : Job) → readAnswer file ≡ value job → FilePassed file job
 unfolding readAnswer askLength askFile
 file-passed file job e =
@@ -96,9 +98,11 @@ job-within header lines limits read =
     }
 
 module _ (file : List ℕ) (job : Job) (passed : FilePassed file job) where
+  -- its header
   abbrev header : Header
   header = headerIn (linesOf file)
 
+  -- the lines behind it
   abbrev lines : List (List ℕ)
   lines = behindHeader (headerIn (linesOf file)) (linesOf file)
 

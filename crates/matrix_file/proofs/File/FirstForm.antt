@@ -25,6 +25,7 @@ three line count e h = omega arith
 
 module _ (line : List ℕ) (count : ℕ) (e : count + 1 ≡ length (partsAt tab line)) (h : count ≡ 2) (word : List ℕ) (same : Bool)
     (w : word ≡ firstPart tab line) (s : same ≡ sameText word wordW) where
+  -- the word and the two numbers decide
   fields : firstForm (fieldsOf line) ≡ same && (numberForm (second line) && numberForm (third line))
   fields =
       first-form-three line (three line count e h)

@@ -42,6 +42,7 @@ first-form-read (word ∷ n ∷ m ∷ more ∷ fields) e = absurd (false≢true 
 
 -- line 1 of the right form: its fields have it, other lines stand behind it, and it is written in the one way
 module _ (lines : List (List ℕ)) (form : firstLineForm lines ≡ true) where
+  -- its fields are `W` and two numbers
   pub first-formed : firstForm (fieldsOf (getD lines 0 [])) ≡ true
   unfolding firstLineForm
   first-formed = by lines form
@@ -51,6 +52,7 @@ module _ (lines : List (List ℕ)) (form : firstLineForm lines ≡ true) where
       by (behind ∷ []) e = absurd (false≢true e)
       by (line ∷ next ∷ others) e = e
 
+  -- other lines stand behind it
   pub several-lines : 1 < length lines
   unfolding firstLineForm
   several-lines = by lines form
@@ -60,6 +62,7 @@ module _ (lines : List (List ℕ)) (form : firstLineForm lines ≡ true) where
       by (behind ∷ []) e = absurd (false≢true e)
       by (line ∷ next ∷ others) e = omega arith
 
+  -- it is the first line, and the others stand behind it
   pub lines-split : lines ≡ getD lines 0 [] ∷ drop 1 lines
   unfolding firstLineForm
   lines-split = by lines form
@@ -82,6 +85,7 @@ pub record HeaderPassed (lines : List (List ℕ)) (header : Header) : Type 0 whe
   pub limits : withinLimits (headerIn lines .n) (headerIn lines .m) ≡ true
   pub is : headerIn lines ≡ header
 
+-- a header that passes tells so
 pub header-passed : (lines : List (List ℕ)) (header : Header) → askHeader lines ≡ value header → HeaderPassed lines header
 unfolding askHeader askFirstLine
 header-passed lines header e =
@@ -92,32 +96,38 @@ header-passed lines header e =
 
 -- line 1 of a job is `W`, n and m
 module _ (job : Job) where
+  -- its fields hold neither a tab nor a line feed
   words-plain : every plain (wordW ∷ digitsOf (job .n) ∷ digitsOf (job .m) ∷ []) ≡ true
   unfolding every
   words-plain = and-both (digits-plain (job .n)) (and-both (digits-plain (job .m)) refl)
 
+  -- its fields are read back
   pub first-fields : fieldsOf (firstText job) ≡ wordW ∷ digitsOf (job .n) ∷ digitsOf (job .m) ∷ []
   unfolding firstText
   first-fields = line-fields wordW (digitsOf (job .n) ∷ digitsOf (job .m) ∷ []) words-plain
 
+  -- it holds no line feed
   pub first-lacks : lacks lineFeed (firstText job) ≡ true
   unfolding firstText
   first-lacks = line-lacks wordW (digitsOf (job .n) ∷ digitsOf (job .m) ∷ []) words-plain
 
   -- behind it stand lines: it says the header of the job, and passes
   module _ (next : List ℕ) (others : List (List ℕ)) (within : withinLimits (job .n) (job .m) ≡ true) where
+    -- its header is read back
     header-back : headerIn (firstText job ∷ next ∷ others) ≡ headerOf job
     unfolding headerIn
     header-back =
         ap headerFrom first-fields
         ∙ ap₂ (λ n m. record { n = n; m = m }) (number-of-digits (job .n)) (number-of-digits (job .m))
 
+    -- its form is right
     form-back : firstLineForm (firstText job ∷ next ∷ others) ≡ true
     unfolding firstLineForm firstForm sameText
     form-back =
         let high = limits-high (job .n) (job .m) within in
         ap firstForm first-fields ∙ and-both (digits-form (job .n) (omega arith)) (digits-form (job .m) (omega arith))
 
+    -- so its questions pass
     pub header-passes : askHeader (firstText job ∷ next ∷ others) ≡ value (headerOf job)
     unfolding askHeader askFirstLine
     header-passes = rw (form-back, header-back, within)

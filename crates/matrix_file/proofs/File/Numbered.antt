@@ -8,7 +8,7 @@ use lib.Dec.{leb, eqb}
 use lib.ListN.{length, drop}
 use Rattle.matrix.specs.Refusals.{refusalNumber}
 use Rattle.matrix.specs.Shape.{inRange}
-use Rattle.matrix.specs.Outcomes.{ask, Outcome, value, refused, onLine}
+use Rattle.matrix.specs.Outcomes.{ask, Outcome, value, refused, onLine, thenWith}
 use Rattle.matrix.specs.Questions.{withinLimits}
 use Rattle.matrix.specs.declared.refusal.Refusal.the-variants.{FileTooLong, FileEmpty, FirstLine, BeyondLimits, NameForm, NameTaken}
 use Rattle.matrix.specs.declared.refusal.Refusal.the-variants.{LineMissing, FieldCount, CodeForm, CodeRange, FileGoesOn}
@@ -21,7 +21,7 @@ use Rattle.matrix_file.specs.Job.{nameForm, differsFromAll}
 use Rattle.matrix_file.specs.Lines.{linesOf, fieldsOf}
 use Rattle.matrix_file.specs.Header.{rowLine, headerIn, behindHeader, firstLineForm, askFirstLine, askHeader}
 use Rattle.matrix_file.specs.Rows.{nameIn, askCodes, askRow, askRows}
-use Rattle.matrix_file.specs.Reading.{mostBytes, thenWith, jobOf, nothingMore, askEnd, askBehind, askFile, askLength, readAnswer}
+use Rattle.matrix_file.specs.Reading.{mostBytes, jobOf, nothingMore, askEnd, askBehind, askFile, askLength, readAnswer}
 
 -- the number of a refusal that a file can meet
 abbrev pub OfFile : ℕ → Type 0
@@ -32,6 +32,7 @@ data Numbered : Asked → Type 0 where
   passed : Numbered Passed
   numbered : {refusal : Refusal} → OfFile (refusalNumber refusal) → Numbered (Refused refusal)
 
+-- and so for an outcome
 data FileNumbered {A : Type 0} : Outcome A → Type 0 where
   with-value : {a : A} → FileNumbered (value a)
   with-number : {number line : ℕ} → OfFile number → FileNumbered (refused number line)

@@ -2,10 +2,9 @@
 use mathlib.Core.Path.{_≡_, refl}
 use Prim.Native.Nat.{ℕ}
 use native.Mathlib.Omega.{arith}
-use Rattle.matrix.specs.Outcomes.{Outcome, value, refused, onLine}
+use Rattle.matrix.specs.Outcomes.{Outcome, value, refused, onLine, thenWith}
 use Rattle.matrix.specs.declared.refusal.Asked.{Asked}
 use Rattle.matrix.specs.declared.refusal.Asked.the-variants.{Passed, Refused}
-use Rattle.matrix_file.specs.Reading.{thenWith}
 
 module _ {A : Type 0} where
   -- a refusal holds no value

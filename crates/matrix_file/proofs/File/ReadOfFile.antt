@@ -7,13 +7,13 @@ use lib.ListN.{length, length-append, take}
 use lib.Seq.{take-at}
 use borrow.Author.Tests.{le-leb}
 use Rattle.lists.proofs.Every.{every-cons}
-use Rattle.matrix.specs.Outcomes.{value}
+use Rattle.matrix.specs.Outcomes.{value, thenWith}
 use Rattle.matrix_file.specs.Bytes.{lineFeed}
 use Rattle.matrix_file.specs.Job.{Job, JobWithinLimits, firstText, rowText, rowTexts, ended, fileOf}
 use Rattle.matrix_file.specs.Lines.{linesOf}
 use Rattle.matrix_file.specs.Header.{rowLine, headerOf, behindHeader, askHeader}
 use Rattle.matrix_file.specs.Rows.{nameIn, codesIn, askRows}
-use Rattle.matrix_file.specs.Reading.{mostBytes, thenWith, jobOf, nothingMore, askEnd, askBehind, askFile, askLength, readAnswer}
+use Rattle.matrix_file.specs.Reading.{mostBytes, jobOf, nothingMore, askEnd, askBehind, askFile, askLength, readAnswer}
 use Rattle.matrix_file.proofs.File.FileLength.{file-short}
 use Rattle.matrix_file.proofs.File.HeaderRead.{first-lacks, header-passes}
 use Rattle.matrix_file.proofs.Text.Parts.{lacks, parts-ended}
@@ -56,6 +56,7 @@ module _ (job : Job) (within : JobWithinLimits job) where
       take-at (rowTexts job) ([] ∷ []) (job .n)
       (length-zip rowText (job .names) (job .rows) (job-rows job within .count) ∙ within .name-count)
 
+  -- so they say the job
   job-back : jobOf (headerOf job) behind ≡ job
   unfolding jobOf
   job-back = λ i.

@@ -32,6 +32,7 @@ none-written old text = record { near = omega arith; most = omega arith; full = 
 
 module _ (old : List ℤ) (text : List ℕ) (out : List ℤ) (j at : ℕ) (rest field : List ℕ) (inv : CodesWritten old text out j at)
     (h : at ≤ length text) (r : rest ≡ drop at text) (f : field ≡ firstPart tab rest) where
+  -- the fields that are left: this one, and those behind it
   these : drop j (fieldsOf text) ≡ field ∷ partsFrom tab text (at + length field + 1)
   these = inv .left ∙ from-next tab text at rest field h r f
 

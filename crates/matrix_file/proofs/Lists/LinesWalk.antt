@@ -23,12 +23,15 @@ use Rattle.matrix_file.proofs.Text.FirstPart.{first-length}
 
 -- a list whose rest from j on begins with x: x stands at j, and the others behind it
 module _ {A : Type 0} (xs : List A) (j : ℕ) (x : A) (others : List A) (e : drop j xs ≡ x ∷ others) where
+  -- j is a place of the list
   pub rest-below : j < length xs
   rest-below = omega (arith, ap length e, length-drop j xs)
 
+  -- x stands there
   pub rest-at : (d : A) → getD xs j d ≡ x
   rest-at d = ap (λ rest. getD rest 0 d) (sym (drop-cons xs j d rest-below) ∙ e)
 
+  -- the others stand behind it
   pub rest-next : drop (j + 1) xs ≡ others
   rest-next = ap (λ k. drop k xs) (add-one j) ∙ ap (drop 1) (sym (drop-cons xs j x rest-below) ∙ e)
 
@@ -39,6 +42,7 @@ pub record RowFormed (line : List ℕ) : Type 0 where
   pub named : nameForm (nameIn line) ≡ true
   pub coded : every codeForm (drop 1 (fieldsOf line)) ≡ true
 
+-- a line of the right form is made so
 pub row-formed : (line : List ℕ) → rowForm line ≡ true → RowFormed line
 unfolding rowForm
 row-formed line e =
@@ -65,6 +69,7 @@ lines-start rows n = record { some = omega arith; inside = omega arith; lines = 
 -- one line of a walk over a text with more than n lines
 module _ (rows : List ℕ) (n at done : ℕ) (rest line : List ℕ) (more : n < length (linesOf rows)) (walk : LinesLeft rows n at done)
     (h : done < n) (r : rest ≡ drop at rows) (l : line ≡ firstPart lineFeed rest) where
+  -- the lines that are left: this one, and those behind it
   these : drop done (linesOf rows) ≡ line ∷ partsFrom lineFeed rows (at + length line + 1)
   these = walk .lines ∙ from-next lineFeed rows at rest line (walk .inside) r l
 
@@ -111,6 +116,7 @@ lines-behind rows rest n at done walk h r =
 -- one line of a walk over well-formed rows
 module _ (rows : List ℕ) (n at done : ℕ) (rest line : List ℕ) (formed : RowsFormed n rows) (walk : LinesLeft rows n at done)
     (h : done < n) (r : rest ≡ drop at rows) (l : line ≡ firstPart lineFeed rest) where
+  -- it is line `done` of the text
   this : getD (take n (linesOf rows)) done [] ≡ line
   this = line-at rows n at done rest line (formed .count) walk h r l
 

@@ -51,6 +51,7 @@ map-at f (x ∷ xs) none other (suc k) h = map-at f xs none other k (omega arith
 
 -- a job within the limits
 module _ (job : Job) (within : JobWithinLimits job) where
+  -- its numbers are within their limits
   limits : (1 ≤ job .n) × (job .n ≤ 64) × (1 ≤ job .m) × (job .m ≤ 128)
   unfolding withinLimits
   limits =
@@ -74,6 +75,7 @@ module _ (job : Job) (within : JobWithinLimits job) where
       ∙ length-filled 0 nameSize (getD (job .names) k [])
       (name-length (getD (job .names) k []) (every-at nameForm (job .names) (within .names-formed) k [] h))
 
+  -- no padded name is wider than its place
   names-narrow : Narrow nameSize (map padded (job .names))
   names-narrow =
       items-narrow nameSize (map padded (job .names))
@@ -166,6 +168,7 @@ pub record Accepting
   pub matrix : newMatrix ≡ matrixWritten (job .rows) oldMatrix
   pub names : newNames ≡ namesWritten (job .names) oldNames
 
+-- an accepted read tells so
 pub read-accepting : (file : List ℕ) (oldMatrix : List ℤ) (oldNames : List ℕ) (newMatrix : List ℤ) (newNames : List ℕ) (r : Read)
     (header : Header) → ReadDone file oldMatrix oldNames newMatrix newNames r → r ≡ Accepted header
     → Accepting file oldMatrix oldNames newMatrix newNames header

@@ -67,9 +67,11 @@ module _ (file : List ℕ) (matrix : List ℤ) (names : List ℕ) (m : length ma
 
   -- it is accepted with a header
   module _ (header : Header) (e : answer ≡ Accepted header) where
+    -- the job that it says
     found : (job : Job) × (readAnswer file ≡ value job) × (value (headerOf job) ≡ value header)
     found = then-passed (readAnswer file) (λ job. value (headerOf job)) header (sym a ∙ ap readSays e)
 
+    -- the header has its n
     taxa : found .0 .n ≡ header .n
     taxa = let same : headerOf (found .0) ≡ header = cc (found .2) in ap (λ said. said .n) same
 
@@ -78,6 +80,7 @@ module _ (file : List ℕ) (matrix : List ℤ) (names : List ℕ) (m : length ma
     read-behind = accepted-behind file (found .0) (found .1)
 
     module _ (rows : List ℕ) (r : linesOf rows ≡ behindHeader header (linesOf file)) where
+      -- the rows are well formed
       formed : RowsFormed (header .n) rows
       formed = rw taxa at (accepted-formed file (found .0) (found .1) rows r)
 
@@ -85,6 +88,7 @@ module _ (file : List ℕ) (matrix : List ℤ) (names : List ℕ) (m : length ma
       pub matrix-given : (header .n * columns ≤ length matrix) × RowsFormed (header .n) rows
       matrix-given = (omega (arith, taxa, accepted-most file (found .0) (found .1)), formed)
 
+      -- and for the names
       pub names-given : (header .n * nameSize ≤ length names) × RowsFormed (header .n) rows
       names-given = (omega (arith, taxa, accepted-most file (found .0) (found .1)), formed)
 
@@ -95,6 +99,7 @@ module _ (file : List ℕ) (matrix : List ℤ) (names : List ℕ) (m : length ma
           ∙ accepted-codes file (found .0) (found .1) rows r
           ∙ ap (λ n. map codesIn (take n (linesOf rows))) taxa
 
+      -- and so are the names, padded
       said : map padded (jobIn file .names) ≡ map paddedIn (take (header .n) (linesOf rows))
       said =
           ap (map padded)
@@ -103,6 +108,7 @@ module _ (file : List ℕ) (matrix : List ℤ) (names : List ℕ) (m : length ma
           ∙ ap (λ n. map nameIn (take n (linesOf rows))) taxa)
           ∙ map-map padded nameIn (take (header .n) (linesOf rows))
 
+      -- so what is written is what the file brings
       pub read-written : (newMatrix : List ℤ) (newNames : List ℕ)
           → newMatrix ≡ stripes columns 0 (map codesIn (take (header .n) (linesOf rows))) matrix
           → newNames ≡ stripes nameSize 0 (map paddedIn (take (header .n) (linesOf rows))) names

@@ -37,24 +37,30 @@ module _ {A : Type 0} where
 
 -- the codes of a line of the right form
 module _ (line codes : List ℕ) (formed : RowFormed line) (c : codes ≡ behindPart tab line) where
+  -- they are the fields behind the name
   fields : fieldsOf codes ≡ drop 1 (fieldsOf line)
   fields = ap fieldsOf c ∙ sym (codes-behind line (formed .several))
 
+  -- each has the form of a code
   pub codes-formed : every codeForm (fieldsOf codes) ≡ true
   codes-formed = ap (every codeForm) fields ∙ formed .coded
 
+  -- they are at most 128
   pub codes-few : length (fieldsOf codes) ≤ columns
   codes-few = let few = formed .few in omega (arith, ap length fields, length-drop 1 (fieldsOf line))
 
+  -- they say the codes of the line
   pub codes-said : map codeOf (fieldsOf codes) ≡ codesIn line
   unfolding codesIn
   codes-said = ap (map codeOf) fields
 
 -- the name of a line of the right form has at most 16 bytes
 module _ (line name : List ℕ) (e : name ≡ firstPart tab line) where
+  -- it is what the line says
   pub name-said : name ≡ nameIn line
   name-said = e ∙ sym (name-first line)
 
+  -- it fits its place
   pub name-short : RowFormed line → length name ≤ nameSize
   name-short formed = omega (arith, ap length name-said, name-length (nameIn line) (formed .named))
 

@@ -45,6 +45,7 @@ fields-split line = rw (parts-some tab line .2)
 
 -- a row that passes was answered "yes" four times
 module _ (header : Header) (earlier : List (List ℕ)) (line : List ℕ) (e : askRow header earlier line ≡ Passed) where
+  -- the four answers
   pub row-answers :
       (length (fieldsOf line) ≡ suc (header .m)) × (nameForm (nameIn line) ≡ true) × (differsFromAll (nameIn line) earlier ≡ true)
       × (askCodes (drop 1 (fieldsOf line)) ≡ Passed)

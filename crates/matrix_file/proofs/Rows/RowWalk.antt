@@ -30,6 +30,7 @@ eqb-next a b c e = by (eqb a b) refl
 module _ (header : Header) (earlier : List (List ℕ)) (line : List ℕ) (count : ℕ) (name : List ℕ) (formed : Bool)
     (e : count + 1 ≡ length (partsAt tab line))
     (first : name ≡ firstPart tab line) (f : formed ≡ nameForm name) where
+  -- the questions on its codes
   abbrev codes-asked : Asked
   codes-asked = askCodes (drop 1 (fieldsOf line))
 

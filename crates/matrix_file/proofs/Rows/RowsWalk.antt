@@ -108,9 +108,11 @@ module _ (rows : List ℕ) (header : Header) (first : ℕ) (starts : List ℕ) (
   abbrev earlier : List (List ℕ)
   earlier = namesPassed rows starts done
 
+  -- the lines behind this one
   abbrev behind : List (List ℕ)
   behind = partsFrom lineFeed rows (at + length line + 1)
 
+  -- how many rows are left behind it
   abbrev left : ℕ
   left = header .n - (done + 1)
 
@@ -135,6 +137,7 @@ module _ (rows : List ℕ) (header : Header) (first : ℕ) (starts : List ℕ) (
       }
 
   module _ (ended : at + length line ≡ length rows → ⊥) (answer : Asked) (a : answer ≡ askRow header earlier line) where
+    -- the next line begins within the text
     next-inside : at + length line + 1 ≤ length rows
     next-inside = let end = next-within lineFeed rows at rest line (walk .inside) r l in next end
       where

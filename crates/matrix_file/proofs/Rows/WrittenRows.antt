@@ -54,6 +54,7 @@ module _ (name : List ℕ) (codes : List ℤ) (formed : nameForm name ≡ true) 
   unfolding nameIn
   row-name = rw row-fields
 
+  -- and so are its codes
   pub row-codes : codesIn (rowText name codes) ≡ codes
   unfolding codesIn
   row-codes = rw row-fields (codes-back codes)
@@ -119,6 +120,7 @@ names-back (name ∷ names) [] within = absurd (omega arith)
 names-back (name ∷ names) (codes ∷ rows) within =
     ap₂ _∷_ (row-name name codes (rows-first within .formed)) (names-back names rows (rows-others within))
 
+-- and the codes
 pub rows-back : {m : ℕ} {earlier : List (List ℕ)} (names : List (List ℕ)) (rows : List (List ℤ)) → RowsWithin m earlier names rows
     → map codesIn (zipWith rowText names rows) ≡ rows
 unfolding zipWith

@@ -29,6 +29,7 @@ codes-behind line h = ap (drop 1) (parts-several tab line h)
 abbrev pub second : List ℕ → List ℕ
 second line = firstPart tab (behindPart tab line)
 
+-- the third
 abbrev pub third : List ℕ → List ℕ
 third line = behindPart tab (behindPart tab line)
 
@@ -63,6 +64,7 @@ pub record FirstFormed (line : List ℕ) : Type 0 where
   pub taxa : numberForm (second line) ≡ true
   pub characters : numberForm (third line) ≡ true
 
+-- line 1 of the right form is made so
 pub first-formed : (line : List ℕ) → firstForm (fieldsOf line) ≡ true → FirstFormed line
 first-formed line e = by (ℕ-discrete (length (fieldsOf line)) 3)
   where

@@ -109,6 +109,7 @@ pub data Parted (s : ℕ) (text : List ℕ) : Type 0 where
   whole : partLength s text ≡ length text → Parted s text
   shorter : partLength s text < length text → Parted s text
 
+-- each text is one of the two
 pub parted : (s : ℕ) (text : List ℕ) → Parted s text
 parted s text = by (ltb (partLength s text) (length text)) refl
   where
@@ -158,6 +159,7 @@ part-of-front s (suc k) (b ∷ bs) h = by (eqb b s) refl (part-of-front s k bs)
         ∙ ap suc (front (omega (arith, part-other s b (take k bs) e)))
         ∙ sym (part-other s b (take k bs) e)
 
+-- and so is the part itself
 pub first-of-front : (s k : ℕ) (text : List ℕ) → partLength s (take k text) < length (take k text)
     → firstPart s text ≡ firstPart s (take k text)
 unfolding firstPart

@@ -28,6 +28,7 @@ parts-other s b bs e = rw (e, partsAt)
 head-not : (s b : ℕ) (bs : List ℕ) → lacks s (b ∷ bs) ≡ true → eqb b s ≡ false
 head-not s b bs e = not-true (eqb b s) (every-head (λ byte. not (eqb byte s)) b bs e)
 
+-- its other bytes lack the separator too
 tail-lacks : (s b : ℕ) (bs : List ℕ) → lacks s (b ∷ bs) ≡ true → lacks s bs ≡ true
 tail-lacks s b bs e = every-tail (λ byte. not (eqb byte s)) b bs e
 

@@ -34,9 +34,11 @@ from-start s text = from-within s text 0 (omega arith)
 -- the first part of the rest from a place on
 module _ (s : ℕ) (text : List ℕ) (at : ℕ) (rest part : List ℕ) (h : at ≤ length text) (r : rest ≡ drop at text)
     (p : part ≡ firstPart s rest) where
+  -- it is the first part of the text from there on
   part-is : part ≡ firstPart s (drop at text)
   part-is = p ∙ ap (firstPart s) r
 
+  -- and is as long as that
   size : length part ≡ partLength s (drop at text)
   size = ap length part-is ∙ first-length s (drop at text)
 

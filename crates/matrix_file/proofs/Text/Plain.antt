@@ -33,6 +33,7 @@ plain-lacks separator low =
 digit-plain : (byte : ℕ) → isDigit byte ≡ true → ltb lineFeed byte ≡ true
 digit-plain byte e = lt-ltb lineFeed byte (omega (arith, digit-low byte e))
 
+-- a letter
 letter-plain : (byte : ℕ) → isLetter byte ≡ true → ltb lineFeed byte ≡ true
 unfolding isLetter
 letter-plain byte e =
@@ -40,6 +41,7 @@ letter-plain byte e =
     (λ upper. lt-ltb lineFeed byte (omega (arith, leb-true 65 byte (and-left (leb 65 byte) (leb byte 90) upper))))
     (λ lower. lt-ltb lineFeed byte (omega (arith, leb-true 97 byte (and-left (leb 97 byte) (leb byte 122) lower))))
 
+-- a byte of a name
 in-name-plain : (byte : ℕ) → inName byte ≡ true → ltb lineFeed byte ≡ true
 unfolding inName
 in-name-plain byte e =
@@ -51,11 +53,13 @@ in-name-plain byte e =
 pub digits-plain : (n : ℕ) → plain (digitsOf n) ≡ true
 digits-plain n = every-weaker isDigit (ltb lineFeed) digit-plain (digitsOf n) (digits-are-digits n)
 
+-- a code in decimal is plain
 pub decimal-plain : (code : ℤ) → plain (decimal code) ≡ true
 unfolding decimal
 decimal-plain (pos n) = digits-plain n
 decimal-plain (negsuc n) = every-cons (ltb lineFeed) minus (digitsOf _) refl (digits-plain _)
 
+-- a name is plain
 pub name-plain : (name : List ℕ) → nameForm name ≡ true → plain name ≡ true
 unfolding nameForm
 name-plain [] e = absurd (false≢true e)
@@ -83,11 +87,13 @@ joined-lacks separator by other (part ∷ next ∷ parts) e =
 
 -- a line of plain fields: its fields are found again, and it holds no line feed
 module _ (field : List ℕ) (fields : List (List ℕ)) (e : every plain (field ∷ fields) ≡ true) where
+  -- its fields are found again
   pub line-fields : fieldsOf (joinedBy tab (field ∷ fields)) ≡ field ∷ fields
   unfolding fieldsOf
   line-fields =
       parts-joined tab field fields (every-weaker plain (lacks tab) (plain-lacks tab (omega arith)) (field ∷ fields) e)
 
+  -- it holds no line feed
   pub line-lacks : lacks lineFeed (joinedBy tab (field ∷ fields)) ≡ true
   line-lacks =
       joined-lacks lineFeed tab refl (field ∷ fields)
