@@ -1,5 +1,6 @@
 -- A growing tree that stands in a lent matrix with the rows of its HTUs, as the questions of a placement let it pass; and the one that a
 -- placement leaves, which stands in the matrix that it leaves. So nothing that a placement hands back is refused by the next one.
+use Rattle.branching.specs.RowLengths.{nodeInterval}
 use mathlib.Core.Path.{_≡_, refl, sym, ap, ap₂, _∙_}
 use mathlib.Core.Logic.{_⊎_, ⊎-elim, by-cases}
 use mathlib.Core.Bool.{true}
@@ -22,14 +23,14 @@ use Rattle.matrix.specs.declared.refusal.Asked.the-variants.{Passed}
 use Rattle.matrix.proofs.Passing.{matrix-passes}
 use Rattle.matrix.proofs.Row.{row-length}
 use Rattle.matrix.proofs.NodeRows.{length-rowsOf, rowOf-rowsOf, length-withRow, withRow-same, withRow-else, withRow-other, withRows-rows}
-use Rattle.difference.specs.Rows.{difference}
-use Rattle.difference.proofs.Laws.Rows.{medians-inRange}
+use Rattle.difference.specs.Rows.{difference, nodeDifference, intervalBy}
+use Rattle.difference.proofs.Laws.Rows.{medians-inRange, difference-limit}
 use Rattle.branching.specs.Ancestors.{ancestor}
 use Rattle.branching.specs.Nodes.{taxaPlaced, Unplaced}
 use Rattle.branching.specs.Growing.{growingTree}
 use Rattle.branching.specs.Facts.{Grown, GrowingTree, alone, several}
 use Rattle.branching.specs.Asking.{htusOf, askPlacement}
-use Rattle.branching.specs.Placing.{AfterPlacing, medianRow, nearestInterval, linkFirst, hang}
+use Rattle.branching.specs.Placing.{AfterPlacing, medianRow, nearestInterval, linkFirst, hang, fromInterval}
 use Rattle.branching.specs.Placed.{lastRow, placeIn, matrixPlaced}
 use Rattle.branching.proofs.Test.{growing-fact, growing-test, growing-placed}
 use Rattle.branching.proofs.Counts.{taxaPlaced-lt}
@@ -91,12 +92,12 @@ module _ (codes : List ℤ) (n m k : ℕ) (tree : List ℕ) (s : Standing codes 
       })
 
   -- the last node with a row
-  last-is : lastRow n tree ≡ n + (k - 2)
+  pub last-is : lastRow n tree ≡ n + (k - 2)
   unfolding lastRow
   last-is = ap (λ (placed : ℕ). n + (placed - 2)) standing-placed
 
   -- it is one of the matrix
-  last-most : lastRow n tree ≤ 126
+  pub last-most : lastRow n tree ≤ 126
   unfolding lastRow
   last-most = omega (arith, s .matrix .taxa, standing-placed, placed-most)
     where
@@ -183,6 +184,39 @@ module _ (codes : List ℤ) (n m k : ℕ) (tree : List ℕ) (s : Standing codes 
       where
         go : {j : ℕ} → GrowingTree n tree j → (((v : ℕ) → ancestor tree v ≡ 0) → j ≡ 1 → Step) → (Grown n j tree → Step) → Step
         go (alone none) one more = one none refl
+        go (several g) one more = more g
+
+    -- the difference of two nodes that have rows is at most 255,744
+    rows-most : (x y : ℕ) → 1 ≤ x → x ≤ lastRow n tree → 1 ≤ y → y ≤ lastRow n tree → difference (rowOf rows x) (rowOf rows y) ≤ 255744
+    rows-most x y lx hx ly hy =
+        let long : length (rowOf rows x) ≡ m = rows-each x lx (omega (arith, length-rowsOf codes m (lastRow n tree))) in
+        difference-limit (rowOf rows x) (rowOf rows y) (rows-known x lx hx) (rows-known y ly hy) (omega (arith, s .matrix .characters))
+
+    -- so is the length of a link
+    link-most : ((v : ℕ) → ancestor tree v ≡ 0) → placeIn codes n m tree b .placement .added ≤ 255744
+    unfolding placeIn linkFirst nodeDifference
+    link-most none =
+        rw (place-first difference n tree rows b none)
+        (rows-most b 1 (omega (arith, u .other)) (omega (arith, u .taxon, last-is)) (omega arith) (omega (arith, s .matrix .taxon, last-is)))
+
+    -- and the length that a hanging adds
+    hanging-most : Grown n k tree → placeIn codes n m tree b .placement .added ≤ 255744
+    unfolding placeIn hang fromInterval nodeInterval intervalBy
+    hanging-most g =
+        let c : ℕ = nearestInterval difference n tree rows b in
+        let inside = nearest-node difference n tree rows b k g .1 in
+        let w = lower-within g c inside in
+        let taxon : b ≤ lastRow n tree = omega (arith, u .taxon, last-is) in
+        let to-lower = rows-most b c (omega (arith, u .other)) taxon (w .0) (w .1) in
+        let to-upper = rows-most b (ancestor tree c) (omega (arith, u .other)) taxon inside (upper-within g c inside) in
+        rw (place-later difference n tree rows b k g) (omega arith)
+
+    -- the length added is at most 255,744
+    pub added-most : placeIn codes n m tree b .placement .added ≤ 255744
+    added-most = go (s .growing) link-most hanging-most
+      where
+        go : {j : ℕ} {A : Type 0} → GrowingTree n tree j → (((v : ℕ) → ancestor tree v ≡ 0) → A) → (Grown n j tree → A) → A
+        go (alone none) one more = one none
         go (several g) one more = more g
 
     -- the tree has one taxon more

@@ -15,7 +15,7 @@ use Rattle.prim.proofs.Shortest.{shortest}
 use Rattle.branching.specs.Growing.{branching}
 use Rattle.branching.specs.Branches.{namedInOrder, lentBranching, ancestorsOf}
 use Rattle.wagner.specs.Build.{wagner}
-use Rattle.wagner.proofs.Build.{wagner-branching}
+use Rattle.wagner.proofs.Whole.{wagner-branching}
 use Rattle.branching.proofs.Test.{branching-iff}
 use Rattle.fitting.specs.Rival.{FitIsLeast}
 use Rattle.fitting.proofs.Matrix.ThirdRival.{third-rival}

@@ -17,7 +17,7 @@ use Rattle.branching.specs.Placing.{linkFirst, place}
 use Rattle.branching.proofs.Placing.{place-first}
 use Rattle.wagner.specs.Build.{byAdvancement, buildOn, build, wagner}
 use Rattle.branching.specs.Rival.{PlacementIsLeast}
-use Rattle.wagner.proofs.Build.{Chooses, advancement-chooses}
+use Rattle.wagner.proofs.Whole.{Chooses, advancement-chooses}
 use Rattle.wagner.proofs.BuildLength.{place-growth}
 use Rattle.branching.proofs.Rival.{difference-laws, placement-least}
 use Rattle.branching.proofs.RowLengths.{Growth}

@@ -23,7 +23,7 @@ use Rattle.branching.specs.RowLengths.{lengthUnder}
 use Rattle.branching.specs.Placing.{AfterPlacing, medianRow, nearestInterval, linkFirst, hang, place}
 use Rattle.wagner.specs.Build.{Built, addedLength, buildOn, build}
 use Rattle.branching.proofs.Placing.{place-first, place-later, nearest-node, place-grows, place-places}
-use Rattle.wagner.proofs.Build.{Chooses}
+use Rattle.wagner.proofs.Whole.{Chooses}
 use Rattle.branching.proofs.RowLengths.{MedianLaws, OfLength, Growth, rowOf-old, rowOf-new, medianRow-sized, place-added}
 
 -- a row of m codes more

@@ -7,7 +7,7 @@ use lib.ListN.{length}
 use Rattle.difference.specs.Rows.{difference}
 use Rattle.branching.specs.Hanging.{noBranches}
 use Rattle.wagner.specs.Build.{byAdvancement, addedLength, wagner, wagnerLength}
-use Rattle.wagner.proofs.Build.{advancement-chooses}
+use Rattle.wagner.proofs.Whole.{advancement-chooses}
 use Rattle.branching.proofs.RowLengths.{OfLength}
 use Rattle.branching.proofs.Rival.{difference-laws}
 use Rattle.wagner.proofs.BuildLength.{Sound, build-sound, build-length}

@@ -1,6 +1,9 @@
 -- The laws of placements and of the build, and their definitions computed on examples.
 pub mod Examples
-pub mod Build
+pub mod Whole
 pub mod BuildLength
 pub mod Matrix
 pub mod Difference
+pub mod Choosing
+pub mod UnderWay
+pub mod Stepping

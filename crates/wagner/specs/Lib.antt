@@ -1,3 +1,6 @@
--- The Wagner tree: differences of nodes, one placement, the whole build (document 01, "The Wagner tree"; Farris 1970).
+-- The Wagner tree: the whole build (document 01, "The Wagner tree"; Farris 1970), and what the calls answer.
 pub mod Build
 pub mod Matrix
+pub mod Answers
+pub mod Order
+pub mod Steps

@@ -1,1 +1,3 @@
 // The Wagner tree: the whole build.
+pub mod build;
+pub mod order;

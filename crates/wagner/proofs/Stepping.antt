@@ -1,0 +1,83 @@
+-- What the functions of a build hand over to each other.
+use mathlib.Core.Path.{_≡_, ap, _∙_}
+use mathlib.Core.List.{List}
+use Prim.Native.Nat.{ℕ, _+_}
+use lib.IntN.{ℤ}
+use lib.ListN.{length, set}
+use Rattle.lists.specs.Least.{leastOf}
+use Rattle.lists.specs.Numbers.{numbers}
+use Rattle.matrix.specs.Questions.{askMatrix}
+use Rattle.matrix.specs.declared.refusal.Refusal.{Refusal}
+use Rattle.matrix.specs.declared.refusal.Asked.the-variants.{Passed, Refused}
+use Rattle.branching.specs.declared.placement.Placement.{Placement}
+use Rattle.branching.specs.declared.placement.Unasked.{Unasked}
+use Rattle.branching.specs.Ancestors.{ancestors}
+use Rattle.branching.specs.Nodes.{nodesOut}
+use Rattle.branching.specs.Unasked.{UnaskedDone, unasked}
+use Rattle.wagner.specs.declared.build.Building.{Building}
+use Rattle.wagner.specs.Answers.{buildSays, placementsIn, BuildDone}
+use Rattle.wagner.specs.Steps.{Begun, nextPlacement, WithPlacement, OneMore, BuiltFrom}
+
+-- the unplaced taxon of least key placed
+module _ (now new : List ℤ) (n m : ℕ) (key : ℕ → ℕ) (before : Building) (b : ℕ) (done : Unasked)
+    (chosen : b ≡ leastOf key (nodesOut (ancestors (before .tree)) (numbers 1 n)))
+    (placed : UnaskedDone now new n m (ancestors (before .tree)) b done) where
+  -- what was done
+  pub next-done : done .placement ≡ nextPlacement now n m key before .placement
+  unfolding nextPlacement
+  next-done = placed .placement ∙ ap (λ (v : ℕ). unasked now n m (ancestors (before .tree)) v .placement) chosen
+
+  -- the build with it
+  pub next-more : (r : Building) → WithPlacement before done r → OneMore now new n m key before r
+  unfolding nextPlacement
+  next-more r more =
+      record {
+        tree = ap ancestors (more .tree) ∙ placed .tree ∙ ap (λ (v : ℕ). unasked now n m (ancestors (before .tree)) v .tree) chosen;
+        placements = more .placements ∙ ap (λ (p : Placement). set (before .placements) (before .count) p) next-done;
+        count = more .count;
+        more = more .more ∙ ap (λ (p : Placement). before .length + p .added) next-done;
+        matrix = placed .matrix ∙ ap (λ (v : ℕ). unasked now n m (ancestors (before .tree)) v .codes) chosen;
+      }
+
+module _ (codes : List ℤ) (n m : ℕ) (building : Building) where
+  -- a refusal: row 1 alone, no placement, and the matrix as before
+  pub build-refused : (refusal : Refusal) → askMatrix codes n m ≡ Refused refusal → Begun building
+      → BuildDone codes codes n m
+      (record {
+        asked = Refused refusal;
+        tree = building .tree;
+        count = building .count;
+        placements = building .placements;
+        length = building .length;
+      })
+  unfolding buildSays placementsIn
+  build-refused refusal told begun =
+      record {
+        says = rw told;
+        tree = rw told (begun .tree);
+        placements = rw told (begun .placements);
+        count = rw told (begun .count);
+        matrix = rw told;
+        whole = rw told (begun .none);
+      }
+
+  -- where the questions pass: the Wagner tree
+  pub build-passed : (new : List ℤ) → askMatrix codes n m ≡ Passed → BuiltFrom codes new n m building
+      → BuildDone codes new n m
+      (record {
+        asked = Passed;
+        tree = building .tree;
+        count = building .count;
+        placements = building .placements;
+        length = building .length;
+      })
+  unfolding buildSays placementsIn
+  build-passed new told built =
+      record {
+        says = rw told;
+        tree = rw told (built .tree);
+        placements = rw told (built .placements);
+        count = rw told (built .count);
+        matrix = rw told (built .matrix);
+        whole = rw told (built .whole);
+      }

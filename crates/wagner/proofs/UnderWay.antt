@@ -1,0 +1,254 @@
+-- A build under way: what is placed, what the matrix holds, and that what is left of the build goes on from there.
+use mathlib.Core.Path.{_≡_, refl, sym, ap, _∙_}
+use mathlib.Core.List.{List, [], _∷_, _++_, append-assoc, append-nil}
+use Prim.Native.Nat.{ℕ, suc, _+_, _*_, _-_, _≤_, _<_}
+use native.Mathlib.Omega.{arith}
+use lib.IntN.{ℤ}
+use lib.ListN.{length, set, drop, length-append, length-drop, drop-of-length-le}
+use lib.Seq.{drop-append-le}
+use Rattle.lists.specs.Filled.{filled}
+use Rattle.lists.specs.Least.{leastOf}
+use Rattle.lists.specs.Numbers.{numbers}
+use Rattle.lists.specs.Over.{over, stripes}
+use Rattle.lists.specs.Sums.{sumOver}
+use Rattle.lists.proofs.Filled.{filled-snoc}
+use Rattle.lists.proofs.Stripes.{stripes-snoc}
+use Rattle.lists.proofs.Sums.{sum-snoc}
+use Rattle.matrix.specs.Shape.{row, rowStart, columns}
+use Rattle.matrix.specs.NodeRows.{rowsOf, withRow, withRows}
+use Rattle.matrix.specs.Questions.{LentMatrix}
+use Rattle.matrix.proofs.NodeRows.{length-rowsOf}
+use Rattle.difference.specs.Rows.{difference}
+use Rattle.branching.specs.declared.placement.Placement.{Placement}
+use Rattle.branching.specs.Ancestors.{ancestors}
+use Rattle.branching.specs.Nodes.{nodesOut, Unplaced}
+use Rattle.branching.specs.Facts.{alone}
+use Rattle.branching.specs.Hanging.{noBranches}
+use Rattle.branching.specs.Placing.{AfterPlacing, place}
+use Rattle.branching.specs.Placed.{lastRow, placeIn, matrixPlaced}
+use Rattle.branching.specs.Unasked.{noPlacement, unasked}
+use Rattle.branching.proofs.Nodes.{noBranches-none, noBranches-places}
+use Rattle.branching.proofs.Unasked.{AsPlaced, unasked-placed, no-row}
+use Rattle.branching.proofs.Standing.{Standing, standing-placed, standing-test, last-is, Step, first, later, placed-step, added-most}
+use Rattle.branching.proofs.Standing.{placed-other, placed-rows, placed-standing}
+use Rattle.wagner.specs.declared.build.Building.{Building}
+use Rattle.wagner.specs.Build.{Built, addedLength, byAdvancement, buildOn, build, wagner, wagnerLength}
+use Rattle.wagner.specs.Matrix.{matrixAfter}
+use Rattle.wagner.specs.Answers.{mostPlacements, wagnerIn}
+use Rattle.wagner.specs.Order.{keyOf, Advancements}
+use Rattle.wagner.specs.Steps.{Begun, nextPlacement, OneMore, BuiltFrom}
+use Rattle.wagner.proofs.Choosing.{next-advancement}
+use Rattle.wagner.proofs.Whole.{advancement-chooses}
+use Rattle.wagner.proofs.Difference.{wagner-length}
+use Rattle.wagner.proofs.Matrix.{rowsOf-each}
+
+-- the rows of the nodes of a tree
+abbrev pub rowsNow : List ℤ → ℕ → ℕ → List ℕ → List (List ℤ)
+rowsNow now n m tree = rowsOf now m (lastRow n tree)
+
+-- what is left of a build
+abbrev pub left : List ℤ → ℕ → ℕ → ℕ → List ℕ → Built
+left now n m placed tree = buildOn difference (byAdvancement difference) n (n - placed) tree (rowsNow now n m tree)
+
+-- of a build from the matrix `codes`, so many taxa are placed by the placements `done`, and the matrix now is `now`
+pub record UnderWay (codes now : List ℤ) (n m placed : ℕ) (building : Building) (done : List Placement) : Type 0 where
+  pub standing : Standing now n m placed (ancestors (building .tree))
+  pub taxa : (v : ℕ) → 1 ≤ v → v ≤ n → row now m v ≡ row codes m v
+  pub written : now ≡ withRows codes (suc n) (drop n (rowsNow now n m (ancestors (building .tree))))
+  pub list : building .placements ≡ filled mostPlacements noPlacement done
+  pub count : building .count ≡ length done
+  pub many : suc (length done) ≡ placed
+  pub whole : building .length ≡ addedLength done
+  pub most : building .length ≤ length done * 255744
+  pub leftTree : wagnerIn codes n m .tree ≡ left now n m placed (ancestors (building .tree)) .tree
+  pub leftRows : wagnerIn codes n m .rows ≡ left now n m placed (ancestors (building .tree)) .rows
+  pub leftPlacements : wagnerIn codes n m .placements ≡ done ++ left now n m placed (ancestors (building .tree)) .placements
+
+-- before the first placement
+module _ (codes : List ℤ) (n m : ℕ) (lent : LentMatrix codes n m) where
+  -- row 1 alone stands in the matrix
+  alone-standing : Standing codes n m 1 noBranches
+  alone-standing =
+      record { matrix = lent; growing = alone noBranches-none; places = noBranches-places; known = λ v low high. absurd (omega arith) }
+
+  -- with the rows of the taxa
+  alone-last : lastRow n noBranches ≡ n
+  alone-last = omega (arith, last-is codes n m 1 noBranches alone-standing)
+
+  -- nothing is written yet
+  alone-written : codes ≡ withRows codes (suc n) (drop n (rowsNow codes n m noBranches))
+  alone-written =
+      let past : length (rowsNow codes n m noBranches) ≤ n = omega (arith, length-rowsOf codes m (lastRow n noBranches), alone-last) in
+      sym (ap (withRows codes (suc n)) (drop-of-length-le (rowsNow codes n m noBranches) past) ∙ no-row codes (suc n))
+
+  -- all is left
+  alone-left : wagnerIn codes n m ≡ left codes n m 1 noBranches
+  unfolding wagnerIn wagner build
+  alone-left = ap (λ (last : ℕ). buildOn difference (byAdvancement difference) n (n - 1) noBranches (rowsOf codes m last)) (sym alone-last)
+
+  pub begun-underWay : (building : Building) → Begun building → UnderWay codes codes n m 1 building []
+  unfolding addedLength sumOver
+  begun-underWay building begun =
+      record {
+        standing = rw (begun .tree) alone-standing;
+        taxa = λ v low high. refl;
+        written = rw (begun .tree) alone-written;
+        list = begun .placements;
+        count = begun .count;
+        many = refl;
+        whole = begun .none;
+        most = omega (arith, begun .none);
+        leftTree = rw (begun .tree) (ap (λ (built : Built). built .tree) alone-left);
+        leftRows = rw (begun .tree) (ap (λ (built : Built). built .rows) alone-left);
+        leftPlacements = rw (begun .tree) (ap (λ (built : Built). built .placements) alone-left);
+      }
+
+-- a row written behind rows that are written so
+one-behind : (codes : List ℤ) (n last : ℕ) (hs : List (List ℤ)) (r : List ℤ) → n ≤ last → length hs ≡ last - n
+    → withRow (withRows codes (suc n) hs) (suc last) r ≡ withRows codes (suc n) (hs ++ (r ∷ []))
+unfolding withRow withRows
+one-behind codes n last hs r h e =
+    let place : rowStart (suc last) ≡ rowStart (suc n) + length hs * columns = omega arith in
+    ap (λ (p : ℕ). over p r (stripes columns (rowStart (suc n)) hs codes)) place ∙ sym (stripes-snoc columns (rowStart (suc n)) hs r codes)
+
+-- one placement more
+module _ (codes now : List ℤ) (n m placed : ℕ) (before : Building) (done : List Placement) (w : UnderWay codes now n m placed before done)
+    (less : placed < n) (keys : List ℕ) (known : Advancements codes n m keys) where
+  -- the tree before it
+  abbrev tree : List ℕ
+  tree = ancestors (before .tree)
+
+  -- the taxon to place
+  abbrev b : ℕ
+  b = leastOf (keyOf keys) (nodesOut tree (numbers 1 n))
+
+  -- it is the one of least advancement
+  chosen : b ≡ byAdvancement difference n tree (rowsNow now n m tree)
+  chosen =
+      next-advancement codes now n m (lastRow n tree) keys tree known (omega (arith, last-is now n m placed tree (w .standing))) (w .taxa)
+
+  -- which is not placed
+  fresh : Unplaced n tree b
+  fresh =
+      rw chosen
+      (advancement-chooses difference n tree (rowsNow now n m tree) (omega (arith, standing-placed now n m placed tree (w .standing))))
+
+  -- the placement is the one by the rows of the tree's nodes
+  same : AsPlaced now n m tree b (unasked now n m tree b)
+  same =
+      unasked-placed now n m (w .standing .matrix .taxa) (w .standing .matrix .characters) tree b fresh
+      (standing-test now n m placed tree (w .standing))
+
+  -- what comes out of it
+  abbrev ours : AfterPlacing
+  ours = placeIn now n m tree b
+
+  -- it adds at most 255,744
+  pub next-most : nextPlacement now n m (keyOf keys) before .placement .added ≤ 255744
+  unfolding nextPlacement
+  next-most = rw (same .placement) (added-most now n m placed tree (w .standing) b fresh)
+
+  -- the matrix then holds the rows of its nodes
+  rows-next : rowsNow (matrixPlaced now n m tree b) n m (ours .tree) ≡ ours .rows
+  rows-next = placed-rows now n m placed tree (w .standing) b fresh
+
+  -- the rows of the taxa come first
+  taxa-first : n ≤ length (rowsNow now n m tree)
+  taxa-first = omega (arith, length-rowsOf now m (lastRow n tree), last-is now n m placed tree (w .standing))
+
+  -- the rows written so far, and the new one behind them
+  written-next : matrixPlaced now n m tree b ≡ withRows codes (suc n) (drop n (ours .rows))
+  written-next = go (placed-step now n m placed tree (w .standing) b fresh)
+    where
+      go : Step now n m placed tree (w .standing) b fresh → matrixPlaced now n m tree b ≡ withRows codes (suc n) (drop n (ours .rows))
+      go (first one rows kept) = kept ∙ w .written ∙ ap (λ (all : List (List ℤ)). withRows codes (suc n) (drop n all)) (sym rows)
+      go (later two r long range rows over-it) =
+          over-it
+          ∙ ap (λ (all : List ℤ). withRow all (suc (lastRow n tree)) r) (w .written)
+          ∙ one-behind codes n (lastRow n tree) (drop n (rowsNow now n m tree)) r (omega (arith, last-is now n m placed tree (w .standing)))
+          (omega (arith, length-drop n (rowsNow now n m tree), length-rowsOf now m (lastRow n tree)))
+          ∙ ap (withRows codes (suc n)) (sym (ap (drop n) rows ∙ drop-append-le n (rowsNow now n m tree) (r ∷ []) taxa-first))
+
+  -- what is left behind the placement
+  abbrev rest : Built
+  rest = left (matrixPlaced now n m tree b) n m (placed + 1) (ours .tree)
+
+  -- what was left is the placement, and what is left behind it
+  left-next : left now n m placed tree ≡ record { tree = rest .tree; rows = rest .rows; placements = ours .placement ∷ rest .placements }
+  unfolding buildOn placeIn
+  left-next =
+      let count : n - placed ≡ suc (n - (placed + 1)) = omega arith in
+      let rows : List (List ℤ) = rowsNow now n m tree in
+      let rule : ℕ → List ℕ → List (List ℤ) → ℕ = byAdvancement difference in
+      ap (λ (k : ℕ). buildOn difference rule n k tree rows) count
+      ∙ ap (λ (v : ℕ). goesOn (n - (placed + 1)) (place difference n tree rows v) (place difference n tree rows v .rows)) (sym chosen)
+      ∙ ap (goesOn (n - (placed + 1)) (place difference n tree rows b)) (sym rows-next)
+    where
+      goesOn : ℕ → AfterPlacing → List (List ℤ) → Built
+      goesOn count p rows = record {
+        tree = buildOn difference (byAdvancement difference) n count (p .tree) rows .tree;
+        rows = buildOn difference (byAdvancement difference) n count (p .tree) rows .rows;
+        placements = p .placement ∷ buildOn difference (byAdvancement difference) n count (p .tree) rows .placements;
+      }
+
+  pub next-underWay : (new : List ℤ) (r : Building) → OneMore now new n m (keyOf keys) before r
+      → UnderWay codes new n m (placed + 1) r (done ++ (ours .placement ∷ []))
+  unfolding nextPlacement addedLength
+  next-underWay new r more =
+      let grown : ancestors (r .tree) ≡ ours .tree = more .tree ∙ same .tree in
+      let held : new ≡ matrixPlaced now n m tree b = more .matrix ∙ same .codes-after in
+      let added : r .length ≡ before .length + ours .placement .added =
+      more .more ∙ ap (λ (p : Placement). before .length + p .added) (same .placement) in
+      let long = length-append done (ours .placement ∷ []) in
+      let size : length done < 63 = omega (arith, w .many, w .standing .matrix .taxa) in
+      let most = added-most now n m placed tree (w .standing) b fresh in
+      let before-most = w .most in
+      let one : placed + 1 ≡ suc placed = omega arith in
+      record {
+        standing = rw (grown, held, one) (placed-standing now n m placed tree (w .standing) b fresh);
+        taxa = λ v low high. rw held
+            (placed-other now n m placed tree (w .standing) b fresh v low (omega (arith, last-is now n m placed tree (w .standing)))
+            ∙ w .taxa v low high);
+        written = rw (grown, held) (written-next ∙ ap (λ (all : List (List ℤ)). withRows codes (suc n) (drop n all)) (sym rows-next));
+        list =
+            more .placements
+            ∙ ap (λ (p : Placement). set (before .placements) (before .count) p) (same .placement)
+            ∙ ap (λ (all : List Placement). set all (before .count) (ours .placement)) (w .list)
+            ∙ filled-snoc noPlacement 63 (before .count) done (ours .placement) (w .count) (omega (arith, w .count));
+        count = omega (arith, more .count, w .count);
+        many = omega (arith, w .many);
+        whole = added ∙ ap (λ (k : ℕ). k + ours .placement .added) (w .whole) ∙ sym (sum-snoc (λ (p : Placement). p .added) done (ours .placement));
+        most = omega arith;
+        leftTree = rw (grown, held) (w .leftTree ∙ ap (λ (built : Built). built .tree) left-next);
+        leftRows = rw (grown, held) (w .leftRows ∙ ap (λ (built : Built). built .rows) left-next);
+        leftPlacements = rw (grown, held)
+            (w .leftPlacements
+            ∙ ap (λ (built : Built). done ++ built .placements) left-next
+            ∙ sym (append-assoc done (ours .placement ∷ []) (rest .placements)));
+      }
+
+-- all taxa placed, the build is done
+pub done-underWay : (codes now : List ℤ) (n m placed : ℕ) (building : Building) (done : List Placement) → LentMatrix codes n m
+    → UnderWay codes now n m placed building done → placed ≡ n → BuiltFrom codes now n m building
+unfolding buildOn matrixAfter
+done-underWay codes now n m placed building done lent w all =
+    let tree : List ℕ = ancestors (building .tree) in
+    let none : n - placed ≡ 0 = omega arith in
+    let nothing : left now n m placed tree ≡ record { tree = tree; rows = rowsNow now n m tree; placements = [] } =
+    ap (λ (k : ℕ). buildOn difference (byAdvancement difference) n k tree (rowsNow now n m tree)) none in
+    let list : wagnerIn codes n m .placements ≡ done =
+    w .leftPlacements ∙ ap (λ (built : Built). done ++ built .placements) nothing ∙ append-nil done in
+    let rows = w .leftRows ∙ ap (λ (built : Built). built .rows) nothing in
+    record {
+      tree = sym (w .leftTree ∙ ap (λ (built : Built). built .tree) nothing);
+      placements = w .list ∙ ap (filled mostPlacements noPlacement) (sym list);
+      count = w .count ∙ ap length (sym list);
+      matrix = w .written ∙ ap (λ (made : List (List ℤ)). withRows codes (suc n) (drop n made)) (sym rows);
+      whole = w .whole ∙ ap addedLength (sym list) ∙ sym length-is;
+    }
+  where
+    length-is : wagnerLength difference n (wagnerIn codes n m) ≡ addedLength (wagnerIn codes n m .placements)
+    length-is =
+        unfold wagnerIn in
+        wagner-length n m (lent .taxon) (lent .taxa) (rowsOf codes m n) (length-rowsOf codes m n)
+        (rowsOf-each codes m n (lent .characters) (omega (arith, lent .full, lent .taxa)))

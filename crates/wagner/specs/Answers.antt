@@ -1,0 +1,44 @@
+-- What the call for the Wagner tree of a lent matrix answers.
+use mathlib.Core.Path.{_≡_}
+use mathlib.Core.List.{List, []}
+use Prim.Native.Nat.{ℕ}
+use lib.IntN.{ℤ}
+use lib.ListN.{length}
+use Rattle.lists.specs.Filled.{filled}
+use Rattle.matrix.specs.NodeRows.{rowsOf}
+use Rattle.matrix.specs.Outcomes.{Outcome, askedSays, afterwards}
+use Rattle.matrix.specs.Questions.{askMatrix}
+use Rattle.difference.specs.Rows.{difference}
+use Rattle.branching.specs.declared.placement.Placement.{Placement}
+use Rattle.branching.specs.Ancestors.{ancestors}
+use Rattle.branching.specs.Hanging.{noBranches}
+use Rattle.branching.specs.Unasked.{noPlacement}
+use Rattle.wagner.specs.declared.build.WagnerTree.{WagnerTree}
+use Rattle.wagner.specs.Build.{Built, wagner, wagnerLength}
+use Rattle.wagner.specs.Matrix.{matrixAfter}
+
+-- at most 63 taxa are placed
+abbrev pub mostPlacements : ℕ
+mostPlacements = 63
+
+-- the Wagner tree of the rows of a matrix
+unfoldable pub wagnerIn : List ℤ → ℕ → ℕ → Built
+wagnerIn codes n m = wagner difference n (rowsOf codes m n)
+
+-- what the questions of a build say
+unfoldable pub buildSays : List ℤ → ℕ → ℕ → Outcome (Unit {0})
+buildSays codes n m = askedSays (askMatrix codes n m)
+
+-- its placements, none on a refusal
+unfoldable pub placementsIn : List ℤ → ℕ → ℕ → List Placement
+placementsIn codes n m = afterwards (buildSays codes n m) (wagnerIn codes n m .placements) []
+
+-- the answer for a lent matrix of n taxa and m characters: what the questions say; the Wagner tree, or row 1 alone on a refusal; the
+-- placements, with zeros behind them, and their number; the matrix with the rows of the HTUs, or as before; the length under the median codes
+pub record BuildDone (codes new : List ℤ) (n m : ℕ) (r : WagnerTree) : Type 0 where
+  pub says : askedSays (r .asked) ≡ buildSays codes n m
+  pub tree : ancestors (r .tree) ≡ afterwards (buildSays codes n m) (wagnerIn codes n m .tree) noBranches
+  pub placements : r .placements ≡ filled mostPlacements noPlacement (placementsIn codes n m)
+  pub count : r .count ≡ length (placementsIn codes n m)
+  pub matrix : new ≡ afterwards (buildSays codes n m) (matrixAfter codes n (wagnerIn codes n m)) codes
+  pub whole : r .length ≡ afterwards (buildSays codes n m) (wagnerLength difference n (wagnerIn codes n m)) 0
