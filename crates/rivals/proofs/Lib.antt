@@ -5,3 +5,4 @@ pub mod Demand
 pub mod Lent
 pub mod Reading
 pub mod InWords
+pub mod Built
