@@ -6,3 +6,4 @@ pub mod Lent
 pub mod Reading
 pub mod InWords
 pub mod Examples
+pub mod Built

@@ -7,3 +7,4 @@ pub mod Difference
 pub mod Choosing
 pub mod UnderWay
 pub mod Stepping
+pub mod Lengths

@@ -3,11 +3,14 @@ use mathlib.Core.Path.{_≡_, sym, ap, _∙_}
 use mathlib.Core.List.{List, [], _++_}
 use Prim.Native.Nat.{ℕ, suc, _+_, _-_, _≤_, _<_}
 use native.Mathlib.Omega.{arith}
-use lib.IntN.{ℤ}
+use mathlib.Core.Logic.{by-cases}
+use native.Mathlib.Decide.{decLe}
+use lib.IntN.{ℤ, pos}
 use lib.ListN.{take-append-drop, length, getD, take, drop, length-drop}
 use lib.Seq.{length-take-le, getD-take, getD-drop, ext-getD}
-use Rattle.matrix.specs.NodeRows.{rowsOf}
-use Rattle.matrix.proofs.NodeRows.{rowOf-next, length-rowsOf, rowOf-rowsOf, length-withRows, withRows-rows}
+use Rattle.matrix.specs.NodeRows.{rowsOf, withRows}
+use Rattle.matrix.proofs.NodeRows.{rowOf-next, length-rowsOf, rowOf-rowsOf, length-withRows, withRows-rows, withRows-else}
+use Rattle.lists.proofs.Stripes.{stripes-before}
 use Rattle.matrix.specs.Shape.{rowStart, columns}
 use Rattle.matrix.proofs.Row.{length-row}
 use Rattle.branching.specs.Hanging.{noBranches}
@@ -69,3 +72,24 @@ module _ (d : List ℤ → List ℤ → ℕ) (codes : List ℤ) (n m : ℕ) (wid
       ∙ withRows-rows codes m n (drop n (built .rows)) htus-each wide (omega (arith, later))
       ∙ ap (λ (front : List (List ℤ)). front ++ drop n (built .rows)) (sym taxa-first)
       ∙ take-append-drop n (built .rows)
+
+  -- no code is changed but those of characters 1 to m in the rows of nodes n+1 to 2n-2
+  pub after-else : (v j : ℕ) → 1 ≤ v → j < columns → (n < v → v ≤ n + (n - 2) → j < m → ⊥)
+      → getD (matrixAfter codes n built) (rowStart v + j) (pos 0) ≡ getD codes (rowStart v + j) (pos 0)
+  unfolding matrixAfter
+  after-else v j low h outside =
+      by-cases
+      (decLe v n)
+      (λ taxon. before-htus taxon)
+      (λ behind. behind-taxa (v - suc n) (omega arith))
+    where
+      before-htus : v ≤ n → getD (withRows codes (suc n) (drop n (built .rows))) (rowStart v + j) (pos 0) ≡ getD codes (rowStart v + j) (pos 0)
+      before-htus taxon =
+          unfold withRows in stripes-before columns (pos 0) (rowStart (suc n)) (drop n (built .rows)) codes (rowStart v + j) (omega arith)
+
+      behind-taxa : (k : ℕ) → v ≡ suc (n + k)
+          → getD (withRows codes (suc n) (drop n (built .rows))) (rowStart v + j) (pos 0) ≡ getD codes (rowStart v + j) (pos 0)
+      behind-taxa k e =
+          rw e
+          (withRows-else codes m n (drop n (built .rows)) htus-each wide k j h λ below.
+          by-cases (decLe m j) (λ past. past) (λ less. absurd (outside (omega arith) (omega (arith, later)) (omega arith))))

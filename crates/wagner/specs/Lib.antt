@@ -2,5 +2,6 @@
 pub mod Build
 pub mod Matrix
 pub mod Answers
+pub mod Records
 pub mod Order
 pub mod Steps

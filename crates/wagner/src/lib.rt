@@ -1,3 +1,4 @@
-// The Wagner tree: the whole build.
+// The Wagner tree: the whole build, and the finished tree as branch records.
 pub mod build;
 pub mod order;
+pub mod records;
