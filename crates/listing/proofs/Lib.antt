@@ -1,4 +1,7 @@
--- The listing, computed.
+-- The listing, computed, and the bytes that are put.
 pub mod Computed
 pub mod Examples
 pub mod OneTaxon
+pub mod Puts
+pub mod Fields
+pub mod LineFields

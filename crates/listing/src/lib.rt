@@ -1,1 +1,3 @@
-// The listing of a job.
+// The listing of a job: bytes, lines and blocks of lines, put into a lent list.
+mod lines;
+mod put;
