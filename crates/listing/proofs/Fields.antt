@@ -1,7 +1,7 @@
 -- The fields of a line: codes, names up to their first zero, and nodes, by the bytes that are put for them.
 use mathlib.Core.Path.{_≡_, refl, sym, ap, _∙_}
 use mathlib.Core.Bool.{true, false, true≢false}
-use mathlib.Core.List.{List, [], _∷_, _++_}
+use mathlib.Core.List.{List, [], _∷_}
 use Prim.Native.Nat.{ℕ, zero, suc, _+_, _-_, _*_, _/_, _≤_, _<_}
 use native.Mathlib.Numerals.{add-one}
 use native.Mathlib.Omega.{arith}
@@ -13,7 +13,6 @@ use lib.IntN.{ℤ, pos, negsuc}
 use lib.ListN.{length, getD, take, drop, length-drop, drop-of-length-le}
 use lib.Seq.{drop-cons, take-all}
 use lib.Signed.{ltZ}
-use Rattle.lists.specs.Numbers.{numbers}
 use Rattle.lists.proofs.Numbers.{map-numbers}
 use Rattle.difference.specs.Rows.{apart}
 use Rattle.difference.proofs.Laws.Codes.{apart-from-zero}

@@ -5,3 +5,5 @@ pub mod OneTaxon
 pub mod Puts
 pub mod Fields
 pub mod LineFields
+pub mod InTurn
+pub mod BlockTexts

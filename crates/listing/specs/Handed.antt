@@ -2,7 +2,7 @@
 use mathlib.Core.Path.{_≡_}
 use mathlib.Core.Bool.{Bool, true, false}
 use mathlib.Core.List.{List, [], _∷_, map, flatMap}
-use Prim.Native.Nat.{ℕ, _+_, _-_, _*_, _≤_, _<_}
+use Prim.Native.Nat.{ℕ, _+_, _-_, _*_, _<_}
 use lib.IntN.{ℤ, pos}
 use lib.ListN.{length, getD, take, drop}
 use Rattle.lists.specs.Numbers.{numbers}
@@ -61,10 +61,14 @@ module _ (n : ℕ) (names : List (List ℕ)) where
   stateText v j low high chosen =
       line (bytes "H" ∷ nodeName n names v ∷ digitsOf j ∷ decimal low ∷ decimal high ∷ decimal chosen ∷ [])
 
-  -- the `T` lines of a tree, by node number from 2, with lengths and marks by node number
-  unfoldable pub branchTexts : List ℕ → List ℕ → List Bool → List ℕ
-  branchTexts tree lengths marks =
-      flatMap (λ v. branchText v (ancestor tree v) (getD lengths v 0) (getD marks v false)) (otherNodes n)
+  module _ (tree lengths : List ℕ) (marks : List Bool) where
+    -- the `T` line of node v of a tree, with lengths and marks by node number
+    unfoldable pub branchTextAt : ℕ → List ℕ
+    branchTextAt v = branchText v (ancestor tree v) (getD lengths v 0) (getD marks v false)
+
+    -- the `T` lines of a tree, by node number from 2
+    unfoldable pub branchTexts : List ℕ
+    branchTexts = flatMap branchTextAt (otherNodes n)
 
   module _ (low high chosen : List ℤ) where
     -- the `H` line of node v and character j, with the states that lists of the matrix's shape hold
