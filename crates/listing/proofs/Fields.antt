@@ -44,12 +44,12 @@ pub tab-code : {z : ℤ} → SFits w32 z → tab ∷ decimal (toZ w32 (ofZ w32 z
 tab-code f = rw (toZ-ofZ f)
 
 -- the first part ends at a separator
-part-ends : (s b : ℕ) (bs : List ℕ) → b ≡ s → firstPart s (b ∷ bs) ≡ []
+pub part-ends : (s b : ℕ) (bs : List ℕ) → b ≡ s → firstPart s (b ∷ bs) ≡ []
 unfolding firstPart partLength
 part-ends s b bs e = rw (eq-eqb b s e)
 
 -- any other byte belongs to it
-part-goes-on : (s b : ℕ) (bs : List ℕ) → (b ≡ s → ⊥) → firstPart s (b ∷ bs) ≡ b ∷ firstPart s bs
+pub part-goes-on : (s b : ℕ) (bs : List ℕ) → (b ≡ s → ⊥) → firstPart s (b ∷ bs) ≡ b ∷ firstPart s bs
 unfolding firstPart partLength
 part-goes-on s b bs e = rw (ne-eqb b s e)
 

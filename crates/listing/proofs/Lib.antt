@@ -7,3 +7,8 @@ pub mod Fields
 pub mod LineFields
 pub mod InTurn
 pub mod BlockTexts
+pub mod Joined
+pub mod Unpadded
+pub mod HandedTexts
+pub mod Parts
+pub mod Totals

@@ -2,9 +2,10 @@
 use mathlib.Core.Path.{_≡_}
 use mathlib.Core.Bool.{Bool, true, false}
 use mathlib.Core.List.{List, [], _∷_, map, flatMap}
-use Prim.Native.Nat.{ℕ, _+_, _-_, _*_, _<_}
+use Prim.Native.Nat.{ℕ, _+_, _-_, _*_, _≤_, _<_}
 use lib.IntN.{ℤ, pos}
 use lib.ListN.{length, getD, take, drop}
+use Rattle.lists.specs.Filled.{filled}
 use Rattle.lists.specs.Numbers.{numbers}
 use Rattle.matrix.specs.Shape.{rowStart}
 use Rattle.matrix_file.specs.Bytes.{firstPart}
@@ -14,6 +15,7 @@ use Rattle.matrix_file.specs.Job.{nameSize, nameForm, padded}
 use Rattle.branching.specs.declared.placement.Placement.{Placement}
 use Rattle.branching.specs.Ancestors.{ancestor}
 use Rattle.branching.specs.Nodes.{otherNodes}
+use Rattle.fitting.specs.Fit.{chosenState, range, fittedLength, marked}
 use Rattle.listing.specs.Lines.{line, nodeName}
 use Rattle.listing.specs.Blocks.{mark}
 
@@ -38,9 +40,25 @@ noPlacement = record { taxon = 0; lower = 0; upper = 0; htu = 0; added = 0 }
 abbrev pub mostPlacements : ℕ
 mostPlacements = 63
 
+-- an array of 63 and a number hold placements: these stand first, in their order, and placements of zeros behind them
+pub record HoldsPlacements (placements array : List Placement) (number : ℕ) : Type 0 where
+  pub list : array ≡ filled mostPlacements noPlacement placements
+  pub count : number ≡ length placements
+
+-- lengths and marks by node number are those of a fit, for nodes 2 to 2n-2
+pub record HoldsFit (step : ℕ → ℤ → ℤ → ℕ) (tree : List ℕ) (rows : List (List ℤ)) (n m : ℕ) (lengths : List ℕ) (marks : List Bool) : Type 0 where
+  pub lengthAt : (v : ℕ) → 2 ≤ v → v ≤ 2 * n - 2 → getD lengths v 0 ≡ fittedLength step tree rows n m v
+  pub markAt : (v : ℕ) → 2 ≤ v → v ≤ 2 * n - 2 → getD marks v false ≡ marked step tree rows n m v
+
 -- the state of node v in character j, in a list of the matrix's shape
 unfoldable pub stateAt : List ℤ → ℕ → ℕ → ℤ
 stateAt states v j = getD states (rowStart v + (j - 1)) (pos 0)
+
+-- lists of the matrix's shape hold the lowest, the highest and the chosen states of the HTUs
+pub record HoldsStates (tree : List ℕ) (rows : List (List ℤ)) (n m : ℕ) (low high chosen : List ℤ) : Type 0 where
+  pub lowAt : (v j : ℕ) → n < v → v ≤ 2 * n - 2 → 1 ≤ j → j ≤ m → stateAt low v j ≡ range tree rows n v j .low
+  pub highAt : (v j : ℕ) → n < v → v ≤ 2 * n - 2 → 1 ≤ j → j ≤ m → stateAt high v j ≡ range tree rows n v j .high
+  pub chosenAt : (v j : ℕ) → n < v → v ≤ 2 * n - 2 → 1 ≤ j → j ≤ m → stateAt chosen v j ≡ chosenState tree rows n v j
 
 -- the line of a total, with the byte of its letter
 unfoldable pub totalText : ℕ → ℕ → List ℕ
