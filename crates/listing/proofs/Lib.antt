@@ -12,3 +12,4 @@ pub mod Unpadded
 pub mod HandedTexts
 pub mod Parts
 pub mod Totals
+pub mod Bounds
