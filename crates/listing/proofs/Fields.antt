@@ -44,7 +44,7 @@ pub tab-code : {z : ℤ} → SFits w32 z → tab ∷ decimal (toZ w32 (ofZ w32 z
 tab-code f = rw (toZ-ofZ f)
 
 -- the first part ends at a separator
-pub part-ends : (s b : ℕ) (bs : List ℕ) → b ≡ s → firstPart s (b ∷ bs) ≡ []
+part-ends : (s b : ℕ) (bs : List ℕ) → b ≡ s → firstPart s (b ∷ bs) ≡ []
 unfolding firstPart partLength
 part-ends s b bs e = rw (eq-eqb b s e)
 

@@ -12,9 +12,10 @@ use Rattle.lists.proofs.Numbers.{numbers-within}
 use Rattle.matrix.specs.Refusals.{refusalNumber}
 use Rattle.matrix.specs.declared.refusal.Refusal.{Refusal}
 use Rattle.matrix_file.specs.Reading.{refused}
-use Rattle.prim.specs.Network.{Link}
-use Rattle.prim.specs.Answers.{Holds}
+use Rattle.prim.specs.Network.{Link, network}
+use Rattle.prim.specs.Answers.{mostLinks, Holds}
 use Rattle.prim.specs.declared.answer.Network.{Network}
+use Rattle.prim.proofs.Placing.{network-length}
 use Rattle.prim.proofs.Holding.{holds-first}
 use Rattle.branching.specs.declared.placement.Placement.{Placement}
 use Rattle.branching.specs.Ancestors.{ancestor}
@@ -39,6 +40,8 @@ use Rattle.listing.specs.Handed.{
   nodeTexts,
   stateTexts,
 }
+use Rattle.wagner.specs.Build.{wagner}
+use Rattle.listing.proofs.Parts.{wagner-count}
 use Rattle.listing.proofs.Joined.{joined, joined-one, joined-map, joined-each, flatMap-same}
 use Rattle.listing.proofs.Unpadded.{same-names}
 
@@ -47,6 +50,15 @@ pub refusal-text : (refusal : Refusal) (number at : ℕ) → number ≡ refusalN
 unfolding refusalText refusalLine printed
 refusal-text refusal number at e =
     ap (λ k. refusalText k at) e ∙ sym (joined-one (refusalLine refusal at))
+
+-- a Prim Network of at most 64 taxa that is held has at most 63 links
+pub links-within : (d : ℕ → ℕ → ℕ) (n : ℕ) (r : Network) → n ≤ 64 → Holds (network d n) r → r .count ≤ mostLinks
+links-within d n r h held = omega (arith, held .count, network-length d n)
+
+-- and its Wagner tree has at most 63 placements
+pub placements-within : (d : List ℤ → List ℤ → ℕ) (n : ℕ) (rows : List (List ℤ)) (array : List Placement) (count : ℕ) → n ≤ 64
+    → HoldsPlacements (wagner d n rows .placements) array count → count ≤ mostPlacements
+placements-within d n rows array count h held = omega (arith, held .count, wagner-count d n rows)
 
 module _ (n : ℕ) (names : List (List ℕ)) (lent : List ℕ) (named : HoldsNames n names lent) where
   -- a `P` line with the names that the lent bytes hold

@@ -1,14 +1,9 @@
 -- Lines joined: their bytes one line after another.
 use mathlib.Core.Path.{_≡_, refl, sym, ap, ap₂, _∙_}
-use mathlib.Core.Bool.{true}
 use mathlib.Core.List.{List, [], _∷_, _++_, map, flatMap, append-nil, append-assoc, List·Memᴰ, List·Memᴰ·head, List·Memᴰ·tail}
 use Prim.Native.Nat.{ℕ, _*_, _≤_}
 use native.Mathlib.Omega.{arith}
-use borrow.Author.Tests.{leb-true}
-use lib.Dec.{leb}
 use lib.ListN.{length, length-append}
-use Rattle.lists.specs.Tests.{every}
-use Rattle.lists.proofs.Every.{every-head, every-tail}
 
 -- lines joined
 abbrev pub joined : List (List ℕ) → List ℕ
@@ -44,15 +39,15 @@ joined-each f [] = refl
 joined-each f (x ∷ xs) =
     flatMap-append (λ line. line) (f x) (flatMap f xs) ∙ ap (λ rest. joined (f x) ++ rest) (joined-each f xs)
 
--- lines of at most `most` bytes
-pub joined-room : (most : ℕ) (lines : List (List ℕ)) → every (λ line. leb (length line) most) lines ≡ true
-    → length (joined lines) ≤ length lines * most
+-- texts of at most so many bytes each
+pub texts-room : {A : Type 0} (f : A → List ℕ) (most : ℕ) (xs : List A) → ((x : A) → List·Memᴰ x xs → length (f x) ≤ most)
+    → length (flatMap f xs) ≤ length xs * most
 unfolding flatMap
-joined-room most [] e = omega arith
-joined-room most (line ∷ lines) e =
+texts-room f most [] h = omega arith
+texts-room f most (x ∷ xs) h =
     omega (
       arith,
-      length-append line (joined lines),
-      leb-true (length line) most (every-head (λ line. leb (length line) most) line lines e),
-      joined-room most lines (every-tail (λ line. leb (length line) most) line lines e),
+      length-append (f x) (flatMap f xs),
+      h x (List·Memᴰ·head refl),
+      texts-room f most xs (λ y m. h y (List·Memᴰ·tail m)),
     )

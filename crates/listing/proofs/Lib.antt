@@ -1,4 +1,4 @@
--- The listing, computed, and the bytes that are put.
+-- The listing: its definitions computed, the bytes that are put and what they say, its parts and totals, and the room it takes.
 pub mod Computed
 pub mod Examples
 pub mod OneTaxon
@@ -9,7 +9,9 @@ pub mod InTurn
 pub mod BlockTexts
 pub mod Joined
 pub mod Unpadded
+pub mod ReadNames
 pub mod HandedTexts
 pub mod Parts
+pub mod WholeListing
 pub mod Totals
 pub mod Bounds

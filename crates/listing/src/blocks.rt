@@ -76,10 +76,10 @@ pub(crate) fn put_wagner_lines(
     ensures { λ r. ⌜ Put (flatMap (wagnerLine n (namesIn n (now (names .entry)))) (take count placements)) (now (out .entry)) at (now (out .exit)) r ⌝ }
 {
     let mut next = at;
-    let mut k = 0;
-    while k < count {
-        next = put_wagner_line(out, next, n, names, placements[k]);
-        k += 1;
+    let mut i = 0;
+    while i < count {
+        next = put_wagner_line(out, next, n, names, placements[i]);
+        i += 1;
     }
     next
 }

@@ -1,7 +1,7 @@
 -- The room that a listing takes: every line has at most 128 bytes, and with the number of lines all that is printed for a file, accepted or
 -- refused, has at most 1048576 bytes.
 use mathlib.Core.Path.{_≡_, refl, ap}
-use mathlib.Core.List.{List, [], _∷_, map, flatMap, List·Memᴰ, List·Memᴰ·head, List·Memᴰ·tail}
+use mathlib.Core.List.{List, [], _∷_, map, List·Memᴰ}
 use Prim.Native.Nat.{ℕ, _+_, _-_, _*_, _≤_, _<_}
 use Prim.Native.String.{String}
 use native.Mathlib.Omega.{arith}
@@ -25,7 +25,7 @@ use Rattle.fitting.specs.Fit.{chosenState, range, fittedLength, fittedTotal, ma
 use Rattle.listing.specs.Lines.{nodeName}
 use Rattle.listing.specs.Blocks.{mark, totalLine, primLine, wagnerLine, fittedLine, fittedLines, rangeLine, rangeLines}
 use Rattle.listing.specs.Listing.{listing}
-use Rattle.listing.proofs.Joined.{joined, joined-map, joined-each}
+use Rattle.listing.proofs.Joined.{joined, joined-map, joined-each, texts-room}
 use Rattle.listing.proofs.LineFields.{sizes, line-size}
 use Rattle.listing.proofs.Parts.{
   linksOf,
@@ -53,19 +53,6 @@ mostLine = 128
 -- and all lines together at most so many
 abbrev pub outSize : ℕ
 outSize = 1048576
-
--- texts of at most so many bytes each
-texts-room : {A : Type 0} (f : A → List ℕ) (most : ℕ) (xs : List A) → ((x : A) → List·Memᴰ x xs → length (f x) ≤ most)
-    → length (flatMap f xs) ≤ length xs * most
-unfolding flatMap
-texts-room f most [] h = omega arith
-texts-room f most (x ∷ xs) h =
-    omega (
-      arith,
-      length-append (f x) (flatMap f xs),
-      h x (List·Memᴰ·head refl),
-      texts-room f most xs (λ y m. h y (List·Memᴰ·tail m)),
-    )
 
 -- the line of a total
 total-size : (letter : String) (total : ℕ) → length (bytes letter) ≡ 1 → total < 100000000 → length (totalLine letter total) ≤ mostLine

@@ -1,4 +1,4 @@
--- `listing::blocks::put_wagner_lines` meets its contract. The loop's invariant: the lines from place k on are still to be put. Assumes nothing.
+-- `listing::blocks::put_wagner_lines` meets its contract. The loop's invariant: the lines from place i on are still to be put. Assumes nothing.
 use borrow.Author.Needs.{needs}
 use mathlib.Core.Path.{_≡_, refl, _∙_}
 use mathlib.Core.List.{flatMap}
@@ -13,13 +13,13 @@ use Rattle.listing.proofs.blocks.put_wagner_lines.Statement.{statement}
 use Rattle.listing.proofs.blocks.put_wagner_lines.Tie as tie
 
 abbrev Inv-loop : tie.InvT-loop
-Inv-loop out₀ at n names count placements next₀ k₀ out next k =
-    (k ≤ count)
+Inv-loop out₀ at n names count placements next₀ i₀ out next i =
+    (i ≤ count)
     × (length out ≡ length out₀)
-    × Left (flatMap (wagnerLine n (namesIn n names)) (take count placements)) out₀ at (flatMap (wagnerLine n (namesIn n names)) (drop k (take count placements))) out next
+    × Left (flatMap (wagnerLine n (namesIn n names)) (take count placements)) out₀ at (flatMap (wagnerLine n (namesIn n names)) (drop i (take count placements))) out next
 
 abbrev μ-loop : tie.MeasureT-loop
-μ-loop out₀ at n names count placements next₀ k₀ out next k = count - k
+μ-loop out₀ at n names count placements next₀ i₀ out next i = count - i
 
 loop-holds : tie.Need-loop-holds Inv-loop μ-loop
 loop-holds c = (omega arith, refl, left-start _ _ _)
@@ -33,8 +33,8 @@ array-copy-out-put-wagner-line c = search needs
 put-wagner-line-requires : tie.Need-put-wagner-line-requires Inv-loop μ-loop
 put-wagner-line-requires c κs = search needs
 
-add-k : tie.Need-add-k Inv-loop μ-loop
-add-k c = search needs
+add-i : tie.Need-add-i Inv-loop μ-loop
+add-i c = search needs
 
 loop-less : tie.Need-loop-less Inv-loop μ-loop
 loop-less c = omega arith
@@ -69,7 +69,7 @@ put-wagner-lines-spec =
     mul-put-wagner-line
     array-copy-out-put-wagner-line
     put-wagner-line-requires
-    add-k
+    add-i
     loop-less
     loop-again
     same-length
