@@ -9,9 +9,7 @@ use lib.ListN.{take}
 use Rattle.lists.specs.Numbers.{numbers}
 use Rattle.lists.proofs.Filled.{filled-first}
 use Rattle.lists.proofs.Numbers.{numbers-within}
-use Rattle.matrix.specs.Refusals.{refusalNumber}
-use Rattle.matrix.specs.declared.refusal.Refusal.{Refusal}
-use Rattle.matrix_file.specs.Reading.{refused}
+use Rattle.matrix.specs.Outcomes.{refused}
 use Rattle.prim.specs.Network.{Link, network}
 use Rattle.prim.specs.Answers.{mostLinks, Holds}
 use Rattle.prim.specs.declared.answer.Network.{Network}
@@ -46,10 +44,9 @@ use Rattle.listing.proofs.Joined.{joined, joined-one, joined-map, joine
 use Rattle.listing.proofs.Unpadded.{same-names}
 
 -- the line of a refusal is what is printed for it
-pub refusal-text : (refusal : Refusal) (number at : ℕ) → number ≡ refusalNumber refusal → refusalText number at ≡ joined (printed (refused refusal at))
+pub refusal-text : (number at : ℕ) → refusalText number at ≡ joined (printed (refused number at))
 unfolding refusalText refusalLine printed
-refusal-text refusal number at e =
-    ap (λ k. refusalText k at) e ∙ sym (joined-one (refusalLine refusal at))
+refusal-text number at = sym (joined-one (refusalLine number at))
 
 -- a Prim Network of at most 64 taxa that is held has at most 63 links
 pub links-within : (d : ℕ → ℕ → ℕ) (n : ℕ) (r : Network) → n ≤ 64 → Holds (network d n) r → r .count ≤ mostLinks

@@ -1,26 +1,21 @@
 -- After an accepted read the lent bytes hold the names of the job.
-use mathlib.Core.Bool.{true}
 use mathlib.Core.Path.{_≡_}
 use mathlib.Core.List.{List, []}
-use Prim.Native.Nat.{ℕ}
+use Prim.Native.Nat.{ℕ, _+_, _-_}
 use native.Mathlib.Omega.{arith}
 use lib.ListN.{length}
-use borrow.Author.Tests.{le-leb}
-use Rattle.lists.specs.Tests.{every}
-use Rattle.lists.proofs.Every.{every-at, every-weaker}
-use Rattle.matrix_file.specs.Job.{Job, JobWithinLimits, nameSize, nameForm, namesWritten}
-use Rattle.matrix_file.proofs.Overwriting.{fitsName}
-use Rattle.matrix_file.proofs.ReadLists.{written-name}
+use Rattle.lists.proofs.Every.{every-at}
+use Rattle.matrix_file.specs.Job.{Job, JobWithinLimits, nameForm}
+use Rattle.matrix_file.specs.Written.{namesSize, namesWritten}
+use Rattle.matrix_file.proofs.Lists.ReadLists.{job-name}
 use Rattle.listing.specs.Handed.{nameBytes, HoldsNames}
-use Rattle.listing.proofs.Unpadded.{name-short}
 
--- the names of a job within the limits, written into a lent list
-pub names-held : (job : Job) → JobWithinLimits job → (lent : List ℕ) → HoldsNames (job .n) (job .names) (namesWritten (job .names) lent)
+-- the names of a job within the limits, written into a lent list of full size
+pub names-held : (job : Job) → JobWithinLimits job → (lent : List ℕ) → length lent ≡ namesSize
+    → HoldsNames (job .n) (job .names) (namesWritten (job .names) lent)
 unfolding nameBytes
-names-held job within lent =
-    let short : every fitsName (job .names) ≡ true =
-    every-weaker nameForm fitsName (λ name form. le-leb (length name) nameSize (name-short name form)) (job .names) (within .names-formed) in
+names-held job within lent full =
     record {
-      held = λ k h. written-name (job .names) lent short k (omega (arith, within .name-count));
+      held = λ k h. let place : k + 1 - 1 ≡ k = omega arith in rw place at (job-name job within lent full (k + 1) (omega arith) (omega arith));
       formed = λ k h. every-at nameForm (job .names) (within .names-formed) k [] (omega (arith, within .name-count));
     }

@@ -9,11 +9,13 @@ use native.Mathlib.Decide.{decLe}
 use lib.Dec.{leb, eqb}
 use lib.ListN.{length, getD, replicate}
 use borrow.Author.Tests.{leb-true, eqb-true}
+use Rattle.lists.specs.Filled.{filled}
 use Rattle.lists.specs.Tests.{every}
 use Rattle.lists.proofs.Both.{and-left, and-right}
 use Rattle.lists.proofs.Every.{every-head, every-tail}
 use Rattle.matrix_file.specs.Bytes.{underscore, isDigit, isLetter, partLength, firstPart}
-use Rattle.matrix_file.specs.Job.{nameSize, inName, nameForm, padded}
+use Rattle.matrix_file.specs.Job.{nameSize, inName, nameForm}
+use Rattle.matrix_file.specs.Written.{padded}
 use Rattle.listing.specs.Lines.{nodeName}
 use Rattle.listing.specs.Handed.{namesIn, HoldsNames}
 use Rattle.listing.proofs.Fields.{part-goes-on, node-taxon, node-lent, node-htu}
@@ -56,7 +58,7 @@ bytes-unpadded (byte ∷ text) count e =
 
 -- a padded name is read as the name
 pub name-unpadded : (name : List ℕ) → nameForm name ≡ true → firstPart 0 (padded name) ≡ name
-unfolding nameForm padded
+unfolding nameForm filled
 name-unpadded [] e = absurd (false≢true e)
 name-unpadded (byte ∷ text) e =
     let some = letter-some byte (and-left (isLetter byte) _ e) in

@@ -3,7 +3,8 @@ use mathlib.Core.Path.{_≡_, sym, ap}
 use mathlib.Core.List.{List}
 use Prim.Native.Nat.{ℕ}
 use Rattle.matrix_file.specs.Job.{Job}
-use Rattle.matrix_file.specs.Reading.{ReadAnswer, readAnswer}
+use Rattle.matrix.specs.Outcomes.{Outcome}
+use Rattle.matrix_file.specs.Reading.{readAnswer}
 use Rattle.difference.specs.Rows.{Measure}
 use Rattle.listing.specs.Listing.{listing, printed, listingOf, output}
 use Rattle.listing.specs.Put.{Put}
@@ -25,6 +26,6 @@ listing-put measure job p q r s t u v =
     put-same (sym (listing-text measure job)) (put-then p (put-then q (put-then r (put-then s (put-then t (put-then u v))))))
 
 -- the output for a file: the lines printed for its answer, joined
-pub output-printed : (file : List ℕ) (answer : ReadAnswer) → readAnswer file ≡ answer → output file ≡ joined (printed answer)
+pub output-printed : (file : List ℕ) (answer : Outcome Job) → readAnswer file ≡ answer → output file ≡ joined (printed answer)
 unfolding output listingOf
 output-printed file answer e = ap (λ said. joined (printed said)) e

@@ -11,7 +11,8 @@ use Rattle.matrix.specs.Shape.{rowStart}
 use Rattle.matrix_file.specs.Bytes.{firstPart}
 use Rattle.matrix_file.specs.Decimal.{digitsOf, decimal}
 use Rattle.matrix_file.specs.Text.{bytes}
-use Rattle.matrix_file.specs.Job.{nameSize, nameForm, padded}
+use Rattle.matrix_file.specs.Job.{nameSize, nameForm}
+use Rattle.matrix_file.specs.Written.{padded}
 use Rattle.branching.specs.declared.placement.Placement.{Placement}
 use Rattle.branching.specs.Ancestors.{ancestor}
 use Rattle.branching.specs.Nodes.{otherNodes}

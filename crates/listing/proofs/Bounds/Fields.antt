@@ -14,7 +14,7 @@ use Rattle.matrix.specs.Shape.{inRange}
 use Rattle.matrix_file.specs.Decimal.{digitsOf, decimal}
 use Rattle.matrix_file.specs.Job.{Job, JobWithinLimits, nameForm}
 use Rattle.matrix_file.specs.Text.{bytes}
-use Rattle.matrix_file.proofs.Digits.{digits-length}
+use Rattle.matrix_file.proofs.Decimal.Digits.{digits-length}
 use Rattle.listing.specs.Lines.{hyphen, htuName, nodeName}
 use Rattle.listing.specs.Blocks.{mark}
 use Rattle.listing.proofs.Fields.{node-taxon, node-htu}

@@ -18,7 +18,7 @@ use Rattle.difference.proofs.Laws.Codes.{apart-inRange}
 use Rattle.branching.specs.Ancestors.{ancestor}
 use Rattle.branching.specs.Facts.{Branching, Grown}
 use Rattle.branching.proofs.Whole.{branching-nodes, branching-grown, growing-ancestor-le}
-use Rattle.wagner.proofs.Build.{wagner-branching}
+use Rattle.wagner.proofs.Whole.{wagner-branching}
 use Rattle.fitting.specs.Assignments.{character, branchLength}
 use Rattle.fitting.specs.Fit.{chosenState, range, fittedLength}
 use Rattle.fitting.proofs.Matrix.OnlyCodes.{Each, chosenState-each, range-each}

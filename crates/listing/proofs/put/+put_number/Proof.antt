@@ -7,7 +7,7 @@ use native.Mathlib.Omega.{arith}
 use borrow.Author.Needs.{needs}
 use borrow.Fn.Kinds.{In}
 use borrow.Fn.PlainCycle.{Measures, is, falls, and}
-use Rattle.matrix_file.proofs.Digits.{digits-one, digits-last}
+use Rattle.matrix_file.proofs.Decimal.Digits.{digits-one, digits-last}
 use Rattle.listing.proofs.Puts.{put-then, put-same}
 use Rattle.listing.proofs.put.put_number.Reads as put-number
 use Rattle.listing.proofs.put.put_number.Kinds as put-number-kinds
