@@ -53,26 +53,31 @@ module _ (measure : Measure) (job : Job) where
   abbrev pub builtOf : Built
   builtOf = wagner (measure .rows) (job .n) (job .rows)
 
-  -- the `P`, `W`, `T` and `H` lines
+  -- its `P` lines
   abbrev pub primLines : List (List ℕ)
   primLines = map (primLine (job .n) (job .names)) linksOf
 
+  -- its `W` lines
   abbrev pub wagnerLines : List (List ℕ)
   wagnerLines = map (wagnerLine (job .n) (job .names)) (builtOf .placements)
 
+  -- its `T` lines
   abbrev pub treeLines : List (List ℕ)
   treeLines = fittedLines (job .n) (job .names) (builtOf .tree) (job .rows) (job .m) (measure .step)
 
+  -- its `H` lines
   abbrev pub htuLines : List (List ℕ)
   htuLines = rangeLines (job .n) (job .names) (builtOf .tree) (job .rows) (job .m)
 
-  -- the three totals
+  -- the line `p`
   abbrev pub primTotal : List ℕ
   primTotal = totalLine "p" (networkLength linksOf)
 
+  -- the line `w`
   abbrev pub wagnerTotal : List ℕ
   wagnerTotal = totalLine "w" (wagnerLength (measure .rows) (job .n) builtOf)
 
+  -- the line `t`
   abbrev pub treeTotal : List ℕ
   treeTotal = totalLine "t" (fittedTotal (measure .step) (builtOf .tree) (job .rows) (job .n) (job .m))
 
