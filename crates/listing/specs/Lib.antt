@@ -2,3 +2,6 @@
 pub mod Lines
 pub mod Blocks
 pub mod Listing
+-- for contracts within this crate: bytes put into a lent list, and what is handed to the functions that put lines
+pub mod Put
+pub mod Handed

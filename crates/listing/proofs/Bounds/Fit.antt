@@ -1,0 +1,80 @@
+-- The fit of a job's Wagner tree: states and ranges are from -999 to 999, and no fitted length is above the largest difference of two rows.
+use mathlib.Core.Path.{_≡_, refl}
+use mathlib.Core.Bool.{true}
+use mathlib.Core.List.{List, [], _∷_}
+use Prim.Native.Nat.{ℕ, zero, suc, _-_, _*_, _≤_}
+use native.Mathlib.Omega.{arith}
+use lib.IntN.{ℤ, pos}
+use lib.ListN.{getD}
+use Rattle.lists.specs.Numbers.{numbers}
+use Rattle.lists.proofs.Every.{every-head, every-tail}
+use Rattle.lists.proofs.Numbers.{length-numbers}
+use Rattle.lists.proofs.Sums.{sum-most}
+use Rattle.matrix.specs.Shape.{inRange}
+use Rattle.matrix.specs.Questions.{allInRange}
+use Rattle.matrix_file.specs.Job.{Job, JobWithinLimits}
+use Rattle.difference.specs.Rows.{plain, difference, apart}
+use Rattle.difference.proofs.Laws.Codes.{apart-inRange}
+use Rattle.branching.specs.Ancestors.{ancestor}
+use Rattle.branching.specs.Facts.{Branching, Grown}
+use Rattle.branching.proofs.Whole.{branching-nodes, branching-grown, growing-ancestor-le}
+use Rattle.wagner.proofs.Whole.{wagner-branching}
+use Rattle.fitting.specs.Assignments.{character, branchLength}
+use Rattle.fitting.specs.Fit.{chosenState, range, fittedLength}
+use Rattle.fitting.proofs.Matrix.OnlyCodes.{Each, chosenState-each, range-each}
+use Rattle.listing.proofs.Parts.{builtOf}
+use Rattle.listing.proofs.Totals.{Limits, limits}
+use Rattle.listing.proofs.Bounds.Rows.{mostApart, near-job}
+
+-- a code from -999 to 999
+abbrev pub IsNear : ℤ → Type 0
+IsNear code = inRange code ≡ true
+
+-- each code of a row in range, and zero behind it, is in range
+code-near : (codes : List ℤ) → allInRange codes ≡ true → (i : ℕ) → IsNear (getD codes i (pos 0))
+unfolding allInRange inRange
+code-near [] e i = refl
+code-near (code ∷ codes) e zero = every-head inRange code codes e
+code-near (code ∷ codes) e (suc i) = code-near codes (every-tail inRange code codes e) i
+
+module _ (job : Job) (within : JobWithinLimits job) (two : 2 ≤ job .n) where
+  -- the job's Wagner tree
+  abbrev tree : List ℕ
+  tree = builtOf plain job .tree
+
+  -- n and m are within their limits
+  abbrev known : Limits (job .n) (job .m)
+  known = limits (job .n) (job .m) (within .limits)
+
+  -- it is a branching
+  whole : Branching (job .n) tree
+  whole = wagner-branching difference (job .n) (known .taxon) (known .taxa) (job .rows)
+
+  -- of two taxa at least
+  grown : Grown (job .n) (job .n) tree
+  grown = branching-grown (job .n) tree two whole
+
+  -- the codes of the taxa are in range
+  codes-near : (j u : ℕ) → IsNear (character (job .rows) j u)
+  unfolding character
+  codes-near j u = code-near (getD (job .rows) (u - 1) []) (near-job job within (u - 1) .known) (j - 1)
+
+  -- so are the chosen states
+  pub state-near : (v j : ℕ) → 1 ≤ v → v ≤ 2 * job .n - 2 → IsNear (chosenState tree (job .rows) (job .n) v j)
+  state-near v j first last =
+      chosenState-each IsNear (job .n) tree grown (job .rows) j (λ u p q. codes-near j u) v first last
+
+  -- and the ends of the ranges
+  pub range-near : (v j : ℕ) → 1 ≤ v → v ≤ 2 * job .n - 2 → Each IsNear (range tree (job .rows) (job .n) v j)
+  range-near v j first last = range-each IsNear (job .n) tree grown (job .rows) j (λ u p q. codes-near j u) v first last
+
+  -- a fitted length
+  pub fitted-apart : (v : ℕ) → 2 ≤ v → v ≤ 2 * job .n - 2 → fittedLength (plain .step) tree (job .rows) (job .n) (job .m) v ≤ mostApart
+  unfolding fittedLength branchLength
+  fitted-apart v first last =
+      let some : 1 ≤ ancestor tree v = branching-nodes (job .n) tree whole v first last in
+      let above : ancestor tree v ≤ 2 * job .n - 2 = growing-ancestor-le (job .n) tree whole v in
+      let own = chosenState tree (job .rows) (job .n) in
+      let sum = sum-most (λ j. apart (own v j) (own (ancestor tree v) j)) 1998 (numbers 1 (job .m)) (λ j m.
+      apart-inRange (own v j) (own (ancestor tree v) j) (state-near v j (omega arith) last) (state-near (ancestor tree v) j some above)) in
+      omega (arith, sum, length-numbers 1 (job .m), known .characters)

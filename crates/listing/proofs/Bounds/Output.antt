@@ -1,0 +1,40 @@
+-- All that is printed for a file, accepted or refused, has room in 1048576 bytes.
+use mathlib.Core.Path.{_≡_, refl, ap}
+use mathlib.Core.List.{List, [], _∷_}
+use Prim.Native.Nat.{ℕ, _≤_}
+use native.Mathlib.Omega.{arith}
+use lib.ListN.{length}
+use Rattle.matrix_file.specs.Decimal.{digitsOf}
+use Rattle.matrix.specs.Outcomes.{Outcome, value, refused}
+use Rattle.matrix_file.specs.Job.{Job}
+use Rattle.matrix_file.specs.Reading.{readAnswer}
+use Rattle.matrix_file.proofs.File.Numbered.{refused-number}
+use Rattle.matrix_file.specs.Text.{bytes}
+use Rattle.matrix_file.proofs.File.Accepted.{accepted-exactly}
+use Rattle.listing.specs.Listing.{refusalLine, printed, listingOf, output}
+use Rattle.listing.proofs.Joined.{joined, joined-one}
+use Rattle.listing.proofs.LineFields.{sizes, line-size}
+use Rattle.listing.proofs.Bounds.Fields.{number-size}
+use Rattle.listing.proofs.Bounds.LineNumbers.{LineWithin, none, some, file-line}
+use Rattle.listing.proofs.Bounds.Room.{outSize, job-room}
+
+-- the line of a refusal
+refusal-room : (number at : ℕ) → number ≤ 11 → at ≤ 66 → length (joined (refusalLine number at ∷ [])) ≤ outSize
+unfolding refusalLine sizes bytes
+refusal-room number at few h =
+    omega (
+      arith,
+      ap length (joined-one (refusalLine number at)),
+      line-size (bytes "R") (digitsOf number ∷ digitsOf at ∷ []),
+      number-size number (omega arith),
+      number-size at (omega arith),
+    )
+
+-- every file's output
+pub output-room : (file : List ℕ) → length (output file) ≤ outSize
+unfolding output listingOf printed
+output-room file = by (readAnswer file) refl (file-line file)
+  where
+    by : (outcome : Outcome Job) → readAnswer file ≡ outcome → LineWithin 66 outcome → length (joined (printed outcome)) ≤ outSize
+    by (value job) e none = job-room job (accepted-exactly file job .0 e .0)
+    by (refused number line) e (some h) = refusal-room number line (refused-number file number line e .1) h

@@ -1,0 +1,256 @@
+-- The room that a listing takes: every line has at most 128 bytes, and with the number of lines all that is printed for a file, accepted or
+-- refused, has at most 1048576 bytes.
+use mathlib.Core.Path.{_≡_, refl, ap}
+use mathlib.Core.List.{List, [], _∷_, map, List·Memᴰ}
+use Prim.Native.Nat.{ℕ, _+_, _-_, _*_, _≤_, _<_}
+use Prim.Native.String.{String}
+use native.Mathlib.Omega.{arith}
+use lib.ListN.{length, length-append}
+use Rattle.lists.specs.Numbers.{numbers}
+use Rattle.lists.proofs.Numbers.{numbers-within, length-numbers}
+use Rattle.lists.proofs.Sums.{sum-most}
+use Rattle.matrix.specs.NodeRows.{rowOf}
+use Rattle.matrix_file.specs.Decimal.{digitsOf, decimal}
+use Rattle.matrix_file.specs.Job.{Job, JobWithinLimits}
+use Rattle.matrix_file.specs.Text.{bytes}
+use Rattle.difference.specs.Rows.{plain, difference, nodeDifference}
+use Rattle.prim.specs.Network.{Link, networkLength}
+use Rattle.prim.proofs.Connected.{network-between, network-total-le}
+use Rattle.prim.proofs.Placing.{network-link, network-length}
+use Rattle.branching.specs.declared.placement.Placement.{Placement}
+use Rattle.branching.specs.Ancestors.{ancestor}
+use Rattle.branching.specs.Nodes.{otherNodes}
+use Rattle.wagner.specs.Build.{wagnerLength}
+use Rattle.fitting.specs.Fit.{chosenState, range, fittedLength, fittedTotal, marked}
+use Rattle.listing.specs.Lines.{nodeName}
+use Rattle.listing.specs.Blocks.{mark, totalLine, primLine, wagnerLine, fittedLine, fittedLines, rangeLine, rangeLines}
+use Rattle.listing.specs.Listing.{listing}
+use Rattle.listing.proofs.Joined.{joined, joined-map, joined-each, texts-room}
+use Rattle.listing.proofs.LineFields.{sizes, line-size}
+use Rattle.listing.proofs.Parts.{
+  linksOf,
+  builtOf,
+  primLines,
+  wagnerLines,
+  treeLines,
+  htuLines,
+  primTotal,
+  wagnerTotal,
+  treeTotal,
+  listing-text,
+  wagner-count,
+}
+use Rattle.listing.proofs.Totals.{Limits, limits, wagner-total, tree-total}
+use Rattle.listing.proofs.Bounds.Rows.{mostApart, near-job, node-apart}
+use Rattle.listing.proofs.Bounds.Build.{SmallBuilt, wagner-small}
+use Rattle.listing.proofs.Bounds.Fields.{number-size, code-size, mark-size, node-size}
+use Rattle.listing.proofs.Bounds.Fit.{state-near, range-near, fitted-apart}
+
+-- a line has at most so many bytes
+abbrev pub mostLine : ℕ
+mostLine = 128
+
+-- and all lines together at most so many
+abbrev pub outSize : ℕ
+outSize = 1048576
+
+-- the line of a total
+total-size : (letter : String) (total : ℕ) → length (bytes letter) ≡ 1 → total < 100000000 → length (totalLine letter total) ≤ mostLine
+unfolding totalLine sizes
+total-size letter total one small = omega (arith, line-size (bytes letter) (digitsOf total ∷ []), number-size total small)
+
+module _ (job : Job) (within : JobWithinLimits job) where
+  -- n and m are within their limits
+  abbrev known : Limits (job .n) (job .m)
+  known = limits (job .n) (job .m) (within .limits)
+
+  -- a node as it is printed
+  abbrev name : ℕ → List ℕ
+  name v = nodeName (job .n) (job .names) v
+
+  -- the difference of the job's taxa
+  abbrev d : ℕ → ℕ → ℕ
+  d = nodeDifference difference (rowOf (job .rows))
+
+  -- the job's Wagner tree
+  abbrev tree : List ℕ
+  tree = builtOf plain job .tree
+
+  -- its placements and ancestors are within bounds
+  small : SmallBuilt (job .n) (known .taxon) (builtOf plain job)
+  small = wagner-small (job .n) (known .taxon) (job .rows) (near-job job within)
+
+  -- a `P` line
+  prim-size : (l : Link) → List·Memᴰ l (linksOf plain job) → length (primLine (job .n) (job .names) l) ≤ mostLine
+  unfolding primLine sizes bytes
+  prim-size l m =
+      let ends = network-between d (job .n) l m in
+      let apart : l .length ≤ mostApart = rw (network-link d (job .n) l m) (node-apart (job .rows) (near-job job within) (l .taxon) (l .joined)) in
+      omega (
+        arith,
+        line-size (bytes "P") (name (l .taxon) ∷ name (l .joined) ∷ digitsOf (l .length) ∷ []),
+        node-size job within (l .taxon) (omega arith),
+        node-size job within (l .joined) (omega arith),
+        number-size (l .length) (omega arith),
+      )
+
+  -- a `W` line
+  wagner-size : (p : Placement) → List·Memᴰ p (builtOf plain job .placements) → length (wagnerLine (job .n) (job .names) p) ≤ mostLine
+  unfolding wagnerLine sizes bytes
+  wagner-size p m =
+      let bounds = small .placements p m in
+      let added : p .added < 100000000 = omega (arith, bounds .added) in
+      omega (
+        arith,
+        line-size (bytes "W") (name (p .taxon) ∷ name (p .lower) ∷ name (p .upper) ∷ name (p .htu) ∷ digitsOf (p .added) ∷ []),
+        node-size job within (p .taxon) (bounds .taxon),
+        node-size job within (p .lower) (bounds .lower),
+        node-size job within (p .upper) (bounds .upper),
+        node-size job within (p .htu) (bounds .htu),
+        number-size (p .added) added,
+      )
+
+  -- a `T` line
+  tree-size : (v : ℕ) → 2 ≤ v → v ≤ 2 * job .n - 2
+      → length (fittedLine (job .n) (job .names) tree (job .rows) (job .m) (plain .step) v) ≤ mostLine
+  unfolding fittedLine sizes bytes
+  tree-size v first last =
+      let size = fittedLength (plain .step) tree (job .rows) (job .n) (job .m) v in
+      let sign = mark (marked (plain .step) tree (job .rows) (job .n) (job .m) v) in
+      let apart : size ≤ mostApart = fitted-apart job within (omega arith) v first last in
+      omega (
+        arith,
+        line-size (bytes "T") (name v ∷ name (ancestor tree v) ∷ digitsOf size ∷ sign ∷ []),
+        node-size job within v (omega arith),
+        node-size job within (ancestor tree v) (small .ancestors v),
+        number-size size (omega arith),
+        mark-size (marked (plain .step) tree (job .rows) (job .n) (job .m) v),
+      )
+
+  -- an `H` line
+  htu-size : (v j : ℕ) → job .n < v → v ≤ 2 * job .n - 2 → j ≤ job .m
+      → length (rangeLine (job .n) (job .names) tree (job .rows) (job .m) v j) ≤ mostLine
+  unfolding rangeLine sizes bytes
+  htu-size v j first last character =
+      let span = range tree (job .rows) (job .n) v j in
+      let own = chosenState tree (job .rows) (job .n) v j in
+      let two : 2 ≤ job .n = omega arith in
+      let near = range-near job within two v j (omega arith) last in
+      let few : j < 100000000 = omega (arith, known .characters) in
+      omega (
+        arith,
+        line-size (bytes "H") (name v ∷ digitsOf j ∷ decimal (span .low) ∷ decimal (span .high) ∷ decimal own ∷ []),
+        node-size job within v (omega arith),
+        number-size j few,
+        code-size (span .low) (near .atLow),
+        code-size (span .high) (near .atHigh),
+        code-size own (state-near job within two v j (omega arith) last),
+      )
+
+  -- the `P` lines together
+  prim-room : length (joined (primLines plain job)) ≤ (job .n - 1) * mostLine
+  prim-room =
+      omega (
+        arith,
+        ap length (joined-map (primLine (job .n) (job .names)) (linksOf plain job)),
+        texts-room (primLine (job .n) (job .names)) mostLine (linksOf plain job) prim-size,
+        network-length d (job .n),
+      )
+
+  -- `p`
+  prim-total-size : length (primTotal plain job) ≤ mostLine
+  unfolding bytes
+  prim-total-size =
+      let most = network-total-le d (job .n) mostApart (λ x y p q. node-apart (job .rows) (near-job job within) x y) in
+      let below : networkLength (linksOf plain job) < 100000000 = omega (arith, most, known .taxa) in
+      total-size "p" (networkLength (linksOf plain job)) refl below
+
+  -- the `W` lines together
+  wagner-room : length (joined (wagnerLines plain job)) ≤ (job .n - 1) * mostLine
+  wagner-room =
+      omega (
+        arith,
+        ap length (joined-map (wagnerLine (job .n) (job .names)) (builtOf plain job .placements)),
+        texts-room (wagnerLine (job .n) (job .names)) mostLine (builtOf plain job .placements) wagner-size,
+        wagner-count difference (job .n) (job .rows),
+      )
+
+  -- `w`
+  wagner-total-size : length (wagnerTotal plain job) ≤ mostLine
+  unfolding bytes
+  wagner-total-size =
+      let total = wagnerLength difference (job .n) (builtOf plain job) in
+      let most = sum-most (λ (p : Placement). p .added) mostApart (builtOf plain job .placements) (λ p m. small .placements p m .added) in
+      let below : total < 100000000 = omega (arith, wagner-total job within, most, wagner-count difference (job .n) (job .rows), known .taxa) in
+      total-size "w" total refl below
+
+  -- the `T` lines together
+  tree-room : length (joined (treeLines plain job)) ≤ (2 * job .n - 3) * mostLine
+  unfolding fittedLines otherNodes
+  tree-room =
+      let text = fittedLine (job .n) (job .names) tree (job .rows) (job .m) (plain .step) in
+      omega (
+        arith,
+        ap length (joined-map text (numbers 2 (2 * job .n - 3))),
+        texts-room text mostLine (numbers 2 (2 * job .n - 3)) (λ v m.
+            let at = numbers-within 2 (2 * job .n - 3) v m in
+            tree-size v (omega arith) (omega arith)),
+        length-numbers 2 (2 * job .n - 3),
+      )
+
+  -- `t`
+  tree-total-size : length (treeTotal plain job) ≤ mostLine
+  unfolding otherNodes bytes
+  tree-total-size =
+      let total = fittedTotal (plain .step) tree (job .rows) (job .n) (job .m) in
+      let most = sum-most (fittedLength (plain .step) tree (job .rows) (job .n) (job .m)) mostApart (numbers 2 (2 * job .n - 3)) (λ v m.
+      let at = numbers-within 2 (2 * job .n - 3) v m in
+      fitted-apart job within (omega arith) v (omega arith) (omega arith)) in
+      let below : total < 100000000 = omega (arith, tree-total plain job, most, length-numbers 2 (2 * job .n - 3), known .taxa) in
+      total-size "t" total refl below
+
+  -- the `H` lines of a node together
+  node-room : (v : ℕ) → job .n < v → v ≤ 2 * job .n - 2
+      → length (joined (map (rangeLine (job .n) (job .names) tree (job .rows) (job .m) v) (numbers 1 (job .m)))) ≤ 128 * mostLine
+  node-room v first last =
+      let text = rangeLine (job .n) (job .names) tree (job .rows) (job .m) v in
+      omega (
+        arith,
+        ap length (joined-map text (numbers 1 (job .m))),
+        texts-room text mostLine (numbers 1 (job .m)) (λ j m.
+            let at = numbers-within 1 (job .m) j m in
+            htu-size v j first last (omega arith)),
+        length-numbers 1 (job .m),
+        known .characters,
+      )
+
+  -- the `H` lines together
+  htu-room : length (joined (htuLines plain job)) ≤ (job .n - 2) * (128 * mostLine)
+  unfolding rangeLines
+  htu-room =
+      let texts : ℕ → List (List ℕ) = λ v. map (rangeLine (job .n) (job .names) tree (job .rows) (job .m) v) (numbers 1 (job .m)) in
+      omega (
+        arith,
+        ap length (joined-each texts (numbers (job .n + 1) (job .n - 2))),
+        texts-room (λ v. joined (texts v)) (128 * mostLine) (numbers (job .n + 1) (job .n - 2)) (λ v m.
+            let at = numbers-within (job .n + 1) (job .n - 2) v m in
+            node-room v (omega arith) (omega arith)),
+        length-numbers (job .n + 1) (job .n - 2),
+      )
+
+  -- the whole listing of a job within the limits
+  pub job-room : length (joined (listing plain job)) ≤ outSize
+  job-room =
+      omega (
+        arith,
+        simp length-append at (ap length (listing-text plain job)),
+        prim-room,
+        prim-total-size,
+        wagner-room,
+        wagner-total-size,
+        tree-room,
+        tree-total-size,
+        htu-room,
+        known .taxon,
+        known .taxa,
+      )

@@ -1,0 +1,103 @@
+-- What the functions that put lines and blocks are handed, and the texts that they put. No public contract cites this.
+use mathlib.Core.Path.{_≡_}
+use mathlib.Core.Bool.{Bool, true, false}
+use mathlib.Core.List.{List, [], _∷_, map, flatMap}
+use Prim.Native.Nat.{ℕ, _+_, _-_, _*_, _≤_, _<_}
+use lib.IntN.{ℤ, pos}
+use lib.ListN.{length, getD, take, drop}
+use Rattle.lists.specs.Filled.{filled}
+use Rattle.lists.specs.Numbers.{numbers}
+use Rattle.matrix.specs.Shape.{rowStart}
+use Rattle.matrix_file.specs.Bytes.{firstPart}
+use Rattle.matrix_file.specs.Decimal.{digitsOf, decimal}
+use Rattle.matrix_file.specs.Text.{bytes}
+use Rattle.matrix_file.specs.Job.{nameSize, nameForm}
+use Rattle.matrix_file.specs.Written.{padded}
+use Rattle.branching.specs.declared.placement.Placement.{Placement}
+use Rattle.branching.specs.Ancestors.{ancestor}
+use Rattle.branching.specs.Nodes.{otherNodes}
+use Rattle.fitting.specs.Fit.{chosenState, range, fittedLength, marked}
+use Rattle.listing.specs.Lines.{line, nodeName}
+use Rattle.listing.specs.Blocks.{mark}
+
+-- the bytes lent for the name at place k, the first at place 0
+unfoldable pub nameBytes : List ℕ → ℕ → List ℕ
+nameBytes lent k = take nameSize (drop (k * nameSize) lent)
+
+-- the names of n taxa that lent bytes hold: each up to its first zero
+unfoldable pub namesIn : ℕ → List ℕ → List (List ℕ)
+namesIn n lent = map (λ k. firstPart 0 (nameBytes lent k)) (numbers 0 n)
+
+-- lent bytes hold the names of n taxa: each well formed, and padded with zeros
+pub record HoldsNames (n : ℕ) (names : List (List ℕ)) (lent : List ℕ) : Type 0 where
+  pub held : (k : ℕ) → k < n → nameBytes lent k ≡ padded (getD names k [])
+  pub formed : (k : ℕ) → k < n → nameForm (getD names k []) ≡ true
+
+-- a placement of zeros
+abbrev pub noPlacement : Placement
+noPlacement = record { taxon = 0; lower = 0; upper = 0; htu = 0; added = 0 }
+
+-- there are at most 63 placements
+abbrev pub mostPlacements : ℕ
+mostPlacements = 63
+
+-- an array of 63 and a number hold placements: these stand first, in their order, and placements of zeros behind them
+pub record HoldsPlacements (placements array : List Placement) (number : ℕ) : Type 0 where
+  pub list : array ≡ filled mostPlacements noPlacement placements
+  pub count : number ≡ length placements
+
+-- lengths and marks by node number are those of a fit, for nodes 2 to 2n-2
+pub record HoldsFit (step : ℕ → ℤ → ℤ → ℕ) (tree : List ℕ) (rows : List (List ℤ)) (n m : ℕ) (lengths : List ℕ) (marks : List Bool) : Type 0 where
+  pub lengthAt : (v : ℕ) → 2 ≤ v → v ≤ 2 * n - 2 → getD lengths v 0 ≡ fittedLength step tree rows n m v
+  pub markAt : (v : ℕ) → 2 ≤ v → v ≤ 2 * n - 2 → getD marks v false ≡ marked step tree rows n m v
+
+-- the state of node v in character j, in a list of the matrix's shape
+unfoldable pub stateAt : List ℤ → ℕ → ℕ → ℤ
+stateAt states v j = getD states (rowStart v + (j - 1)) (pos 0)
+
+-- lists of the matrix's shape hold the lowest, the highest and the chosen states of the HTUs
+pub record HoldsStates (tree : List ℕ) (rows : List (List ℤ)) (n m : ℕ) (low high chosen : List ℤ) : Type 0 where
+  pub lowAt : (v j : ℕ) → n < v → v ≤ 2 * n - 2 → 1 ≤ j → j ≤ m → stateAt low v j ≡ range tree rows n v j .low
+  pub highAt : (v j : ℕ) → n < v → v ≤ 2 * n - 2 → 1 ≤ j → j ≤ m → stateAt high v j ≡ range tree rows n v j .high
+  pub chosenAt : (v j : ℕ) → n < v → v ≤ 2 * n - 2 → 1 ≤ j → j ≤ m → stateAt chosen v j ≡ chosenState tree rows n v j
+
+-- the line of a total, with the byte of its letter
+unfoldable pub totalText : ℕ → ℕ → List ℕ
+totalText letter total = line ((letter ∷ []) ∷ digitsOf total ∷ [])
+
+-- the line of a refusal, with its number
+unfoldable pub refusalText : ℕ → ℕ → List ℕ
+refusalText number at = line (bytes "R" ∷ digitsOf number ∷ digitsOf at ∷ [])
+
+module _ (n : ℕ) (names : List (List ℕ)) where
+  -- the `T` line of node v, with its ancestor, length and mark
+  unfoldable pub branchText : ℕ → ℕ → ℕ → Bool → List ℕ
+  branchText v above length marked =
+      line (bytes "T" ∷ nodeName n names v ∷ nodeName n names above ∷ digitsOf length ∷ mark marked ∷ [])
+
+  -- the `H` line of node v and character j, with the ends of the range and the chosen state
+  unfoldable pub stateText : ℕ → ℕ → ℤ → ℤ → ℤ → List ℕ
+  stateText v j low high chosen =
+      line (bytes "H" ∷ nodeName n names v ∷ digitsOf j ∷ decimal low ∷ decimal high ∷ decimal chosen ∷ [])
+
+  module _ (tree lengths : List ℕ) (marks : List Bool) where
+    -- the `T` line of node v of a tree, with lengths and marks by node number
+    unfoldable pub branchTextAt : ℕ → List ℕ
+    branchTextAt v = branchText v (ancestor tree v) (getD lengths v 0) (getD marks v false)
+
+    -- the `T` lines of a tree, by node number from 2
+    unfoldable pub branchTexts : List ℕ
+    branchTexts = flatMap branchTextAt (otherNodes n)
+
+  module _ (low high chosen : List ℤ) where
+    -- the `H` line of node v and character j, with the states that lists of the matrix's shape hold
+    unfoldable pub stateTextAt : ℕ → ℕ → List ℕ
+    stateTextAt v j = stateText v j (stateAt low v j) (stateAt high v j) (stateAt chosen v j)
+
+    -- the `H` lines of node v, by character from 1 to m
+    unfoldable pub nodeTexts : ℕ → ℕ → List ℕ
+    nodeTexts m v = flatMap (stateTextAt v) (numbers 1 m)
+
+    -- the `H` lines of the HTUs, by node number
+    unfoldable pub stateTexts : ℕ → List ℕ
+    stateTexts m = flatMap (nodeTexts m) (numbers (n + 1) (n - 2))
