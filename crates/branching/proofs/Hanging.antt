@@ -62,7 +62,7 @@ module _ (n k : ℕ) (tree : List ℕ) (g : Grown n k tree) (room : 2 * n - 2 < 
       }
 
   -- in the new tree b has y
-  at-taxon : ancestor new b ≡ y
+  pub at-taxon : ancestor new b ≡ y
   at-taxon = hung-taxon n tree b c y hung-joint
 
   -- so has c
@@ -108,7 +108,7 @@ module _ (n k : ℕ) (tree : List ℕ) (g : Grown n k tree) (room : 2 * n - 2 < 
   was-in v nb nc ny (inr a) = inr (rw (at-other v nb nc ny) at a)
 
   -- of the taxa, just b comes in
-  only-taxon : (v : ℕ) → v ≢ b → v ≢ y → inTree new v ≡ inTree tree v
+  pub only-taxon : (v : ℕ) → v ≢ b → v ≢ y → inTree new v ≡ inTree tree v
   only-taxon v nb ny =
       by-cases
       (ℕ-discrete v c)

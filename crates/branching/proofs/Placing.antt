@@ -1,21 +1,22 @@
 -- A placement on a growing tree gives a growing tree with one taxon more, on the interval of least interval difference.
-use mathlib.Core.Path.{_≡_, refl, ap}
+use mathlib.Core.Path.{_≡_, refl, sym, ap, _∙_}
+use mathlib.Core.Logic.{_≢_, inr}
 use mathlib.Core.Bool.{true}
 use mathlib.Core.List.{List, List·Memᴰ}
-use Prim.Native.Nat.{ℕ, zero, suc, _*_, _-_, _≤_, _<_}
+use Prim.Native.Nat.{ℕ, zero, suc, _+_, _*_, _-_, _≤_, _<_}
 use native.Mathlib.Omega.{arith}
 use lib.IntN.{ℤ}
 use lib.ListN.{length, length-set}
 use Rattle.branching.specs.Ancestors.{ancestor}
-use Rattle.branching.specs.Nodes.{nodesIn, otherNodes, taxaPlaced, Unplaced}
+use Rattle.branching.specs.Nodes.{inTree, nodesIn, otherNodes, taxaPlaced, Unplaced}
 use Rattle.branching.specs.Growing.{growingTree}
 use Rattle.branching.specs.Facts.{Grown, GrowingTree, alone, several}
 use Rattle.branching.specs.Hanging.{nextHtu, linked, hung}
-use Rattle.branching.proofs.Nodes.{node-nodesIn}
+use Rattle.branching.proofs.Nodes.{node-nodesIn, inTree-iff, inTree-same}
 use Rattle.branching.proofs.Counts.{grown-node, grown-nodes}
 use Rattle.branching.proofs.Test.{growing-fact, growing-placed, growing-test}
-use Rattle.branching.proofs.Hanging.{hung-grown}
-use Rattle.branching.proofs.Linking.{linked-grown}
+use Rattle.branching.proofs.Hanging.{hung-grown, only-taxon, at-taxon}
+use Rattle.branching.proofs.Linking.{linked-grown, linked-other, linked-taxon}
 use Rattle.branching.specs.Placing.{fromInterval, nearestInterval, linkFirst, hang, placeOn, place}
 use Rattle.lists.proofs.Least.{leastOf-mem, leastOf-le, leastOf-none}
 
@@ -73,6 +74,44 @@ module _ (d : List ℤ → List ℤ → ℕ) (n : ℕ) (tree : List ℕ) (rows :
       let grows = place-grows (growing-fact tree n (omega arith) passes) room u in
       let new : List ℕ = place d n tree rows b .tree in
       (growing-test new n (omega arith) grows, growing-placed new n (omega arith) grows)
+
+-- a placement of a taxon that is not in the tree
+module _ (d : List ℤ → List ℤ → ℕ) (n : ℕ) (tree : List ℕ) (rows : List (List ℤ)) (b : ℕ) (room : 2 * n - 2 < length tree)
+    (u : Unplaced n tree b) where
+  -- of the taxa just b comes in
+  pub place-only : {k : ℕ} → GrowingTree n tree k → (v : ℕ) → v ≤ n → v ≢ b → inTree (place d n tree rows b .tree) v ≡ inTree tree v
+  unfolding linkFirst hang nextHtu
+  place-only (alone none) v high ne =
+      rw (place-first d n tree rows b none)
+      (inTree-same tree (linked tree b) v (linked-other n tree none room b u v ne ∙ sym (none v)))
+  place-only (several {k = k} g) v high ne =
+      rw
+      (place-later d n tree rows b k g, g .placed)
+      (only-taxon n k tree g room b (nearestInterval d n tree rows b) u (nearest-node d n tree rows b k g .1) v ne
+      (λ e. omega (arith, g .atLeastTwo)))
+
+  -- and it is in the tree
+  pub place-in : {k : ℕ} → GrowingTree n tree k → inTree (place d n tree rows b .tree) b ≡ true
+  unfolding linkFirst hang nextHtu
+  place-in (alone none) =
+      rw (place-first d n tree rows b none)
+      (inTree-iff (linked tree b) b .1 (inr (omega (arith, linked-taxon n tree none room b u))))
+  place-in (several {k = k} g) =
+      let c : ℕ = nearestInterval d n tree rows b in
+      rw
+      (place-later d n tree rows b k g, g .placed)
+      (inTree-iff (hung tree b c (n + k - 1)) b .1
+      (inr (omega (arith, at-taxon n k tree g room b c u (nearest-node d n tree rows b k g .1), g .atLeastTwo))))
+
+-- what is done is the placement of the taxon
+pub place-taxon : (d : List ℤ → List ℤ → ℕ) (n : ℕ) (tree : List ℕ) (rows : List (List ℤ)) (b : ℕ)
+    → place d n tree rows b .placement .taxon ≡ b
+unfolding place placeOn linkFirst hang
+place-taxon d n tree rows b = on (nearestInterval d n tree rows b)
+  where
+    on : (c : ℕ) → placeOn d n tree rows b c .placement .taxon ≡ b
+    on zero = refl
+    on (suc c) = refl
 
 -- a placement keeps the number of places of the tree
 pub place-places : (d : List ℤ → List ℤ → ℕ) (n : ℕ) (tree : List ℕ) (rows : List (List ℤ)) (b : ℕ)

@@ -2,7 +2,7 @@
 use mathlib.Core.Path.{_≡_, refl, sym, ap, _∙_}
 use mathlib.Core.Logic.{_⊎_, inl, inr, ⊎-elim}
 use mathlib.Core.List.{List, [], _∷_, _++_, append-nil, List·Memᴰ, List·Memᴰ·head, List·Memᴰ·tail, List·Memᴰ·not-nil, List·Memᴰ·cases-cons}
-use mathlib.Core.Bool.{Bool, true, false, cond, not, false≢true}
+use mathlib.Core.Bool.{Bool, true, false, cond, not, _&&_, false≢true}
 use Prim.Native.Nat.{suc, _+_, _≤_, _<_}
 use native.Mathlib.Omega.{arith}
 use lib.ListN.{length}
@@ -138,3 +138,19 @@ module _ {A : Type 0} where
   unfolding keep one-more
   keep-snoc-fails test us v e =
       keep-append test us (v ∷ []) ∙ ap (λ (t : Bool). keep test us ++ one-more t v []) e ∙ append-nil (keep test us)
+
+  -- kept by one test and then by another: what both hold of
+  pub keep-twice : (p q r : A → Bool) (vs : List A) → ((v : A) → List·Memᴰ v vs → r v ≡ (q v && p v)) → keep p (keep q vs) ≡ keep r vs
+  unfolding keep one-more
+  keep-twice p q r [] h = refl
+  keep-twice p q r (u ∷ us) h =
+      go (q u) (p u) (r u) refl (h u (List·Memᴰ·head refl)) (keep-twice p q r us (λ v m. h v (List·Memᴰ·tail m)))
+    where
+      go : (a b c : Bool) → p u ≡ b → c ≡ (a && b) → keep p (keep q us) ≡ keep r us → keep p (one-more a u (keep q us)) ≡ one-more c u (keep r us)
+      go true true c pu e rest =
+          ap (λ (t : Bool). one-more t u (keep p (keep q us))) pu
+          ∙ ap (λ (list : List A). u ∷ list) rest
+          ∙ ap (λ (t : Bool). one-more t u (keep r us)) (sym e)
+      go true false c pu e rest =
+          ap (λ (t : Bool). one-more t u (keep p (keep q us))) pu ∙ rest ∙ ap (λ (t : Bool). one-more t u (keep r us)) (sym e)
+      go false b c pu e rest = rest ∙ ap (λ (t : Bool). one-more t u (keep r us)) (sym e)

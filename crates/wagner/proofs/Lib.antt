@@ -8,3 +8,4 @@ pub mod Choosing
 pub mod UnderWay
 pub mod Stepping
 pub mod Lengths
+pub mod Rising

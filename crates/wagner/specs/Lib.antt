@@ -3,5 +3,6 @@ pub mod Build
 pub mod Matrix
 pub mod Answers
 pub mod Records
+pub mod Rising
 pub mod Order
 pub mod Steps

@@ -1,0 +1,336 @@
+// Wagner trees and placements of worked cases, with nodes by number. The expected lines are those that `make.py` has the reference print.
+use branching::branch::Branch;
+use branching::placement::Placement;
+use branching::tree::Tree;
+use libc::STDOUT_FILENO;
+use matrix::refusal;
+use matrix::refusal::Asked;
+use matrix::refusal::Refusal;
+use wagner::build::WagnerTree;
+use wagner::build::build;
+use wagner::records::branches;
+
+// Writes a row's codes at the front of the row of node v, as far as the matrix goes.
+fn put(codes: &mut [i32; 16128], v: usize, row: &[i32]) {
+    let start = matrix::rows::row_start(16128, v);
+    let mut j = 0;
+    while j < row.len() {
+        if 16128 - start <= j {
+            return;
+        }
+        codes[start + j] = row[j];
+        j += 1;
+    }
+}
+
+// A field of a line: a tab and a number.
+fn print_field(number: u64) {
+    io::write_all(STDOUT_FILENO, b"\t");
+    io::print_decimal(STDOUT_FILENO, number);
+}
+
+fn end_line() {
+    io::write_all(STDOUT_FILENO, b"\n");
+}
+
+// The W line of a placement: taxon, lower end, upper end, HTU, length added.
+fn print_placement(placement: Placement) {
+    io::write_all(STDOUT_FILENO, b"W");
+    print_field(placement.taxon as u64);
+    print_field(placement.lower as u64);
+    print_field(placement.upper as u64);
+    print_field(placement.htu as u64);
+    print_field(placement.added);
+    end_line();
+}
+
+// The W lines of a build.
+fn print_placements(placements: [Placement; 63], count: usize) {
+    let mut i = 0;
+    while i < 63 {
+        if i < count {
+            let placement = placements[i];
+            print_placement(placement);
+        }
+        i += 1;
+    }
+}
+
+// The A line of a node: its immediate ancestor.
+fn print_ancestor(tree: Tree, v: usize) {
+    let above = tree.ancestor(v);
+    if above == 0 {
+        return;
+    }
+    io::write_all(STDOUT_FILENO, b"A");
+    print_field(v as u64);
+    print_field(above as u64);
+    end_line();
+}
+
+// The A lines of a tree, for the nodes that have an ancestor.
+fn print_tree(tree: Tree) {
+    let mut v = 0;
+    while v < 127 {
+        print_ancestor(tree, v);
+        v += 1;
+    }
+}
+
+// The B line of a branch record: node, immediate ancestor, length. A record of zeros has none.
+fn print_branch(branch: Branch) {
+    if branch.node == 0 {
+        return;
+    }
+    io::write_all(STDOUT_FILENO, b"B");
+    print_field(branch.node as u64);
+    print_field(branch.ancestor as u64);
+    print_field(branch.length);
+    end_line();
+}
+
+// The B lines of branch records.
+fn print_branches(records: [Branch; 125]) {
+    let mut i = 0;
+    while i < 125 {
+        let branch = records[i];
+        print_branch(branch);
+        i += 1;
+    }
+}
+
+// The R line of a refusal.
+fn print_refusal(why: Refusal) {
+    io::write_all(STDOUT_FILENO, b"R");
+    print_field(refusal::number(why));
+    print_field(0);
+    end_line();
+}
+
+// A number that any changed code of the matrix changes, as far as such a number can.
+fn digest(codes: &[i32; 16128]) -> u64 {
+    let mut sum = 0u64;
+    let mut i = 0;
+    while i < 16128 {
+        sum = (sum % 2147483648) * 31 + difference::codes::apart(codes[i], -1000) % 4096;
+        i += 1;
+    }
+    sum % 2147483648
+}
+
+// The D line of a matrix.
+fn print_digest(codes: &[i32; 16128]) {
+    io::write_all(STDOUT_FILENO, b"D");
+    print_field(digest(codes));
+    end_line();
+}
+
+// The lines of a finished tree: its placements, its length, its branch records.
+fn print_built(built: WagnerTree, codes: &[i32; 16128], n: usize, m: usize) {
+    let placements = built.placements;
+    print_placements(placements, built.count);
+    io::write_all(STDOUT_FILENO, b"w");
+    print_field(built.length);
+    end_line();
+    let none = Branch {
+        node: 0,
+        ancestor: 0,
+        length: 0,
+    };
+    let tree = built.tree;
+    print_branches(branches(codes, n, m, tree, [none; 125]));
+}
+
+// The lines of a build from a matrix of n taxa and m characters.
+fn show(codes: &mut [i32; 16128], n: usize, m: usize) {
+    let built = build(codes, n, m);
+    let asked = built.asked;
+    match asked {
+        Asked::Passed => print_built(built, codes, n, m),
+        Asked::Refused(why) => print_refusal(why),
+    }
+    print_digest(codes);
+}
+
+// The lines of a placement of taxon b on a tree, and the tree that it hands back.
+fn hand(codes: &mut [i32; 16128], n: usize, m: usize, tree: Tree, b: usize) -> Tree {
+    let placed = tree.place(codes, n, m, b);
+    let asked = placed.asked;
+    match asked {
+        Asked::Passed => {
+            let placement = placed.placement;
+            print_placement(placement);
+        }
+        Asked::Refused(why) => print_refusal(why),
+    }
+    let larger = placed.tree;
+    print_tree(larger);
+    print_digest(codes);
+    larger
+}
+
+// Document 01's example, and the first one and two of its taxa.
+fn example(codes: &mut [i32; 16128]) {
+    put(codes, 1, &[0, 0, 0]);
+    put(codes, 2, &[2, 1, 0]);
+    put(codes, 3, &[2, 3, 1]);
+    put(codes, 4, &[-1, 1, 2]);
+    show(codes, 4, 3);
+    show(codes, 1, 3);
+    show(codes, 2, 3);
+}
+
+// Placements one by one, in another order than by advancement; taxa that are in the tree, and taxa that do not exist.
+fn one_by_one(codes: &mut [i32; 16128]) {
+    let first = hand(codes, 4, 3, Tree::alone(), 3);
+    let again = hand(codes, 4, 3, first, 3);
+    let row_one = hand(codes, 4, 3, again, 1);
+    let no_taxon = hand(codes, 4, 3, row_one, 0);
+    let htu = hand(codes, 4, 3, no_taxon, 5);
+    let second = hand(codes, 4, 3, htu, 2);
+    let third = hand(codes, 4, 3, second, 4);
+    hand(codes, 4, 3, third, 4);
+    hand(codes, 4, 3, Tree::alone(), 1);
+}
+
+// Trees of others, with codes of their own for the HTUs: taxa 2 and 4 below HTU 5; then one more HTU.
+fn handed_in(codes: &mut [i32; 16128]) {
+    let tree = Tree::alone().link(2).hang(4, 2, 5);
+    put(codes, 5, &[1, 1, 1]);
+    hand(codes, 4, 3, tree, 3);
+    put(codes, 5, &[-7, 9, 999]);
+    hand(codes, 4, 3, tree, 3);
+    put(codes, 5, &[3, 3, 3]);
+    put(codes, 6, &[4, 4, 4]);
+    put(codes, 7, &[5, 5, 5]);
+    hand(
+        codes,
+        5,
+        3,
+        Tree::alone().link(4).hang(3, 4, 6).hang(2, 6, 7),
+        5,
+    );
+    hand(
+        codes,
+        5,
+        3,
+        Tree::alone().link(4).hang(3, 4, 6).hang(2, 3, 7),
+        5,
+    );
+}
+
+// Trees that are none: two descendants of row 1, an HTU of another number, an HTU alone, an ancestor that is not in the tree.
+fn no_trees(codes: &mut [i32; 16128]) {
+    hand(codes, 4, 3, Tree::alone().link(2).link(4), 3);
+    hand(codes, 4, 3, Tree::alone().link(2).hang(4, 2, 6), 3);
+    hand(codes, 4, 3, Tree::alone().link(5), 3);
+    hand(codes, 4, 3, Tree::alone().link(2).hang(4, 3, 5), 3);
+    hand(
+        codes,
+        4,
+        3,
+        Tree::alone().link(2).hang(4, 2, 5).hang(5, 2, 6),
+        3,
+    );
+    hand(codes, 4, 3, Tree::alone().link(2).link(4), 5);
+    hand(codes, 4, 3, Tree::alone().link(2).link(4), 2);
+}
+
+// Refusals of the matrix: n, then m, then a code of a taxon; then the code of an HTU of the tree; codes that are not read.
+fn refusals(codes: &mut [i32; 16128]) {
+    let tree = Tree::alone().link(2).hang(4, 2, 5);
+    show(codes, 0, 3);
+    show(codes, 65, 3);
+    show(codes, 4, 0);
+    show(codes, 4, 129);
+    hand(codes, 65, 3, tree, 3);
+    hand(codes, 4, 129, tree, 3);
+    put(codes, 5, &[0, 1000, 0]);
+    hand(codes, 4, 3, tree, 3);
+    hand(codes, 4, 3, tree, 2);
+    hand(codes, 4, 1, tree, 3);
+    put(codes, 6, &[-1000, 0, 0]);
+    hand(codes, 4, 1, tree, 3);
+    put(codes, 3, &[0, 0, -1000]);
+    show(codes, 4, 3);
+    hand(codes, 4, 3, tree, 3);
+    hand(codes, 4, 3, tree, 9);
+    show(codes, 4, 2);
+}
+
+// A matrix that is not of full size.
+fn short() {
+    let mut codes = [0i32; 16127];
+    let built = build(&mut codes, 0, 0);
+    let asked = built.asked;
+    match asked {
+        Asked::Passed => end_line(),
+        Asked::Refused(why) => print_refusal(why),
+    }
+    let placed = Tree::alone().link(2).link(3).place(&mut codes, 3, 1, 9);
+    let answer = placed.asked;
+    match answer {
+        Asked::Passed => end_line(),
+        Asked::Refused(why) => print_refusal(why),
+    }
+    let unchanged = placed.tree;
+    print_tree(unchanged);
+}
+
+// Both ends of the range, and equal rows.
+fn ends(codes: &mut [i32; 16128]) {
+    put(codes, 1, &[-999i32; 128]);
+    put(codes, 2, &[999i32; 128]);
+    put(codes, 3, &[0i32; 128]);
+    put(codes, 4, &[999i32; 128]);
+    show(codes, 4, 1);
+    show(codes, 4, 128);
+}
+
+// The next number of a sequence of pseudo-random numbers below 2 ^ 31.
+fn following(number: u64) -> u64 {
+    ((number % 2147483648) * 1103515245 + 12345) % 2147483648
+}
+
+// One of eight codes, by such a number.
+fn chosen(codes: [i32; 8], number: u64) -> i32 {
+    let i = ((number / 65536) % 8) as usize;
+    codes[i]
+}
+
+// Fills a matrix with such codes.
+fn fill(matrix: &mut [i32; 16128], codes: [i32; 8], seed: u64) {
+    let mut number = seed;
+    let mut i = 0;
+    while i < 16128 {
+        number = following(number);
+        matrix[i] = chosen(codes, number);
+        i += 1;
+    }
+}
+
+// Matrices of few codes, where many intervals are equally near and many HTUs equal a node, and of codes over the whole range.
+fn generated(matrix: &mut [i32; 16128]) {
+    fill(matrix, [-2, -1, -1, 0, 0, 0, 1, 2], 1);
+    show(matrix, 64, 1);
+    show(matrix, 64, 4);
+    show(matrix, 23, 9);
+    fill(matrix, [0, 1, 0, 1, 0, 1, 0, 1], 2);
+    show(matrix, 64, 12);
+    show(matrix, 16, 128);
+    fill(matrix, [-999, -500, -37, 0, 1, 250, 998, 999], 3);
+    show(matrix, 64, 20);
+    show(matrix, 9, 128);
+}
+
+fn main() {
+    let mut codes = [0i32; 16128];
+    example(&mut codes);
+    one_by_one(&mut codes);
+    handed_in(&mut codes);
+    no_trees(&mut codes);
+    refusals(&mut codes);
+    short();
+    ends(&mut codes);
+    generated(&mut codes);
+}
