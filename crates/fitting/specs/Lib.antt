@@ -4,4 +4,6 @@ pub mod Clades
 pub mod Character
 pub mod Assignments
 pub mod Fit
+pub mod Plans
+pub mod Steps
 pub mod Rival

@@ -1,1 +1,5 @@
-// Fitting the inner states of a branching.
+// Fitting the inner states of a fixed branching: state sets, the passes over the branching, lengths, marks and ranges, and the calls on a
+// lent branching.
+pub mod characters;
+pub mod planning;
+pub mod spans;
