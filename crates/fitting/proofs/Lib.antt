@@ -8,5 +8,11 @@ pub mod Clades
 pub mod OneCharacter
 pub mod Matrix
 pub mod Pass
+pub mod Columns
+pub mod SameTree
+pub mod Rewriting
+pub mod Gathering
+pub mod Shapes
+pub mod Passed
 pub mod Examples
 pub mod Sample

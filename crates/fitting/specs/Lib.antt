@@ -6,4 +6,6 @@ pub mod Assignments
 pub mod Fit
 pub mod Plans
 pub mod Steps
+pub mod Calls
+pub mod Lists
 pub mod Rival

@@ -1,5 +1,5 @@
 -- A branching of two taxa or more and its plan: which descendants are kept of a node, and where they stand in the walk.
-use mathlib.Core.Path.{_≡_, refl, sym, _∙_, ap}
+use mathlib.Core.Path.{_≡_, refl, sym, _∙_, ap, subst}
 use mathlib.Core.Logic.{_≢_, by-cases}
 use mathlib.Core.List.{List, [], _∷_, flatMap, List·Memᴰ, List·Memᴰ·head}
 use mathlib.Core.Bool.{Bool, true, false, cond, and-eq-true-iff}
@@ -12,7 +12,7 @@ use borrow.Author.Tests.{leb-true, eq-eqb, eqb-true}
 use Rattle.lists.specs.Numbers.{numbers}
 use Rattle.lists.specs.Filters.{keep}
 use Rattle.matrix.specs.Shape.{lastNode}
-use Rattle.branching.specs.Ancestors.{ancestor, descendants}
+use Rattle.branching.specs.Ancestors.{ancestors, ancestor, descendants}
 use Rattle.branching.specs.Nodes.{otherNodes}
 use Rattle.branching.specs.Growing.{branching}
 use Rattle.branching.specs.Facts.{Grown}
@@ -23,13 +23,14 @@ use Rattle.branching.proofs.Descendants.{mem-descendants}
 use Rattle.branching.proofs.Test.{branching-iff}
 use Rattle.branching.proofs.Whole.{branching-grown}
 use Rattle.branching.proofs.Walks.{walk-later}
-use Rattle.fitting.specs.Plans.{Belows, belowAt, firstTwo, sisterIn}
+use Rattle.fitting.specs.Plans.{Planned, Belows, belowAt, firstTwo, sisterIn}
 use Rattle.fitting.specs.Sets.{only}
 use Rattle.fitting.specs.Clades.{cladesBelow}
 use Rattle.fitting.specs.Character.{valueAt}
 use Rattle.fitting.specs.Assignments.{character}
 use Rattle.fitting.specs.Fit.{chosenState, range}
 use Rattle.fitting.specs.declared.planning.Below.{Below}
+use Rattle.fitting.specs.declared.planning.Plan.{Plan}
 use Rattle.fitting.proofs.Clades.Sides.{Side, left, right, on, other}
 use Rattle.fitting.proofs.Clades.Built.{Htu, htu-descends}
 use Rattle.fitting.proofs.Clades.Hanging.{cladeOf}
@@ -37,7 +38,7 @@ use Rattle.fitting.proofs.Matrix.OneClade.{chosenState-taxon, range-tax
 
 module _ (n : ℕ) (tree : List ℕ) (branches : branchingWithin n tree ≡ true) where
   -- what passes the test is a branching of at most 64 taxa
-  branching-parts : (leb n 64 ≡ true) × (branching n tree ≡ true)
+  pub branching-parts : (leb n 64 ≡ true) × (branching n tree ≡ true)
   unfolding branchingWithin
   branching-parts = and-eq-true-iff (leb n 64) (branching n tree) .0 branches
 
@@ -118,3 +119,7 @@ root-within n tree grown =
     let m : List·Memᴰ root (descendants tree (otherNodes n) 1) = rw (cladeOf n tree grown .ofRow1) (List·Memᴰ·head refl) in
     let w = numbers-within 2 (2 * n - 3) root (mem-descendants tree (otherNodes n) 1 root .0 m .0) in
     (w .0, omega (arith, w .1, grown .atLeastTwo))
+
+-- a plan is that of its own tree
+pub planned-own : {n : ℕ} {tree : List ℕ} {plan : Plan} → Planned n tree plan → Planned n (ancestors (plan .tree)) plan
+planned-own {n} {tree} {plan} p = subst (λ (t : List ℕ). Planned n t plan) (sym (p .is)) p
