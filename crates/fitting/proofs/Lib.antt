@@ -13,6 +13,8 @@ pub mod SameTree
 pub mod Rewriting
 pub mod Gathering
 pub mod Shapes
+pub mod Handed
+pub mod Answered
 pub mod Passed
 pub mod Examples
 pub mod Sample

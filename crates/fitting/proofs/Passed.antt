@@ -14,6 +14,7 @@ use Rattle.matrix.specs.declared.refusal.Refusal.the-variants.{ListSize, NotBra
 use Rattle.matrix.specs.declared.refusal.Asked.the-variants.{Passed}
 use Rattle.matrix.proofs.Passing.{ask-passed, andThen-passed, matrix-passes}
 use Rattle.branching.specs.declared.branch.Branch.{Branch}
+use Rattle.branching.specs.Growing.{branching}
 use Rattle.branching.specs.Within.{branchingWithin}
 use Rattle.branching.specs.Branches.{lentBranching, namedInOrder, placesOf, ancestorsOf}
 use Rattle.branching.specs.Asking.{askBranching, branchesSize}
@@ -26,6 +27,19 @@ pub places-branching : (codes : List ℤ) (n m : ℕ) (records : List Branch) �
     → branchingWithin n (placesOf n records) ≡ true
 places-branching codes n m records lent e =
     and-eq-true-iff (namedInOrder n records) (branchingWithin n (placesOf n records)) .0 (sym (lent-places n records (lent .taxa)) ∙ e) .1
+
+-- the tree that they give is a branching, as a test
+pub lent-test : (n : ℕ) (records : List Branch) → lentBranching n records ≡ true → branching n (ancestorsOf n records) ≡ true
+unfolding lentBranching
+lent-test n records e = and-eq-true-iff (namedInOrder n records) (branching n (ancestorsOf n records)) .0 e .1
+
+-- what passed questions tell of the records
+pub records-passed : (codes : List ℤ) (n m : ℕ) (records : List Branch) → askBranching codes n m records ≡ Passed → lentBranching n records ≡ true
+unfolding askBranching
+records-passed codes n m records e =
+    let size = ask-passed (eqb (length records) branchesSize) ListSize _ e in
+    let both = andThen-passed (askMatrix codes n m) _ (size .1) in
+    ask-passed (lentBranching n records) NotBranching Passed (both .1) .0
 
 -- what passed questions tell
 pub branching-passed : (codes : List ℤ) (n m : ℕ) (records : List Branch) → askBranching codes n m records ≡ Passed

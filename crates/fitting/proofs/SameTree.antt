@@ -1,8 +1,8 @@
 -- Lists that give every node the same ancestor are one tree: they have the same clades, states and lengths.
-use mathlib.Core.Path.{_≡_, refl, ap, ap₂, fun-ext}
+use mathlib.Core.Path.{_≡_, refl, _∙_, ap, ap₂, fun-ext}
 use mathlib.Core.List.{List, map, flatMap}
-use Prim.Native.Nat.{ℕ, zero, suc, _*_}
-use lib.Dec.{eqb}
+use Prim.Native.Nat.{ℕ, zero, suc, _+_, _*_, _-_}
+use lib.Dec.{eqb, ltb}
 use lib.IntN.{ℤ}
 use Rattle.lists.specs.Numbers.{numbers}
 use Rattle.lists.specs.Filters.{keep}
@@ -13,8 +13,13 @@ use Rattle.fitting.specs.Sets.{only}
 use Rattle.fitting.specs.Clades.{Clade, above, cladeAt, cladesBelow}
 use Rattle.fitting.specs.Character.{valueAt, chosen, ranges}
 use Rattle.fitting.specs.Assignments.{character, branchLength, total}
-use Rattle.fitting.specs.Fit.{chosenState, range, statesIn, fittedLength, fittedTotal}
+use Rattle.fitting.specs.Fit.{chosenState, range, statesIn, fittedLength, fittedTotal, marked}
+use Rattle.fitting.specs.Calls.{stateIn, statesWritten, FitOf}
+use Rattle.matrix.specs.NodeRows.{withRows}
+use Rattle.fitting.specs.declared.whole.Fit.{Fit}
+use Rattle.fitting.specs.declared.whole.Which.{Which}
 use Rattle.fitting.specs.declared.spans.Span.{Span}
+use Rattle.fitting.specs.declared.characters.States.{States}
 
 module _ (old new : List ℕ) (same : (v : ℕ) → ancestor old v ≡ ancestor new v) where
   -- the ancestors, as a function
@@ -77,3 +82,25 @@ module _ (old new : List ℕ) (same : (v : ℕ) → ancestor old v ≡ ancestor 
       total-same =
           ap₂ (λ (f : ℕ → ℕ → ℤ) (up : ℕ → ℕ). sumOver (λ v. sumOver (λ j. step j (f v j) (f (up v) j)) (numbers 1 m)) (otherNodes n))
           all-states ancestors-same
+
+      -- the mark of a branch
+      pub mark-same : (v : ℕ) → marked step old rows n m v ≡ marked step new rows n m v
+      unfolding marked
+      mark-same v = ap (ltb 0) (length-same v)
+
+      -- a fit handed back
+      pub fit-same : (fit : Fit) → FitOf step old rows n m fit → FitOf step new rows n m fit
+      fit-same fit f = record {
+        lengths = λ v l h. f .lengths v l h ∙ length-same v;
+        noLength = f .noLength;
+        marks = λ v l h. f .marks v l h ∙ mark-same v;
+        noMark = f .noMark;
+        total = f .total ∙ total-same;
+      }
+
+    -- states written
+    pub written-same : (which : Which) (m : ℕ) (list : List ℤ) → statesWritten which old rows n m list ≡ statesWritten which new rows n m list
+    unfolding statesWritten
+    written-same which m list =
+        ap (λ (f : ℕ → ℕ → States). withRows list (n + 1) (map (λ v. map (λ j. stateIn which (f v j)) (numbers 1 m)) (numbers (n + 1) (n - 2))))
+        (fun-ext (λ v. fun-ext (λ j. states-same v j)))

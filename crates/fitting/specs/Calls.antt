@@ -1,15 +1,18 @@
 -- What the calls on a lent branching answer, and what the functions on a tree promise that other crates call.
 use mathlib.Core.Path.{_≡_}
-use mathlib.Core.Bool.{true, false}
+use mathlib.Core.Bool.{Bool, true, false, _&&_}
 use mathlib.Core.List.{List, map}
 use Prim.Native.Nat.{ℕ, _+_, _*_, _-_, _≤_}
+use lib.Dec.{eqb}
 use lib.IntN.{ℤ}
 use lib.ListN.{length, getD, replicate}
 use Rattle.lists.specs.Numbers.{numbers}
 use Rattle.matrix.specs.Shape.{matrixSize}
 use Rattle.matrix.specs.NodeRows.{rowsOf, withRows}
 use Rattle.matrix.specs.Questions.{LentMatrix}
-use Rattle.matrix.specs.Outcomes.{Outcome, answered}
+use Rattle.matrix.specs.Outcomes.{Outcome, answered, ask}
+use Rattle.matrix.specs.declared.refusal.Refusal.the-variants.{ListSize}
+use Rattle.matrix.specs.declared.refusal.Asked.{Asked}
 use Rattle.difference.specs.Rows.{plain}
 use Rattle.branching.specs.declared.branch.Branch.{Branch}
 use Rattle.branching.specs.Within.{branchingWithin}
@@ -61,3 +64,12 @@ pub record TreeFitted (codes : List ℤ) (n m : ℕ) (tree : List ℕ) (low low�
 unfoldable pub totalAnswer : List ℤ → ℕ → ℕ → List Branch → Outcome ℕ
 totalAnswer codes n m records =
     answered (askBranching codes n m records) (fittedTotal (plain .step) (ancestorsOf n records) (rowsOf codes m n) n m)
+
+-- three lists have the matrix's size
+unfoldable pub listsFull : ℕ → ℕ → ℕ → Bool
+listsFull low high chosen = eqb low matrixSize && (eqb high matrixSize && eqb chosen matrixSize)
+
+-- the questions of the call for a fit: the sizes of the three lists, then those on a lent branching that reads no HTU row
+unfoldable pub askFit : List ℤ → ℕ → ℕ → List Branch → List ℤ → List ℤ → List ℤ → Asked
+askFit codes n m records low high chosen =
+    ask (listsFull (length low) (length high) (length chosen)) ListSize (askBranching codes n m records)

@@ -7,5 +7,6 @@ pub mod Fit
 pub mod Plans
 pub mod Steps
 pub mod Calls
+pub mod Handing
 pub mod Lists
 pub mod Rival
