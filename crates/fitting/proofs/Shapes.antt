@@ -70,6 +70,17 @@ true-shapes matrix low high chosen n m lent l h c =
       eq-eqb (length chosen) matrixSize c,
     )
 
+-- so do lists that are known to have it
+pub true-shape : (matrix : List ℤ) (n m : ℕ) → LentMatrix matrix n m → fitShapes (length matrix) n m matrixSize matrixSize matrixSize ≡ true
+unfolding fitShapes withinLimits
+true-shape matrix n m lent =
+    rw (
+      true-oneTo 64 n (lent .taxon) (lent .taxa),
+      true-oneTo 128 m (lent .character) (lent .characters),
+      eq-eqb (length matrix) matrixSize (lent .full),
+      eq-eqb matrixSize matrixSize refl,
+    )
+
 -- where the shapes are not right nothing is promised
 pub not-fitted : (matrix low high chosen : List ℤ) (n m : ℕ) (tree : List ℕ) (fit : Fit)
     → fitShapes (length matrix) n m (length low) (length high) (length chosen) ≡ false

@@ -7,7 +7,7 @@ use lib.Dec.{eqb}
 use lib.IntN.{ℤ}
 use lib.ListN.{length, getD, replicate}
 use Rattle.lists.specs.Numbers.{numbers}
-use Rattle.matrix.specs.Shape.{matrixSize}
+use Rattle.matrix.specs.Shape.{matrixSize, lastNode}
 use Rattle.matrix.specs.NodeRows.{rowsOf, withRows}
 use Rattle.matrix.specs.Questions.{LentMatrix}
 use Rattle.matrix.specs.Outcomes.{Outcome, answered, ask}
@@ -73,3 +73,8 @@ listsFull low high chosen = eqb low matrixSize && (eqb high matrixSize && eqb ch
 unfoldable pub askFit : List ℤ → ℕ → ℕ → List Branch → List ℤ → List ℤ → List ℤ → Asked
 askFit codes n m records low high chosen =
     ask (listsFull (length low) (length high) (length chosen)) ListSize (askBranching codes n m records)
+
+-- r are the states of node v in character j of a branching with a lent matrix of n taxa and m characters
+pub record StatesOf (codes : List ℤ) (n m : ℕ) (tree : List ℕ) (v j : ℕ) (r : States) : Type 0 where
+  pub are : branchingWithin n tree ≡ true → LentMatrix codes n m → 1 ≤ v → v ≤ lastNode n → 1 ≤ j → j ≤ m
+      → r ≡ statesIn tree (rowsOf codes m n) n v j

@@ -12,6 +12,7 @@ use branching::tree::Tree;
 use difference::codes::apart;
 use matrix::COLUMNS;
 use matrix::ROWS;
+use matrix::questions::one_to;
 use matrix::questions::within_limits;
 ghost use mathlib.Core.Path.{_≡_};
 ghost use Prim.Native.Nat.{_≤_};
@@ -22,7 +23,7 @@ ghost use Rattle.branching.specs.Ancestors.{ancestors};
 ghost use Rattle.fitting.specs.Plans.{Planned};
 ghost use Rattle.fitting.specs.Steps.{statesAt};
 ghost use Rattle.fitting.specs.Lists.{withColumn, Lengthened, SumOf, Marks, Written, fitShapes};
-ghost use Rattle.fitting.specs.Calls.{stateIn, noFit, TreeFitted};
+ghost use Rattle.fitting.specs.Calls.{stateIn, noFit, TreeFitted, StatesOf};
 
 // The fit of a tree, by node number: the fitted length of each node's branch, and its mark; and the total.
 pub struct Fit {
@@ -203,4 +204,29 @@ pub fn fit_tree(
         marks,
         total,
     }
+}
+
+// The states of node v in character j, of a tree that is a branching, with a lent matrix that no question refuses.
+pub fn states_at(matrix: &[i32], n: usize, m: usize, tree: Tree, v: usize, j: usize) -> States
+    ensures { λ r. ⌜ StatesOf (now (matrix .entry)) n m (ancestors tree) v j r ⌝ }
+{
+    let none = States {
+        low: 0,
+        high: 0,
+        chosen: 0,
+    };
+    let size = ROWS * COLUMNS;
+    if !fit_shapes(matrix.len(), n, m, size, size, size) {
+        return none;
+    }
+    if !one_to(m, j) {
+        return none;
+    }
+    if PLACES <= v {
+        return none;
+    }
+    let plan = plan_of(tree, n);
+    let codes = codes_of(matrix, n, j);
+    let states = fit_character(codes, n, plan);
+    states[v]
 }
