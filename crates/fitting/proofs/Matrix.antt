@@ -6,3 +6,4 @@ pub mod Lengths
 pub mod ThirdRival
 pub mod ByNode
 pub mod OnlyCodes
+pub mod LeastCost

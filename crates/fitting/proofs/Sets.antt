@@ -3,4 +3,5 @@ pub mod Ends
 pub mod Distance
 pub mod Join
 pub mod Order
+pub mod Carrying
 pub mod Three

@@ -5,7 +5,8 @@ use mathlib.Core.Bool.{cond}
 use Prim.Native.Nat.{ℕ}
 use lib.Dec.{eqb}
 use lib.IntN.{ℤ}
-use Rattle.fitting.specs.Sets.{Span, only, join, nearestMember, middle}
+use Rattle.fitting.specs.Sets.{only, join, nearestMember, middle}
+use Rattle.fitting.specs.declared.spans.Span.{Span}
 use Rattle.fitting.specs.Clades.{Clade, tip, fork}
 
 -- a value for each HTU of a clade, in the clade's own order

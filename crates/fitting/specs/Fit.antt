@@ -4,7 +4,9 @@ use mathlib.Core.Bool.{Bool}
 use Prim.Native.Nat.{ℕ}
 use lib.Dec.{ltb}
 use lib.IntN.{ℤ}
-use Rattle.fitting.specs.Sets.{Span, only}
+use Rattle.fitting.specs.Sets.{only}
+use Rattle.fitting.specs.declared.spans.Span.{Span}
+use Rattle.fitting.specs.declared.characters.States.{States}
 use Rattle.fitting.specs.Clades.{cladesBelow}
 use Rattle.fitting.specs.Character.{valueAt, chosen, ranges}
 use Rattle.fitting.specs.Assignments.{character, branchLength, total}
@@ -21,6 +23,10 @@ module _ (tree : List ℕ) (rows : List (List ℤ)) (n : ℕ) where
   range v j =
       let code = character rows j in
       valueAt (only (code v)) (flatMap (ranges code (only (code 1))) (cladesBelow tree n)) v
+
+  -- the states of node v in character j: the lowest and the highest of its range, and the chosen one
+  unfoldable pub statesIn : ℕ → ℕ → States
+  statesIn v j = record { low = range v j .low; high = range v j .high; chosen = chosenState v j }
 
 -- `step j a b` is what a change between states a and b costs in character j
 module _ (step : ℕ → ℤ → ℤ → ℕ) (tree : List ℕ) (rows : List (List ℤ)) (n m : ℕ) where

@@ -4,4 +4,9 @@ pub mod Clades
 pub mod Character
 pub mod Assignments
 pub mod Fit
+pub mod Plans
+pub mod Steps
+pub mod Calls
+pub mod Handing
+pub mod Lists
 pub mod Rival

@@ -1,15 +1,12 @@
 -- Sets of states (document 01, "Fitting the inner states"; Swofford and Maddison 1987): closed intervals of whole numbers.
 use mathlib.Core.List.{List, [], _∷_}
 use mathlib.Core.Bool.{cond}
+use Prim.Native.Nat.{ℕ}
 use lib.IntN.{ℤ, pos}
 use lib.ListN.{getD}
 use lib.Signed.{leZ, _≤ℤ_}
-use Rattle.difference.specs.Rows.{lower, higher}
-
--- the states from low to high
-pub record Span : Type 0 where
-  pub low : ℤ
-  pub high : ℤ
+use Rattle.difference.specs.Rows.{apart, lower, higher}
+use Rattle.fitting.specs.declared.spans.Span.{Span}
 
 -- a state is a member of a set
 pub record In (state : ℤ) (a : Span) : Type 0 where
@@ -26,6 +23,13 @@ join a b =
     let start = higher (a .low) (b .low) in
     let end = lower (a .high) (b .high) in
     record { low = lower start end; high = higher start end }
+
+-- how far two sets lie from each other; 0 if they meet
+unfoldable pub gap : Span → Span → ℕ
+gap a b =
+    let start = higher (a .low) (b .low) in
+    let end = lower (a .high) (b .high) in
+    apart start (lower start end)
 
 -- the member of a set nearest to a state
 unfoldable pub nearestMember : ℤ → Span → ℤ

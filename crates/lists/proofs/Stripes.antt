@@ -1,12 +1,14 @@
 -- Laws of items written at a fixed width: the list keeps its length, each item stands at its place, and all else stays.
 use mathlib.Core.Path.{_≡_, refl, sym, ap, _∙_}
-use mathlib.Core.List.{List, [], _∷_, _++_}
+use mathlib.Core.List.{List, [], _∷_, _++_, map, map-append}
 use Prim.Native.Nat.{ℕ, zero, suc, _+_, _*_, _≤_, _<_}
 use native.Mathlib.Omega.{arith}
-use lib.ListN.{length, getD, take, drop, length-take, length-drop}
+use lib.ListN.{length, getD, set, take, drop, length-take, length-drop}
 use lib.Seq.{getD-take, getD-drop, ext-getD}
+use Rattle.lists.specs.Numbers.{numbers}
 use Rattle.lists.specs.Over.{over, stripes}
-use Rattle.lists.proofs.Over.{length-over, over-inside, over-before, over-behind}
+use Rattle.lists.proofs.Numbers.{numbers-snoc, length-map-numbers}
+use Rattle.lists.proofs.Over.{length-over, over-inside, over-before, over-behind, over-nothing, over-snoc}
 
 module _ {A : Type 0} where
   -- no item is wider than its place
@@ -101,3 +103,60 @@ module _ {A : Type 0} where
             getD-take size part i none below
             ∙ getD-drop start written i none
             ∙ stripes-inside none place items old narrow k i below (omega arith)
+
+-- one item written alone
+over-one : {A : Type 0} (place : ℕ) (x : A) (old : List A) → over place (x ∷ []) old ≡ set old place x
+over-one place x old =
+    let here : place + 0 ≡ place = omega arith in
+    sym (rw (over-nothing place old, here) at (over-snoc place [] old x))
+
+-- an item written before the place from which a list is written over
+over-set : {A : Type 0} (place : ℕ) (xs old : List A) (a : ℕ) (x : A) → a < place → set (over place xs old) a x ≡ over place xs (set old a x)
+unfolding over
+over-set zero xs old a x h = absurd (omega arith)
+over-set (suc place) xs [] a x h = refl
+over-set (suc place) xs (o ∷ old) zero x h = refl
+over-set (suc place) xs (o ∷ old) (suc a) x h = ap (λ rest. o ∷ rest) (over-set place xs old a x (omega arith))
+
+-- an item written before the place of the first stripe
+stripes-set : {A : Type 0} (width place : ℕ) (items : List (List A)) (old : List A) (a : ℕ) (x : A) → a < place
+    → set (stripes width place items old) a x ≡ stripes width place items (set old a x)
+unfolding stripes
+stripes-set width place [] old a x h = refl
+stripes-set width place (item ∷ items) old a x h =
+    stripes-set width (place + width) items (over place item old) a x (omega arith)
+    ∙ ap (stripes width (place + width) items) (over-set place item old a x h)
+
+-- single items written at a fixed width, for consecutive numbers: a column
+module _ {A : Type 0} (width place : ℕ) (f : ℕ → A) (first : ℕ) (old : List A) where
+  -- one more is written into its own place
+  pub column-next : (count : ℕ) → set (stripes width place (map (λ v. f v ∷ []) (numbers first count)) old) (place + count * width) (f (first + count))
+      ≡ stripes width place (map (λ v. f v ∷ []) (numbers first (suc count))) old
+  column-next count =
+      let items : ℕ → List A = λ v. f v ∷ [] in
+      let written = stripes width place (map items (numbers first count)) old in
+      sym (ap (λ (vs : List ℕ). stripes width place (map items vs) old) (numbers-snoc first count)
+      ∙ ap (λ (xs : List (List A)). stripes width place xs old) (map-append items (numbers first count) ((first + count) ∷ []))
+      ∙ stripes-snoc width place (map items (numbers first count)) (items (first + count)) old
+      ∙ ap (λ (k : ℕ). over (place + k * width) (items (first + count)) written) (length-map-numbers items first count)
+      ∙ over-one (place + count * width) (f (first + count)) written)
+
+-- a column written behind stripes of one size: each is one longer
+pub stripes-column : {A : Type 0} (width size : ℕ) (r : ℕ → List A) (x : ℕ → A) → ((v : ℕ) → length (r v) ≡ size) → size < width
+    → (vs : List ℕ) (place : ℕ) (old : List A)
+    → stripes width (place + size) (map (λ v. x v ∷ []) vs) (stripes width place (map r vs) old)
+    ≡ stripes width place (map (λ v. r v ++ (x v ∷ [])) vs) old
+unfolding stripes
+stripes-column width size r x each narrow [] place old = refl
+stripes-column width size r x each narrow (v ∷ vs) place old =
+    let below : place + size < place + width = omega arith in
+    let behind : place + size + width ≡ place + width + size = omega arith in
+    let written = stripes width (place + width) (map r vs) (over place (r v) old) in
+    let longer : over (place + size) (x v ∷ []) written ≡ stripes width (place + width) (map r vs) (over place (r v ++ (x v ∷ [])) old) =
+    over-one (place + size) (x v) written
+    ∙ stripes-set width (place + width) (map r vs) (over place (r v) old) (place + size) (x v) below
+    ∙ ap (stripes width (place + width) (map r vs))
+    (ap (λ (k : ℕ). set (over place (r v) old) (place + k) (x v)) (sym (each v)) ∙ over-snoc place (r v) old (x v)) in
+    ap (λ (k : ℕ). stripes width k (map (λ u. x u ∷ []) vs) (over (place + size) (x v ∷ []) written)) behind
+    ∙ ap (stripes width (place + width + size) (map (λ u. x u ∷ []) vs)) longer
+    ∙ stripes-column width size r x each narrow vs (place + width) (over place (r v ++ (x v ∷ [])) old)

@@ -7,7 +7,8 @@ use Prim.Native.String.{String}
 use lib.IntN.{ℤ, pos, negsuc}
 use Rattle.matrix_file.specs.Text.{bytes}
 use Rattle.difference.specs.Rows.{difference, median, intervalDifference}
-use Rattle.fitting.specs.Sets.{Span, join}
+use Rattle.fitting.specs.Sets.{join}
+use Rattle.fitting.specs.declared.spans.Span.{Span}
 use Rattle.listing.specs.Listing.{output}
 
 -- the set of the states from a to b

@@ -87,21 +87,22 @@ module _ (n : ℕ) (tree : List ℕ) (grown : Grown n n tree) where
       node is = either u n (λ l. absurd (taxon (is .0) l)) (λ l. htu l (is .1))
 
   -- the node that hangs from row 1 has the whole clade
-  first-whole : (v : ℕ) → 2 ≤ v → v ≤ 2 * n - 2 → ancestor tree v ≡ 1 → cladeFrom v ≡ cladeOf .clade
+  pub first-whole : (v : ℕ) → 2 ≤ v → v ≤ 2 * n - 2 → ancestor tree v ≡ 1 → cladeFrom v ≡ cladeOf .clade
   first-whole v p h e = ap cladeFrom (List·Memᴰ·eq-of-singleton m) ∙ cladeOf .fromRoot
     where
       m : List·Memᴰ v (cladeOf .root ∷ [])
       m = subst (λ us. List·Memᴰ v us) (cladeOf .ofRow1) (subst (λ u. List·Memᴰ v (descendants tree (otherNodes n) u)) e (among v p h))
+
+  -- the whole has no more than 2n nodes
+  clade-size : size (cladeOf .clade) ≤ 2 * n
+  clade-size = unfold size otherNodes in
+      omega (arith, cladeOf .sums (λ v. 1), length-sum (numbers 2 (2 * n - 3)), length-numbers 2 (2 * n - 3))
 
   -- a part of the whole that is a node's clade to some depth is the node's clade
   part-whole : (depth v : ℕ) → 2 ≤ v → v ≤ 2 * n - 2 → InWhole (cladeTo n tree grown depth v) → cladeFrom v ≡ cladeTo n tree grown depth v
   part-whole depth v p h part = cladeTo-whole n tree grown depth (2 * n) v p h
       (part-made n tree (cladeTo n tree grown depth v) (cladeOf .clade) part (cladeOf .isMade))
       (omega (arith, part-size (cladeTo n tree grown depth v) (cladeOf .clade) part, clade-size))
-    where
-      clade-size : size (cladeOf .clade) ≤ 2 * n
-      clade-size = unfold size otherNodes in
-          omega (arith, cladeOf .sums (λ v. 1), length-sum (numbers 2 (2 * n - 3)), length-numbers 2 (2 * n - 3))
 
   -- the clade of HTU u is the fork of its descendants' clades, which are parts of the whole
   record Split (u a b : ℕ) : Type 0 where
@@ -154,6 +155,14 @@ module _ (n : ℕ) (tree : List ℕ) (grown : Grown n n tree) where
       go : (k : ℕ) → Climbs tree k v → InWhole (cladeFrom v)
       go zero c = absurd (omega arith)
       go (suc k) c = part-climbs k v p h c
+
+  -- the clade of a node is a clade of n taxa
+  pub cladeFrom-made : (v : ℕ) → 2 ≤ v → v ≤ 2 * n - 2 → Made n tree (cladeFrom v)
+  cladeFrom-made v p h = part-made n tree (cladeFrom v) (cladeOf .clade) (part-of v p h) (cladeOf .isMade)
+
+  -- it has no more than 2n nodes
+  pub cladeFrom-size : (v : ℕ) → 2 ≤ v → v ≤ 2 * n - 2 → size (cladeFrom v) ≤ 2 * n
+  cladeFrom-size v p h = omega (arith, part-size (cladeFrom v) (cladeOf .clade) (part-of v p h), clade-size)
 
   -- the clade of a taxon is a tip
   pub cladeFrom-taxon : (v : ℕ) → 2 ≤ v → v ≤ n → cladeFrom v ≡ tip v

@@ -2,24 +2,25 @@
 -- from those of its ancestor, its range from the sets of its descendants and its outside.
 use mathlib.Core.Path.{_≡_, sym, _∙_, ap, subst}
 use mathlib.Core.List.{List}
-use Prim.Native.Nat.{ℕ, _*_, _-_, _≤_}
+use Prim.Native.Nat.{ℕ, _+_, _*_, _-_, _≤_}
 use native.Mathlib.Omega.{arith}
 use lib.IntN.{ℤ}
 use Rattle.branching.specs.Ancestors.{ancestor}
 use Rattle.branching.specs.Facts.{Grown}
-use Rattle.fitting.specs.Sets.{Span, only, join, nearestMember, middle}
+use Rattle.fitting.specs.Sets.{only, join, gap, nearestMember, middle}
+use Rattle.fitting.specs.declared.spans.Span.{Span}
 use Rattle.fitting.specs.Character.{valueAt, up}
 use Rattle.fitting.specs.Assignments.{character}
 use Rattle.fitting.specs.Fit.{chosenState, range}
+use Rattle.fitting.specs.Steps.{leastCost, setOf, costOf, outsideOf}
 use Rattle.fitting.proofs.Clades.Sides.{Side, on, other, on-map}
 use Rattle.fitting.proofs.Clades.Parts.{handed}
-use Rattle.fitting.proofs.Clades.Downward.{downward}
 use Rattle.fitting.proofs.Clades.Built.{Htu}
 use Rattle.fitting.proofs.Clades.Hanging.{Hangs, fromRow1, fromHtu, hangs, cladeOf, InWhole, cladeFrom, cladeFrom-taxon}
 use Rattle.fitting.proofs.Clades.Hanging.{cladeFrom-htu, htu-second, htu-part, value-part, hands, first-handed}
-use Rattle.fitting.proofs.OneCharacter.Passes.{stateFrom, stateTo, rangeFrom, outsideTo, ranges-downward}
+use Rattle.fitting.proofs.OneCharacter.Passes.{stateFrom, stateTo, rangeFrom, outsideTo, ranges-downward, outsides-downward}
 use Rattle.fitting.proofs.OneCharacter.Chosen.{fit-downward}
-use Rattle.fitting.proofs.Matrix.OneClade.{chosenState-fit, chosenState-taxon, range-clade}
+use Rattle.fitting.proofs.Matrix.OneClade.{chosenState-fit, chosenState-taxon, range-clade, outside-clade}
 
 module _ (n : ℕ) (tree : List ℕ) (grown : Grown n n tree) (rows : List (List ℤ)) (j : ℕ) where
   -- the codes of character j
@@ -31,18 +32,29 @@ module _ (n : ℕ) (tree : List ℕ) (grown : Grown n n tree) (rows : List (List
   stateAt v = chosenState tree rows n v j
 
   -- the set of a node from the tips up
-  unfoldable pub setAt : ℕ → Span
-  setAt v = up code (cladeFrom n tree grown v)
+  abbrev setAt : ℕ → Span
+  setAt v = setOf tree n code v
 
   -- a taxon's set is its code alone
   pub set-taxon : (v : ℕ) → 2 ≤ v → v ≤ n → setAt v ≡ only (code v)
-  unfolding setAt up
+  unfolding setOf up
   set-taxon v p l = ap (up code) (cladeFrom-taxon n tree grown v p l)
 
   -- an HTU's set joins those of its two descendants
   pub set-htu : (u a b : ℕ) → Htu n tree u a b → setAt u ≡ join (setAt a) (setAt b)
-  unfolding setAt up
+  unfolding setOf up
   set-htu u a b htu = ap (up code) (cladeFrom-htu n tree grown u a b htu)
+
+  -- the least cost of a taxon's clade is 0
+  pub cost-taxon : (v : ℕ) → 2 ≤ v → v ≤ n → costOf tree n code v ≡ 0
+  unfolding costOf leastCost
+  cost-taxon v p l = ap (leastCost code) (cladeFrom-taxon n tree grown v p l)
+
+  -- the least cost of an HTU's clade: how far the sets of its descendants lie from each other, and the least costs of their clades
+  pub cost-htu : (u a b : ℕ) → Htu n tree u a b →
+      costOf tree n code u ≡ gap (setAt a) (setAt b) + (costOf tree n code a + costOf tree n code b)
+  unfolding costOf setOf leastCost
+  cost-htu u a b htu = ap (leastCost code) (cladeFrom-htu n tree grown u a b htu)
 
   -- what is handed to a part of the clade as the state above it
   seenState : (v : ℕ) → InWhole n tree grown (cladeFrom n tree grown v) → ℤ
@@ -62,7 +74,7 @@ module _ (n : ℕ) (tree : List ℕ) (grown : Grown n n tree) (rows : List (List
   state-nearest u a b htu p = state-part u a b htu p ∙ unfold stateFrom in ap (nearestMember (seenState u p)) (sym both)
     where
       both : setAt u ≡ join (up code (cladeFrom n tree grown a)) (up code (cladeFrom n tree grown b))
-      both = unfold setAt up in ap (up code) (cladeFrom-htu n tree grown u a b htu)
+      both = unfold setOf up in ap (up code) (cladeFrom-htu n tree grown u a b htu)
 
   -- to every node below row 1 is handed the state chosen for its ancestor
   seen-ancestor : (v : ℕ) → 2 ≤ v → Hangs n tree v → v ≤ 2 * n - 2 →
@@ -92,14 +104,15 @@ module _ (n : ℕ) (tree : List ℕ) (grown : Grown n n tree) (rows : List (List
       state-nearest v a b htu (q .0) ∙ ap (λ y. nearestMember y (setAt v)) (q .1)
 
   -- the outside of an HTU: the set of all nodes that are not in its clade
-  unfoldable pub outsideAt : ℕ → Span
-  outsideAt v = valueAt (only (code 1)) (downward (λ x a b. x) (outsideTo code) (only (code 1)) (cladeOf n tree grown .clade)) v
+  abbrev outsideAt : ℕ → Span
+  outsideAt v = outsideOf tree n code v
 
   -- the outside of an HTU is what is handed to it
   outside-part : (u a b : ℕ) → Htu n tree u a b → (p : InWhole n tree grown (cladeFrom n tree grown u)) →
       outsideAt u ≡ handed (outsideTo code) (only (code 1)) p
-  unfolding outsideAt
-  outside-part u a b htu p = value-part n tree grown u a b htu (λ x a b. x) (outsideTo code) (only (code 1)) (only (code 1)) p
+  outside-part u a b htu p = outside-clade n tree rows (cladeOf n tree grown) u j
+      ∙ ap (λ values. valueAt (only (code 1)) values u) (outsides-downward code (only (code 1)) (cladeOf n tree grown .clade))
+      ∙ value-part n tree grown u a b htu (λ x a b. x) (outsideTo code) (only (code 1)) (only (code 1)) p
 
   -- the outside of the HTU that hangs from row 1 is row 1's code
   pub outside-first : (v a b : ℕ) → Htu n tree v a b → ancestor tree v ≡ 1 → outsideAt v ≡ only (code 1)
@@ -110,7 +123,7 @@ module _ (n : ℕ) (tree : List ℕ) (grown : Grown n n tree) (rows : List (List
   -- the outside of any other HTU is the join of its sister's set and the outside of its ancestor
   pub outside-below : (side : Side) (u a b c d : ℕ) → Htu n tree u a b → Htu n tree (on side a b) c d →
       outsideAt (on side a b) ≡ join (setAt (on (other side) a b)) (outsideAt u)
-  unfolding outsideTo setAt
+  unfolding outsideTo setOf
   outside-below side u a b c d htu lower =
       let p = htu-part n tree grown u a b htu in
       let q = hands n tree grown u a b htu (outsideTo code) (only (code 1)) side p in
@@ -125,6 +138,6 @@ module _ (n : ℕ) (tree : List ℕ) (grown : Grown n n tree) (rows : List (List
   range-htu u a b htu = range-clade n tree rows (cladeOf n tree grown) u j
       ∙ ap (λ values. valueAt (only (code u)) values u) (ranges-downward code (only (code 1)) (cladeOf n tree grown .clade))
       ∙ value-part n tree grown u a b htu (rangeFrom code) (outsideTo code) (only (code 1)) (only (code u)) (htu-part n tree grown u a b htu)
-      ∙ unfold rangeFrom setAt in
+      ∙ unfold rangeFrom setOf in
       ap (middle (up code (cladeFrom n tree grown a)) (up code (cladeFrom n tree grown b)))
       (sym (outside-part u a b htu (htu-part n tree grown u a b htu)))

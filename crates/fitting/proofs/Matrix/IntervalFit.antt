@@ -13,7 +13,8 @@ use Rattle.fitting.proofs.Sets.Distance.{offset, only-nonempty}
 use Rattle.fitting.proofs.Clades.Nodes.{htus}
 use Rattle.fitting.proofs.Clades.Cost.{Keeps, cost}
 use Rattle.fitting.proofs.Clades.Agree.{keeps-agree, cost-agree}
-use Rattle.fitting.proofs.OneCharacter.Basic.{leastCost, basic-lemma}
+use Rattle.fitting.proofs.OneCharacter.Basic.{basic-lemma}
+use Rattle.fitting.specs.Steps.{leastCost}
 use Rattle.fitting.proofs.OneCharacter.Chosen.{fit-keeps, fit-cost, fit}
 use Rattle.fitting.proofs.OneCharacter.Range.{cost-row1, least-row1, range-holds, range-attained}
 use Rattle.fitting.proofs.Clades.Built.{CladeOf}
@@ -32,6 +33,11 @@ module _ (n : ℕ) (tree : List ℕ) (rows : List (List ℤ)) (taxa : 1 ≤ n) (
   -- the chosen states of character j
   abbrev states : ℕ → ℤ
   states v = chosenState tree rows n v j
+
+  -- the chosen states cost the least: the least cost of the clade, and how far row 1's code lies from its set
+  pub states-cost : cost apart states (code 1) clade ≡ leastCost code clade + offset (code 1) (up code clade)
+  states-cost = cost-agree apart states (fit code (code 1) clade) (code 1) clade (λ w h. chosenState-fit n tree rows cladeOf w j)
+      ∙ fit-cost code (code 1) clade (cladeOf .isDistinct)
 
   -- the least cost of the character
   leastFor : ℕ
@@ -68,8 +74,7 @@ module _ (n : ℕ) (tree : List ℕ) (rows : List (List ℤ)) (taxa : 1 ≤ n) (
     row1 = chosenState-taxon n tree rows cladeOf 1 j taxa;
     keeps = keeps-agree code states (fit code (code 1) clade) clade (λ w h. chosenState-fit n tree rows cladeOf w j)
         (fit-keeps code (code 1) clade (cladeOf .isDistinct));
-    costs = cost-agree apart states (fit code (code 1) clade) (code 1) clade (λ w h. chosenState-fit n tree rows cladeOf w j)
-        ∙ fit-cost code (code 1) clade (cladeOf .isDistinct);
+    costs = states-cost;
     sound = range-sound;
     reached = range-reached;
   }

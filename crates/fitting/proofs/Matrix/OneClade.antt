@@ -4,8 +4,10 @@ use mathlib.Core.List.{List, flatMap, append-nil, List·Memᴰ}
 use Prim.Native.Nat.{ℕ, _-_, _≤_}
 use native.Mathlib.Omega.{arith}
 use lib.IntN.{ℤ}
-use Rattle.fitting.specs.Sets.{Span, only}
+use Rattle.fitting.specs.Sets.{only}
+use Rattle.fitting.specs.declared.spans.Span.{Span}
 use Rattle.fitting.specs.Clades.{Clade}
+use Rattle.fitting.specs.Steps.{outsides, outsideOf}
 use Rattle.fitting.specs.Character.{ByNode, valueAt, chosen, ranges}
 use Rattle.fitting.specs.Assignments.{character}
 use Rattle.fitting.specs.Fit.{chosenState, range}
@@ -31,6 +33,13 @@ module _ (n : ℕ) (tree : List ℕ) (rows : List (List ℤ)) (cladeOf : CladeOf
       range tree rows n v j ≡ valueAt (only (character rows j v)) (ranges (character rows j) (only (character rows j 1)) clade) v
   unfolding range
   range-clade v j = rw (cladeOf .below) (unfold flatMap in rw (append-nil (ranges (character rows j) (only (character rows j 1)) clade)))
+
+  -- the outside of a node is that of the one clade
+  pub outside-clade : (v j : ℕ) →
+      outsideOf tree n (character rows j) v
+      ≡ valueAt (only (character rows j 1)) (outsides (character rows j) (only (character rows j 1)) clade) v
+  unfolding outsideOf
+  outside-clade v j = rw (cladeOf .below) (unfold flatMap in rw (append-nil (outsides (character rows j) (only (character rows j 1)) clade)))
 
   -- among values of the clade's HTUs a taxon has none
   taxon-absent : {A : Type 0} (otherwise : A) (values : ByNode A) → keys values ≡ htus clade → (v : ℕ) → v ≤ n →

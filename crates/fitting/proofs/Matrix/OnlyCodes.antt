@@ -13,7 +13,8 @@ use lib.Signed.{leZ}
 use Rattle.difference.specs.Rows.{lower}
 use Rattle.difference.proofs.Laws.Order.{lower-keeps, higher-keeps}
 use Rattle.branching.specs.Facts.{Grown}
-use Rattle.fitting.specs.Sets.{Span, only, join, nearestMember, insert, inOrder, sixEnds, middle}
+use Rattle.fitting.specs.Sets.{only, join, nearestMember, insert, inOrder, sixEnds, middle}
+use Rattle.fitting.specs.declared.spans.Span.{Span}
 use Rattle.fitting.specs.Clades.{Clade, tip, fork}
 use Rattle.fitting.specs.Character.{up, chosen, ranges}
 use Rattle.fitting.specs.Assignments.{character}

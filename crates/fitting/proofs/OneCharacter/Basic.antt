@@ -8,17 +8,13 @@ use Rattle.difference.specs.Rows.{apart}
 use Rattle.difference.proofs.Laws.Codes.{apart-sym}
 use Rattle.fitting.specs.Sets.{In, join, nearestMember}
 use Rattle.fitting.specs.Clades.{Clade, tip, fork}
+use Rattle.fitting.specs.Steps.{leastCost}
 use Rattle.fitting.specs.Character.{up}
 use Rattle.fitting.proofs.Clades.Cost.{Keeps, cost}
-use Rattle.fitting.proofs.Sets.Distance.{Nonempty, offset, gap, join-nonempty, only-nonempty, nearestMember-in, offset-triangle}
+use Rattle.fitting.proofs.Sets.Distance.{Nonempty, offset, join-nonempty, only-nonempty, nearestMember-in, offset-triangle}
 use Rattle.fitting.proofs.Sets.Distance.{offset-only, offset-join, offset-in-join}
 
 module _ (code : ℕ → ℤ) where
-  -- the least cost within a clade: the gaps between the sets of sisters
-  unfoldable pub leastCost : Clade → ℕ
-  leastCost (tip v) = 0
-  leastCost (fork v a b) = gap (up code a) (up code b) + (leastCost a + leastCost b)
-
   -- the set of a clade has a member
   pub up-nonempty : (t : Clade) → Nonempty (up code t)
   unfolding up
@@ -26,7 +22,7 @@ module _ (code : ℕ → ℤ) where
   up-nonempty (fork v a b) = join-nonempty (up code a) (up code b)
 
   -- every assignment that keeps the codes costs at least that and the distance of the state above from the clade's set
-  pub basic-lemma : (f : ℕ → ℤ) (y : ℤ) (t : Clade) → Keeps code f t → leastCost t + offset y (up code t) ≤ cost apart f y t
+  pub basic-lemma : (f : ℕ → ℤ) (y : ℤ) (t : Clade) → Keeps code f t → leastCost code t + offset y (up code t) ≤ cost apart f y t
   unfolding cost leastCost up
   basic-lemma f y (tip v) k = rw (k, offset-only y (code v), apart-sym y (code v)) (omega arith)
   basic-lemma f y (fork v a b) k =
@@ -43,9 +39,9 @@ module _ (code : ℕ → ℤ) where
   -- an assignment that gives a clade's top node the nearest member of its set, and is least below it, costs no more
   pub basic-step : (y : ℤ) (v : ℕ) (a b : Clade) (f : ℕ → ℤ) →
       f v ≡ nearestMember y (join (up code a) (up code b)) →
-      cost apart f (f v) a ≡ leastCost a + offset (f v) (up code a) →
-      cost apart f (f v) b ≡ leastCost b + offset (f v) (up code b) →
-      cost apart f y (fork v a b) ≡ leastCost (fork v a b) + offset y (up code (fork v a b))
+      cost apart f (f v) a ≡ leastCost code a + offset (f v) (up code a) →
+      cost apart f (f v) b ≡ leastCost code b + offset (f v) (up code b) →
+      cost apart f y (fork v a b) ≡ leastCost code (fork v a b) + offset y (up code (fork v a b))
   unfolding cost leastCost up
   basic-step y v a b f own p q =
       let j = join (up code a) (up code b) in

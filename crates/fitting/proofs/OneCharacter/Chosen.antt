@@ -13,7 +13,8 @@ use Rattle.fitting.proofs.Clades.Nodes.{Separate, Distinct}
 use Rattle.fitting.proofs.Clades.Downward.{downward, downward-top, downward-on}
 use Rattle.fitting.proofs.Clades.Cost.{Keeps, cost}
 use Rattle.fitting.proofs.Clades.Agree.{Agree, cost-agree, keeps-agree}
-use Rattle.fitting.proofs.OneCharacter.Basic.{leastCost, basic-step}
+use Rattle.fitting.proofs.OneCharacter.Basic.{basic-step}
+use Rattle.fitting.specs.Steps.{leastCost}
 use Rattle.fitting.proofs.OneCharacter.Passes.{stateFrom, stateTo, chosen-downward}
 
 module _ (code : ℕ → ℤ) where

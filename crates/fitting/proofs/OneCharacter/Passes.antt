@@ -3,8 +3,10 @@ use mathlib.Core.Path.{_≡_, refl, ap₂}
 use mathlib.Core.List.{_∷_, _++_}
 use Prim.Native.Nat.{ℕ}
 use lib.IntN.{ℤ}
-use Rattle.fitting.specs.Sets.{Span, join, nearestMember, middle}
+use Rattle.fitting.specs.Sets.{join, nearestMember, middle}
+use Rattle.fitting.specs.declared.spans.Span.{Span}
 use Rattle.fitting.specs.Clades.{Clade, tip, fork}
+use Rattle.fitting.specs.Steps.{outsides}
 use Rattle.fitting.specs.Character.{up, chosen, ranges}
 use Rattle.fitting.proofs.Clades.Sides.{Side, on, other}
 use Rattle.fitting.proofs.Clades.Nodes.{htus}
@@ -51,3 +53,11 @@ module _ (code : ℕ → ℤ) where
   -- the nodes with a range are the HTUs
   pub ranges-htus : (outside : Span) (t : Clade) → keys (ranges code outside t) ≡ htus t
   ranges-htus outside t = rw (ranges-downward outside t) (downward-keys rangeFrom outsideTo outside t)
+
+  -- the outsides are values found so
+  pub outsides-downward : (outside : Span) (t : Clade) → outsides code outside t ≡ downward (λ x a b. x) outsideTo outside t
+  unfolding outsides downward outsideTo
+  outsides-downward outside (tip v) = refl
+  outsides-downward outside (fork v a b) =
+      ap₂ (λ l r. (v, outside) ∷ (l ++ r)) (outsides-downward (join (up code b) outside) a)
+      (outsides-downward (join (up code a) outside) b)

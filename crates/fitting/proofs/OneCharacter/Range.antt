@@ -9,14 +9,17 @@ use native.Mathlib.Omega.{arith}
 use lib.IntN.{ℤ}
 use Rattle.difference.specs.Rows.{apart}
 use Rattle.difference.proofs.Laws.Codes.{apart-self}
-use Rattle.fitting.specs.Sets.{In, Span, only, join, nearestMember, middle}
+use Rattle.fitting.specs.Sets.{In, only, join, nearestMember, middle}
+use Rattle.fitting.specs.declared.spans.Span.{Span}
 use Rattle.fitting.specs.Clades.{Clade, tip, fork}
 use Rattle.fitting.specs.Character.{up, ranges}
-use Rattle.fitting.proofs.Sets.Distance.{Nonempty, offset, gap, gap-comm, gap-only, only-nonempty, join-nonempty, nearestMember-in}
+use Rattle.fitting.proofs.Sets.Distance.{Nonempty, offset, gap-comm, gap-only, only-nonempty, join-nonempty, nearestMember-in}
+use Rattle.fitting.specs.Sets.{gap}
 use Rattle.fitting.proofs.Sets.Distance.{offset-triangle, offset-only, offset-join, offset-in-join}
 use Rattle.fitting.proofs.Sets.Three.{leastSum, leastSum-least, leastSum-turn, leastSum-swap, middle-least, least-middle}
 use Rattle.fitting.proofs.Clades.Cost.{Keeps, cost, within, cost-top}
-use Rattle.fitting.proofs.OneCharacter.Basic.{leastCost, up-nonempty, basic-lemma}
+use Rattle.fitting.proofs.OneCharacter.Basic.{up-nonempty, basic-lemma}
+use Rattle.fitting.specs.Steps.{leastCost}
 use Rattle.fitting.proofs.Clades.Nodes.{has, Separate, Distinct, separate-swap, htus-has, top}
 use Rattle.fitting.proofs.Clades.Agree.{Agree, cost-agree, keeps-agree, combined, combined-top, combined-left, combined-right}
 use Rattle.fitting.proofs.OneCharacter.Passes.{ranges-htus}

@@ -6,10 +6,11 @@ use native.Mathlib.Nat.{max-comm, min-comm}
 use native.Mathlib.Omega.{arith}
 use lib.IntN.{ℤ}
 use lib.Signed.{_≤ℤ_, ≤ℤ-refl}
-use Rattle.difference.specs.Rows.{apart, lower, higher}
+use Rattle.difference.specs.Rows.{apart}
 use Rattle.difference.proofs.Laws.Codes.{apart-sym}
 use Rattle.difference.proofs.Laws.Places.{place, apart-place, lower-place, higher-place, le-place, place-le, everywhere}
-use Rattle.fitting.specs.Sets.{Span, In, only, join, nearestMember}
+use Rattle.fitting.specs.Sets.{In, only, join, gap, nearestMember}
+use Rattle.fitting.specs.declared.spans.Span.{Span}
 use Rattle.fitting.proofs.Sets.Ends.{either-side, join-apart, in-join, nearest-apart}
 
 -- a set has at least one member
@@ -19,13 +20,6 @@ pub record Nonempty (a : Span) : Type 0 where
 -- how far a state lies from a set: its difference from the nearest member
 unfoldable pub offset : ℤ → Span → ℕ
 offset s a = apart s (nearestMember s a)
-
--- how far two sets lie from each other; 0 if they meet
-unfoldable pub gap : Span → Span → ℕ
-gap a b =
-    let start = higher (a .low) (b .low) in
-    let end = lower (a .high) (b .high) in
-    apart start (lower start end)
 
 -- the set from one state to another
 abbrev pub span : ℤ → ℤ → Span

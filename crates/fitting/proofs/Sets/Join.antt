@@ -7,7 +7,8 @@ use native.Mathlib.Nat.{max-comm, min-comm}
 use native.Mathlib.Omega.{arith}
 use lib.IntN.{ℤ}
 use Rattle.difference.proofs.Laws.Places.{place, everywhere}
-use Rattle.fitting.specs.Sets.{In, Span, join, nearestMember}
+use Rattle.fitting.specs.Sets.{In, join, nearestMember}
+use Rattle.fitting.specs.declared.spans.Span.{Span}
 use Rattle.fitting.proofs.Cases.{either}
 use Rattle.fitting.proofs.Sets.Distance.{Nonempty, span, join-places, nearestMember-places, nonempty-places, in-places, places-in}
 use Rattle.fitting.proofs.Sets.Distance.{nearestMember-in}

@@ -6,9 +6,11 @@ use native.Mathlib.Nat.{le-antisymm}
 use native.Mathlib.Omega.{arith}
 use lib.IntN.{ℤ}
 use Rattle.difference.specs.Rows.{apart}
-use Rattle.fitting.specs.Sets.{In, Span, join, nearestMember, inOrder, sixEnds, middle}
+use Rattle.fitting.specs.Sets.{In, join, nearestMember, inOrder, sixEnds, middle}
+use Rattle.fitting.specs.declared.spans.Span.{Span}
 use Rattle.fitting.proofs.Sets.Order.{spread, rising-inOrder, spread-inOrder, length-inOrder, third-to-fourth, third-to-fourth-of}
-use Rattle.fitting.proofs.Sets.Distance.{Nonempty, offset, gap, join-nonempty, nearestMember-in, offset-join, offset-in-join}
+use Rattle.fitting.proofs.Sets.Distance.{Nonempty, offset, join-nonempty, nearestMember-in, offset-join, offset-in-join}
+use Rattle.fitting.specs.Sets.{gap}
 use Rattle.fitting.proofs.Sets.Distance.{offset-nearestMember, offset-ends}
 
 -- the least sum of a state's distances from three sets

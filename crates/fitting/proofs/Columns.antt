@@ -1,0 +1,105 @@
+-- The columns of a lent matrix are its characters, and their lengths under the chosen states stay small.
+use mathlib.Core.Path.{_≡_, sym, _∙_, ap}
+use mathlib.Core.Logic.{by-cases}
+use mathlib.Core.List.{List, [], _∷_, _++_}
+use mathlib.Core.Bool.{true}
+use Prim.Native.Nat.{ℕ, suc, _+_, _*_, _-_, _≤_, _<_}
+use native.Mathlib.Omega.{arith}
+use native.Mathlib.Decide.{decLe}
+use lib.IntN.{ℤ, pos}
+use lib.ListN.{length, getD}
+use Rattle.lists.specs.Numbers.{numbers}
+use Rattle.lists.specs.Sums.{sumOver}
+use Rattle.lists.proofs.Every.{every-at}
+use Rattle.lists.proofs.Numbers.{numbers-within, length-numbers, numbers-snoc}
+use Rattle.lists.proofs.Sums.{sum-most, sum-snoc}
+use Rattle.matrix.specs.Shape.{row, rowStart, inRange}
+use Rattle.matrix.specs.NodeRows.{rowsOf}
+use Rattle.matrix.specs.Questions.{LentMatrix, allInRange}
+use Rattle.matrix.proofs.NodeRows.{getD-rowsOf}
+use Rattle.matrix.proofs.Row.{row-code, row-length}
+use Rattle.branching.specs.Nodes.{otherNodes}
+use Rattle.branching.specs.Within.{branchingWithin}
+use Rattle.fitting.specs.Assignments.{character}
+use Rattle.fitting.specs.Steps.{Column, Codes, characterLength}
+use Rattle.fitting.proofs.Clades.Hanging.{cladeOf}
+use Rattle.fitting.proofs.Matrix.LeastCost.{character-cost, cost-most, gap-row1}
+use Rattle.fitting.proofs.Pass.Standing.{taxa-most, grown-of, root-within}
+
+-- where there is no branch a character has no length
+no-branch : (tree : List ℕ) (rows : List (List ℤ)) (n j : ℕ) → 2 * n - 3 ≡ 0 → characterLength tree rows n j ≡ 0
+unfolding characterLength otherNodes sumOver numbers
+no-branch tree rows n j none = rw none
+
+-- the lengths of one character more
+pub characters-next : (tree : List ℕ) (rows : List (List ℤ)) (n j : ℕ) → 1 ≤ j
+    → sumOver (characterLength tree rows n) (numbers 1 (j + 1 - 1))
+    ≡ sumOver (characterLength tree rows n) (numbers 1 (j - 1)) + characterLength tree rows n j
+characters-next tree rows n j first =
+    let one : j + 1 - 1 ≡ suc (j - 1) = omega arith in
+    let last : 1 + (j - 1) ≡ j = omega arith in
+    rw one
+    (ap (sumOver (characterLength tree rows n)) (numbers-snoc 1 (j - 1) ∙ ap (λ (k : ℕ). numbers 1 (j - 1) ++ (k ∷ [])) last)
+    ∙ sum-snoc (characterLength tree rows n) (numbers 1 (j - 1)) j)
+
+-- a lent matrix of n taxa and m characters
+module _ (codes : List ℤ) (n m : ℕ) (lent : LentMatrix codes n m) where
+  -- the rows of its taxa
+  abbrev rows : List (List ℤ)
+  rows = rowsOf codes m n
+
+  -- the code of taxon v in character j stands in column j of its row
+  pub character-code : (v j : ℕ) → 1 ≤ v → v ≤ n → 1 ≤ j → j ≤ m → character rows j v ≡ getD codes (rowStart v + (j - 1)) (pos 0)
+  unfolding character
+  character-code v j l h first last =
+      let here : suc (v - 1) ≡ v = omega arith in
+      ap (λ (r : List ℤ). getD r (j - 1) (pos 0)) (getD-rowsOf codes m n (v - 1) (omega arith) ∙ ap (row codes m) here)
+      ∙ row-code codes m v (j - 1) (omega arith)
+
+  -- it is from -999 to 999
+  pub character-known : (v j : ℕ) → 1 ≤ v → v ≤ n → 1 ≤ j → j ≤ m → inRange (character rows j v) ≡ true
+  unfolding allInRange
+  character-known v j l h first last =
+      let few = lent .taxa in
+      let size = row-length codes m v (lent .full) (lent .characters) l (omega arith) in
+      let below : j - 1 < length (row codes m v) = omega arith in
+      rw (character-code v j l h first last ∙ sym (row-code codes m v (j - 1) (omega arith)))
+      (every-at inRange (row codes m v) (lent .known v l h) (j - 1) (pos 0) below)
+
+  -- so a column has the codes of a character
+  pub column-codes : (j : ℕ) → 1 ≤ j → j ≤ m → (column : List ℤ) → Column codes n j column → Codes rows n j column
+  column-codes j first last column is = record {
+    taxon = lent .taxon;
+    are = λ v l h. is .are v l h ∙ sym (character-code v j l h first last);
+    known = λ v l h. character-known v j l h first last;
+  }
+
+  module _ (tree : List ℕ) (branches : branchingWithin n tree ≡ true) where
+    -- a character's length is small
+    character-most : (j : ℕ) → 1 ≤ j → j ≤ m → characterLength tree rows n j ≤ 300000
+    character-most j first last =
+        by-cases (decLe 2 n)
+        (λ two.
+        let grown = grown-of n tree branches two in
+        let clade = cladeOf n tree grown in
+        let place = root-within n tree grown in
+        let known : (u : ℕ) → 1 ≤ u → u ≤ n → inRange (character rows j u) ≡ true = λ u l h. character-known u j l h first last in
+        omega (
+          arith,
+          character-cost n tree grown rows j (clade .root) (clade .ofRow1),
+          cost-most n tree grown rows j known (clade .root) (place .0) (place .1),
+          gap-row1 n tree grown rows j known (clade .root) (place .0) (place .1),
+          taxa-most n tree branches,
+        ))
+        (λ few.
+        let none : 2 * n - 3 ≡ 0 = omega arith in
+        omega (arith, no-branch tree rows n j none))
+
+    -- and so are the lengths of the first characters together
+    pub characters-most : (k : ℕ) → k ≤ m → sumOver (characterLength tree rows n) (numbers 1 k) ≤ k * 300000
+    characters-most k last =
+        let most =
+        sum-most (characterLength tree rows n) 300000 (numbers 1 k) (λ j i.
+        let w = numbers-within 1 k j i in
+        character-most j (w .0) (omega (arith, w .1))) in
+        rw (length-numbers 1 k) at most

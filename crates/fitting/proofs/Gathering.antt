@@ -1,0 +1,163 @@
+-- A matrix fitted character after character: what is written and summed with one character more.
+use mathlib.Core.Path.{_≡_, refl, sym, _∙_, ap, ap₂}
+use mathlib.Core.List.{List, [], _∷_, map, List·Memᴰ, List·Memᴰ·head, List·Memᴰ·tail}
+use mathlib.Core.Bool.{true}
+use Prim.Native.Nat.{ℕ, _+_, _*_, _-_, _≤_, _<_}
+use native.Mathlib.Omega.{arith}
+use lib.IntN.{ℤ}
+use lib.ListN.{getD, replicate}
+use Rattle.lists.specs.Numbers.{numbers}
+use Rattle.lists.specs.Over.{stripes}
+use Rattle.lists.specs.Sums.{sumOver}
+use Rattle.lists.proofs.Filled.{getD-replicate}
+use Rattle.lists.proofs.Numbers.{numbers-within, length-numbers}
+use Rattle.lists.proofs.Sums.{sum-most}
+use Rattle.matrix.specs.Shape.{columns, rowStart, lastNode, inRange}
+use Rattle.matrix.specs.NodeRows.{rowsOf}
+use Rattle.matrix.specs.Questions.{LentMatrix}
+use Rattle.difference.specs.Rows.{apart, plain}
+use Rattle.difference.proofs.Laws.Codes.{apart-inRange}
+use Rattle.branching.specs.Ancestors.{ancestor}
+use Rattle.branching.specs.Within.{branchingWithin}
+use Rattle.branching.proofs.Walks.{branching-rooted}
+use Rattle.fitting.specs.Assignments.{character, branchLength}
+use Rattle.fitting.specs.Fit.{chosenState, statesIn, fittedLength}
+use Rattle.fitting.specs.Steps.{Column, Fits, statesAt}
+use Rattle.fitting.specs.Calls.{stateIn, statesWritten}
+use Rattle.fitting.specs.Lists.{withColumn, Lengthened, Written}
+use Rattle.fitting.specs.declared.characters.States.{States}
+use Rattle.fitting.specs.declared.whole.Which.{Which}
+use Rattle.fitting.specs.declared.whole.Which.the-variants.{Low, High, Chosen}
+use Rattle.fitting.proofs.Filling.{sum-next}
+use Rattle.fitting.proofs.Columns.{column-codes, character-known}
+use Rattle.fitting.proofs.Rewriting.{written-none, written-next}
+use Rattle.fitting.proofs.Matrix.OnlyCodes.{chosenState-each}
+use Rattle.fitting.proofs.Pass.Standing.{branching-parts, taxa-most, grown-of, last-several}
+
+-- lists of what is the same for each number of a list are the same
+map-on : {A : Type 0} (f g : ℕ → A) (vs : List ℕ) → ((v : ℕ) → List·Memᴰ v vs → f v ≡ g v) → map f vs ≡ map g vs
+map-on f g [] same = refl
+map-on f g (v ∷ vs) same = ap₂ (λ x xs. x ∷ xs) (same v (List·Memᴰ·head refl)) (map-on f g vs (λ u m. same u (List·Memᴰ·tail m)))
+
+-- a column of what is the same for each HTU is the same
+column-same : (n j : ℕ) (f g : ℕ → ℤ) (old : List ℤ) → ((v : ℕ) → n < v → v ≤ 2 * n - 2 → f v ≡ g v) → withColumn n j f old ≡ withColumn n j g old
+unfolding withColumn
+column-same n j f g old same =
+    ap (λ (items : List (List ℤ)). stripes columns (rowStart (n + 1) + (j - 1)) items old)
+    (map-on (λ v. f v ∷ []) (λ v. g v ∷ []) (numbers (n + 1) (n - 2))
+    (λ v m. let w = numbers-within (n + 1) (n - 2) v m in ap (λ z. z ∷ []) (same v (omega (arith, w .0)) (omega (arith, w .1)))))
+
+-- before the first character nothing is written and every length is 0
+pub start-written : (matrix : List ℤ) (n m : ℕ) (tree : List ℕ) (low high chosen : List ℤ) →
+    Written matrix n m 0 tree low low high high chosen chosen (replicate 127 0)
+start-written matrix n m tree low high chosen = record {
+  isLow = λ branches lent. sym (written-none Low tree (rowsOf matrix m n) n low);
+  isHigh = λ branches lent. sym (written-none High tree (rowsOf matrix m n) n high);
+  isChosen = λ branches lent. sym (written-none Chosen tree (rowsOf matrix m n) n chosen);
+  lengthsAre = λ branches lent v l h. getD-replicate 0 127 v ∙ unfold fittedLength branchLength sumOver numbers in refl;
+  noLength = λ v out. getD-replicate 0 127 v;
+}
+
+-- the chosen one of a node's states
+chosen-is : (tree : List ℕ) (rows : List (List ℤ)) (n v j : ℕ) → statesIn tree rows n v j .chosen ≡ chosenState tree rows n v j
+unfolding statesIn
+chosen-is tree rows n v j = refl
+
+-- the fitted length of a branch with one character more
+length-next : (tree : List ℕ) (rows : List (List ℤ)) (n j v : ℕ) → 1 ≤ j →
+    fittedLength (plain .step) tree rows n (j + 1 - 1) v
+    ≡ fittedLength (plain .step) tree rows n (j - 1) v + apart (chosenState tree rows n v j) (chosenState tree rows n (ancestor tree v) j)
+unfolding fittedLength branchLength
+length-next tree rows n j v first =
+    sum-next (λ i. apart (chosenState tree rows n v i) (chosenState tree rows n (ancestor tree v) i)) 1 j first
+
+module _ (matrix : List ℤ) (n m : ℕ) (tree : List ℕ) (branches : branchingWithin n tree ≡ true) (lent : LentMatrix matrix n m) where
+  -- the rows of the taxa
+  abbrev rows : List (List ℤ)
+  rows = rowsOf matrix m n
+
+  module _ (v : ℕ) (second : 2 ≤ v) (last : v ≤ 2 * n - 2) where
+    -- there are at least two taxa
+    several : 2 ≤ n
+    several = omega arith
+
+    -- the ancestor of a node below row 1 is a node
+    above-within : (1 ≤ ancestor tree v) × (ancestor tree v ≤ 2 * n - 2)
+    above-within =
+        let end = last-several n several in
+        let above = branching-rooted n tree (branching-parts n tree branches .1) .above v second (omega arith) in
+        (above .0, omega (arith, above .1))
+
+    -- the states at both ends of its branch are not far apart
+    step-most : (j : ℕ) → 1 ≤ j → j ≤ m → apart (chosenState tree rows n v j) (chosenState tree rows n (ancestor tree v) j) ≤ 1998
+    step-most j first end =
+        let grown = grown-of n tree branches several in
+        let known : (u : ℕ) → 1 ≤ u → u ≤ n → inRange (character rows j u) ≡ true = λ u l h. character-known matrix n m lent u j l h first end in
+        apart-inRange (chosenState tree rows n v j) (chosenState tree rows n (ancestor tree v) j)
+        (chosenState-each (λ z. inRange z ≡ true) n tree grown rows j known v (omega arith) last)
+        (chosenState-each (λ z. inRange z ≡ true) n tree grown rows j known (ancestor tree v) (above-within .0) (above-within .1))
+
+    -- so its fitted length is small
+    pub length-most : (k : ℕ) → k ≤ m → fittedLength (plain .step) tree rows n k v ≤ k * 1998
+    unfolding fittedLength branchLength
+    length-most k end =
+        let most =
+        sum-most (λ i. apart (chosenState tree rows n v i) (chosenState tree rows n (ancestor tree v) i)) 1998 (numbers 1 k)
+        (λ i i∈. let w = numbers-within 1 k i i∈ in step-most i (w .0) (omega (arith, w .1))) in
+        rw (length-numbers 1 k) at most
+
+-- one character more
+module _ (matrix : List ℤ) (n m j : ℕ) (first : 1 ≤ j) (last : j ≤ m) (tree : List ℕ) (codes : List ℤ) (column : Column matrix n j codes)
+    (states : List States) (fits : Fits n tree codes states) where
+  -- the states found
+  states-are : branchingWithin n tree ≡ true → LentMatrix matrix n m → (v : ℕ) → 1 ≤ v → v ≤ lastNode n
+      → statesAt states v ≡ statesIn tree (rowsOf matrix m n) n v j
+  states-are branches lent = fits .are (rowsOf matrix m n) j (column-codes matrix n m lent j first last codes column) branches
+
+  -- a list with one of them written
+  list-next : (which : Which) (old now new : List ℤ) → branchingWithin n tree ≡ true → LentMatrix matrix n m
+      → now ≡ statesWritten which tree (rowsOf matrix m n) n (j - 1) old
+      → new ≡ withColumn n j (λ v. stateIn which (statesAt states v)) now
+      → new ≡ statesWritten which tree (rowsOf matrix m n) n (j + 1 - 1) old
+  list-next which old now new branches lent before written =
+      let wide = lent .characters in
+      written
+      ∙ column-same n j (λ v. stateIn which (statesAt states v)) (λ v. stateIn which (statesIn tree (rowsOf matrix m n) n v j)) now
+      (λ v l h. ap (stateIn which) (states-are branches lent v (omega arith) (unfold lastNode in omega arith)))
+      ∙ ap (withColumn n j (λ v. stateIn which (statesIn tree (rowsOf matrix m n) n v j))) before
+      ∙ written-next which tree (rowsOf matrix m n) n j old first (omega arith)
+
+  -- a length with that of one character more
+  length-right : (lengths lengths′ : List ℕ) → branchingWithin n tree ≡ true → LentMatrix matrix n m → Lengthened n tree states lengths lengths′
+      → (v : ℕ) → 2 ≤ v → v ≤ 2 * n - 2 → getD lengths v 0 ≡ fittedLength (plain .step) tree (rowsOf matrix m n) n (j - 1) v
+      → getD lengths′ v 0 ≡ fittedLength (plain .step) tree (rowsOf matrix m n) n (j + 1 - 1) v
+  length-right lengths lengths′ branches lent longer v l h before =
+      let above = above-within matrix n m tree branches lent v l h in
+      let few = taxa-most n tree branches in
+      let end = last-several n (omega arith) in
+      let small : ancestor tree v ≤ 126 = omega (arith, above .1) in
+      let own = ap (λ (s : States). s .chosen) (states-are branches lent v (omega arith) (omega arith)) in
+      let its = ap (λ (s : States). s .chosen) (states-are branches lent (ancestor tree v) (above .0) (omega (arith, above .1))) in
+      let step : apart (statesAt states v .chosen) (statesAt states (ancestor tree v) .chosen)
+      ≡ apart (chosenState tree (rowsOf matrix m n) n v j) (chosenState tree (rowsOf matrix m n) n (ancestor tree v) j) =
+      ap₂ apart (own ∙ chosen-is tree (rowsOf matrix m n) n v j) (its ∙ chosen-is tree (rowsOf matrix m n) n (ancestor tree v) j) in
+      let next = length-next tree (rowsOf matrix m n) n j v first in
+      let most = length-most matrix n m tree branches lent v l h (j + 1 - 1) (omega arith) in
+      let wide = lent .characters in
+      longer .added v l h small .is (omega arith) ∙ ap₂ _+_ before step ∙ sym next
+
+  -- all of it
+  pub written-more : (low low′ low″ high high′ high″ chosen chosen′ chosen″ : List ℤ) (lengths lengths′ : List ℕ)
+      → Written matrix n m (j - 1) tree low low′ high high′ chosen chosen′ lengths
+      → low″ ≡ withColumn n j (λ v. stateIn Low (statesAt states v)) low′
+      → high″ ≡ withColumn n j (λ v. stateIn High (statesAt states v)) high′
+      → chosen″ ≡ withColumn n j (λ v. stateIn Chosen (statesAt states v)) chosen′
+      → Lengthened n tree states lengths lengths′
+      → Written matrix n m (j + 1 - 1) tree low low″ high high″ chosen chosen″ lengths′
+  written-more low low′ low″ high high′ high″ chosen chosen′ chosen″ lengths lengths′ before l h c longer = record {
+    isLow = λ branches lent. list-next Low low low′ low″ branches lent (before .isLow branches lent) l;
+    isHigh = λ branches lent. list-next High high high′ high″ branches lent (before .isHigh branches lent) h;
+    isChosen = λ branches lent. list-next Chosen chosen chosen′ chosen″ branches lent (before .isChosen branches lent) c;
+    lengthsAre = λ branches lent v p q. length-right lengths lengths′ branches lent longer v p q (before .lengthsAre branches lent v p q);
+    noLength = λ v out. longer .kept v out ∙ before .noLength v out;
+  }

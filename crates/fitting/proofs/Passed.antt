@@ -1,0 +1,61 @@
+-- What passed questions tell of a lent branching: the matrix is lent, and the tree that the records give is a branching.
+use mathlib.Core.Path.{_≡_, sym, _∙_}
+use mathlib.Core.Bool.{true, and-eq-true-iff}
+use mathlib.Core.List.{List}
+use Prim.Native.Nat.{ℕ}
+use lib.Dec.{eqb}
+use lib.IntN.{ℤ}
+use lib.ListN.{length}
+use Rattle.matrix.specs.NodeRows.{rowsOf}
+use Rattle.matrix.specs.Outcomes.{value}
+use Rattle.difference.specs.Rows.{plain}
+use Rattle.matrix.specs.Questions.{LentMatrix, askMatrix}
+use Rattle.matrix.specs.declared.refusal.Refusal.the-variants.{ListSize, NotBranching}
+use Rattle.matrix.specs.declared.refusal.Asked.the-variants.{Passed}
+use Rattle.matrix.proofs.Passing.{ask-passed, andThen-passed, matrix-passes}
+use Rattle.branching.specs.declared.branch.Branch.{Branch}
+use Rattle.branching.specs.Growing.{branching}
+use Rattle.branching.specs.Within.{branchingWithin}
+use Rattle.branching.specs.Branches.{lentBranching, namedInOrder, placesOf, ancestorsOf}
+use Rattle.branching.specs.Asking.{askBranching, branchesSize}
+use Rattle.branching.proofs.Lending.{lent-places, places-ancestors}
+use Rattle.fitting.specs.Calls.{TotalOf, totalAnswer}
+use Rattle.fitting.proofs.SameTree.{total-same}
+
+-- records that are a branching give a tree with 127 places that is one
+pub places-branching : (codes : List ℤ) (n m : ℕ) (records : List Branch) → LentMatrix codes n m → lentBranching n records ≡ true
+    → branchingWithin n (placesOf n records) ≡ true
+places-branching codes n m records lent e =
+    and-eq-true-iff (namedInOrder n records) (branchingWithin n (placesOf n records)) .0 (sym (lent-places n records (lent .taxa)) ∙ e) .1
+
+-- the tree that they give is a branching, as a test
+pub lent-test : (n : ℕ) (records : List Branch) → lentBranching n records ≡ true → branching n (ancestorsOf n records) ≡ true
+unfolding lentBranching
+lent-test n records e = and-eq-true-iff (namedInOrder n records) (branching n (ancestorsOf n records)) .0 e .1
+
+-- what passed questions tell of the records
+pub records-passed : (codes : List ℤ) (n m : ℕ) (records : List Branch) → askBranching codes n m records ≡ Passed → lentBranching n records ≡ true
+unfolding askBranching
+records-passed codes n m records e =
+    let size = ask-passed (eqb (length records) branchesSize) ListSize _ e in
+    let both = andThen-passed (askMatrix codes n m) _ (size .1) in
+    ask-passed (lentBranching n records) NotBranching Passed (both .1) .0
+
+-- what passed questions tell
+pub branching-passed : (codes : List ℤ) (n m : ℕ) (records : List Branch) → askBranching codes n m records ≡ Passed
+    → LentMatrix codes n m × (branchingWithin n (placesOf n records) ≡ true)
+unfolding askBranching
+branching-passed codes n m records e =
+    let size = ask-passed (eqb (length records) branchesSize) ListSize _ e in
+    let both = andThen-passed (askMatrix codes n m) _ (size .1) in
+    let lent = matrix-passes codes n m .0 (both .0) in
+    (lent, places-branching codes n m records lent (ask-passed (lentBranching n records) NotBranching Passed (both .1) .0))
+
+-- the fitted total of a lent branching that no question refuses
+pub total-passed : (codes : List ℤ) (n m : ℕ) (records : List Branch) (tree : List ℕ) (r : ℕ) → askBranching codes n m records ≡ Passed
+    → tree ≡ placesOf n records → TotalOf codes n m tree r → value r ≡ totalAnswer codes n m records
+unfolding totalAnswer
+total-passed codes n m records tree r e is of =
+    let passed = branching-passed codes n m records e in
+    let same = total-same (placesOf n records) (ancestorsOf n records) (places-ancestors n records) (rowsOf codes m n) n (plain .step) m in
+    rw (e, of .is (rw is (passed .1)) (passed .0), is, same)
