@@ -26,10 +26,7 @@ join a b =
 
 -- how far two sets lie from each other; 0 if they meet
 unfoldable pub gap : Span → Span → ℕ
-gap a b =
-    let start = higher (a .low) (b .low) in
-    let end = lower (a .high) (b .high) in
-    apart start (lower start end)
+gap a b = apart (higher (a .low) (b .low)) (lower (higher (a .low) (b .low)) (lower (a .high) (b .high)))
 
 -- the member of a set nearest to a state
 unfoldable pub nearestMember : ℤ → Span → ℤ
