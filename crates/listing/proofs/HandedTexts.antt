@@ -20,24 +20,9 @@ use Rattle.branching.specs.Ancestors.{ancestor}
 use Rattle.branching.specs.Nodes.{otherNodes}
 use Rattle.listing.specs.Blocks.{primLine, wagnerLine, fittedLine, fittedLines, rangeLine, rangeLines}
 use Rattle.listing.specs.Listing.{refusalLine, printed}
-use Rattle.listing.specs.Handed.{
-  namesIn,
-  HoldsNames,
-  noPlacement,
-  mostPlacements,
-  HoldsPlacements,
-  HoldsFit,
-  HoldsStates,
-  refusalText,
-  branchText,
-  branchTextAt,
-  branchTexts,
-  stateAt,
-  stateText,
-  stateTextAt,
-  nodeTexts,
-  stateTexts,
-}
+use Rattle.listing.specs.Handed.{namesIn, HoldsNames, HoldsPlacements, HoldsFit, HoldsStates, refusalText, branchText, branchTextAt, branchTexts, stateText, stateTextAt, nodeTexts, stateTexts}
+use Rattle.branching.specs.Unasked.{noPlacement}
+use Rattle.wagner.specs.Answers.{mostPlacements}
 use Rattle.wagner.specs.Build.{wagner}
 use Rattle.listing.proofs.Parts.{wagner-count}
 use Rattle.listing.proofs.Joined.{joined, joined-one, joined-map, joined-each, flatMap-same}

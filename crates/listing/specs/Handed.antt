@@ -14,6 +14,8 @@ use Rattle.matrix_file.specs.Text.{bytes}
 use Rattle.matrix_file.specs.Job.{nameSize, nameForm}
 use Rattle.matrix_file.specs.Written.{padded}
 use Rattle.branching.specs.declared.placement.Placement.{Placement}
+use Rattle.branching.specs.Unasked.{noPlacement}
+use Rattle.wagner.specs.Answers.{mostPlacements}
 use Rattle.branching.specs.Ancestors.{ancestor}
 use Rattle.branching.specs.Nodes.{otherNodes}
 use Rattle.fitting.specs.Fit.{chosenState, range, fittedLength, marked}
@@ -32,14 +34,6 @@ namesIn n lent = map (λ k. firstPart 0 (nameBytes lent k)) (numbers 0 n)
 pub record HoldsNames (n : ℕ) (names : List (List ℕ)) (lent : List ℕ) : Type 0 where
   pub held : (k : ℕ) → k < n → nameBytes lent k ≡ padded (getD names k [])
   pub formed : (k : ℕ) → k < n → nameForm (getD names k []) ≡ true
-
--- a placement of zeros
-abbrev pub noPlacement : Placement
-noPlacement = record { taxon = 0; lower = 0; upper = 0; htu = 0; added = 0 }
-
--- there are at most 63 placements
-abbrev pub mostPlacements : ℕ
-mostPlacements = 63
 
 -- an array of 63 and a number hold placements: these stand first, in their order, and placements of zeros behind them
 pub record HoldsPlacements (placements array : List Placement) (number : ℕ) : Type 0 where

@@ -18,7 +18,8 @@ ghost use Rattle.branching.specs.Ancestors.{ancestors};
 ghost use Rattle.prim.specs.Answers.{mostLinks};
 ghost use Rattle.listing.specs.Blocks.{totalLine, primLine, wagnerLine};
 ghost use Rattle.listing.specs.Put.{Put};
-ghost use Rattle.listing.specs.Handed.{namesIn, mostPlacements, branchTexts, nodeTexts, stateTexts};
+ghost use Rattle.listing.specs.Handed.{namesIn, branchTexts, nodeTexts, stateTexts};
+ghost use Rattle.wagner.specs.Answers.{mostPlacements};
 
 // Puts the `P` lines of the first `count` links.
 fn put_link_lines(

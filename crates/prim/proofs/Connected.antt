@@ -12,7 +12,7 @@ use Rattle.lists.specs.Sums.{sumOver}
 use Rattle.prim.specs.Network.{Link, networkLength, network}
 use Rattle.prim.specs.Rival.{Reached, start, step, linksLength, IsTaxon, Connected, linkEnds}
 use Rattle.prim.proofs.Placing.{Grown, complete, follows, network-grown, network-length, network-link}
-use Rattle.prim.proofs.Unplaced.{decideMem, Placed, not-placed, not-unplaced, placed-taxon, added-taxon}
+use Rattle.prim.proofs.Unplaced.{decideMem, IsPlaced, not-placed, not-unplaced, placed-taxon, added-taxon}
 
 module _ {d : ℕ → ℕ → ℕ} {n : ℕ} where
   -- the sum of the differences of the links' ends is the total
@@ -46,21 +46,21 @@ module _ {d : ℕ → ℕ → ℕ} {n : ℕ} where
   grown-reached : {later : List ℕ} {links : List Link} → Grown d n later links
       → (S : ℕ → Type 0) (all : List (ℕ × ℕ))
       → ((e : ℕ × ℕ) → List·Memᴰ e (linkEnds links) → List·Memᴰ e all)
-      → ((x : ℕ) → Placed later x → Reached S all x)
+      → ((x : ℕ) → IsPlaced later x → Reached S all x)
       → (v : ℕ) → IsTaxon n v → Reached S all v
   unfolding linkEnds
   grown-reached (complete {later = later} e) S all part placed v t = at (decideMem v (1 ∷ later))
     where
-      at : Dec (Placed later v) → Reached S all v
+      at : Dec (IsPlaced later v) → Reached S all v
       at (yes m) = placed v m
       at (no out) = absurd (List·Memᴰ·not-nil (rw e at (not-placed n later v t out)))
   grown-reached (follows {later = later} {l = l} {ls = ls} p g) S all part placed v t =
       grown-reached g S all (λ e m. part e (List·Memᴰ·tail m)) now v t
     where
-      now : (x : ℕ) → Placed (later ++ (l .taxon ∷ [])) x → Reached S all x
+      now : (x : ℕ) → IsPlaced (later ++ (l .taxon ∷ [])) x → Reached S all x
       now x m = at (List·Memᴰ·append-cases (1 ∷ later) m)
         where
-          at : Placed later x ⊎ List·Memᴰ x (l .taxon ∷ []) → Reached S all x
+          at : IsPlaced later x ⊎ List·Memᴰ x (l .taxon ∷ []) → Reached S all x
           at (inl k) = placed x k
           at (inr k) =
               subst (Reached S all) (sym (List·Memᴰ·eq-of-singleton k))

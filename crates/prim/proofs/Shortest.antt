@@ -11,17 +11,17 @@ use Rattle.prim.specs.Rival.{Joins, Reached, linksLength, IsTaxon, Conne
 use Rattle.prim.proofs.Links.{Enlarged, Leaving, Spared, exchange, Reached-mono, others, of-others, linksLength-others}
 use Rattle.prim.proofs.Placing.{Step, done, placing, placing-step, grow-done, grow-next}
 use Rattle.prim.proofs.Connected.{network-connected, network-sum}
-use Rattle.prim.proofs.Unplaced.{decideMem, Placed, not-placed, not-unplaced}
+use Rattle.prim.proofs.Unplaced.{decideMem, IsPlaced, not-placed, not-unplaced}
 
 -- the placed taxa and one more
-enlarged : (later : List ℕ) (v x : ℕ) → Enlarged (Placed later) v x → Placed (later ++ (v ∷ [])) x
+enlarged : (later : List ℕ) (v x : ℕ) → Enlarged (IsPlaced later) v x → IsPlaced (later ++ (v ∷ [])) x
 enlarged later v x (inl m) = Memᴰ·append-left (v ∷ []) m
 enlarged later v x (inr e) = Memᴰ·append-right (1 ∷ later) (List·Memᴰ·head e)
 
 -- links between taxa over which every taxon is reached from the placed ones
 record Joined (n : ℕ) (later : List ℕ) (links : List (ℕ × ℕ)) : Type 0 where
   between : (x y : ℕ) → List·Memᴰ (x, y) links → IsTaxon n x × IsTaxon n y
-  reached : (v : ℕ) → IsTaxon n v → Reached (Placed later) links v
+  reached : (v : ℕ) → IsTaxon n v → Reached (IsPlaced later) links v
 
 module _ {n : ℕ} where
   -- what a link joins to a node is a taxon
@@ -31,8 +31,8 @@ module _ {n : ℕ} where
 
   -- once the next taxon v is placed, a link that left the placed taxa can be taken out
   joined-next : {later : List ℕ} {links : List (ℕ × ℕ)} {v : ℕ} → Joined n later links
-      → (f : Leaving (Placed later) links)
-      → Spared (Placed later) links f v
+      → (f : Leaving (IsPlaced later) links)
+      → Spared (IsPlaced later) links f v
       → Joined n (later ++ (v ∷ [])) (others (f .joins))
   joined-next {later} {links} {v} j f still = record {
     between = λ x y m. j .between x y (of-others (f .joins) m);
@@ -54,7 +54,7 @@ module _ (d : ℕ → ℕ → ℕ) (symmetric : (x y : ℕ) → d x y ≡ d y x)
       at below (done e) = rw (grow-done d n (suc count) later e) (omega arith)
       at below (placing l p) =
           let v = l .taxon in
-          let fresh : IsTaxon n v × ¬ Placed later v = not-unplaced n later v (p .fresh) in
+          let fresh : IsTaxon n v × ¬ IsPlaced later v = not-unplaced n later v (p .fresh) in
           let ex = exchange (λ x. decideMem x (1 ∷ later)) (j .reached v (fresh .0)) (fresh .1) in
           let f = ex .0 in
           let outer-unplaced = not-placed n later (f .outer) (joins-taxon j (f .joins)) (f .isOut) in

@@ -218,17 +218,17 @@ unfolding unplaced
 length-unplaced n = rw (without-nothing (numbers 2 (n - 1))) (length-numbers 2 (n - 1))
 
 -- the placed taxa: row 1 and those placed later
-abbrev pub Placed : List ℕ → ℕ → Type 0
-Placed later x = List·Memᴰ x (1 ∷ later)
+abbrev pub IsPlaced : List ℕ → ℕ → Type 0
+IsPlaced later x = List·Memᴰ x (1 ∷ later)
 
 -- a taxon that is not placed is unplaced
-pub not-placed : (n : ℕ) (later : List ℕ) (v : ℕ) → IsTaxon n v → ¬ Placed later v → List·Memᴰ v (unplaced n later)
+pub not-placed : (n : ℕ) (later : List ℕ) (v : ℕ) → IsTaxon n v → ¬ IsPlaced later v → List·Memᴰ v (unplaced n later)
 not-placed n later v t out =
     let other : v ≢ 1 = λ e. out (List·Memᴰ·head e) in
     mem-unplaced n later v .1 (omega arith, t .1, λ m. out (List·Memᴰ·tail m))
 
 -- an unplaced taxon is not placed
-pub not-unplaced : (n : ℕ) (later : List ℕ) (v : ℕ) → List·Memᴰ v (unplaced n later) → IsTaxon n v × ¬ Placed later v
+pub not-unplaced : (n : ℕ) (later : List ℕ) (v : ℕ) → List·Memᴰ v (unplaced n later) → IsTaxon n v × ¬ IsPlaced later v
 not-unplaced n later v m =
     let h : (2 ≤ v) × (v ≤ n) × ¬ List·Memᴰ v later = mem-unplaced n later v .0 m in
     ((omega arith, h .1), λ k. out h (List·Memᴰ·cases-cons k))
@@ -238,7 +238,7 @@ not-unplaced n later v m =
     out h (inr k) = h .2 k
 
 -- a placed taxon is one of 1 to n, if those placed later are and there is a row 1
-pub placed-taxon : (n : ℕ) (later : List ℕ) → ((x : ℕ) → List·Memᴰ x later → IsTaxon n x) → 1 ≤ n → (x : ℕ) → Placed later x → IsTaxon n x
+pub placed-taxon : (n : ℕ) (later : List ℕ) → ((x : ℕ) → List·Memᴰ x later → IsTaxon n x) → 1 ≤ n → (x : ℕ) → IsPlaced later x → IsTaxon n x
 placed-taxon n later all some x m = at (List·Memᴰ·cases-cons m)
   where
     at : (x ≡ 1) ⊎ List·Memᴰ x later → IsTaxon n x
