@@ -10,7 +10,8 @@ use mir.Val.{SFits, ofZ, toZ}
 use lib.IntN.{ℤ}
 use Rattle.lists.specs.Numbers.{numbers}
 use Rattle.branching.specs.Nodes.{otherNodes}
-use Rattle.listing.specs.Handed.{branchTextAt, branchTexts, stateAt, stateText, stateTextAt, nodeTexts, stateTexts}
+use Rattle.listing.specs.Handed.{branchTextAt, branchTexts, stateText, stateTextAt, nodeTexts, stateTexts}
+use Rattle.fitting.specs.Handing.{stateAt}
 
 module _ (n : ℕ) (names : List (List ℕ)) where
   -- the `T` lines: nodes 2 to before 2n-1

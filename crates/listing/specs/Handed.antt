@@ -3,11 +3,10 @@ use mathlib.Core.Path.{_≡_}
 use mathlib.Core.Bool.{Bool, true, false}
 use mathlib.Core.List.{List, [], _∷_, map, flatMap}
 use Prim.Native.Nat.{ℕ, _+_, _-_, _*_, _≤_, _<_}
-use lib.IntN.{ℤ, pos}
+use lib.IntN.{ℤ}
 use lib.ListN.{length, getD, take, drop}
 use Rattle.lists.specs.Filled.{filled}
 use Rattle.lists.specs.Numbers.{numbers}
-use Rattle.matrix.specs.Shape.{rowStart}
 use Rattle.matrix_file.specs.Bytes.{firstPart}
 use Rattle.matrix_file.specs.Decimal.{digitsOf, decimal}
 use Rattle.matrix_file.specs.Text.{bytes}
@@ -18,6 +17,7 @@ use Rattle.branching.specs.Unasked.{noPlacement}
 use Rattle.wagner.specs.Answers.{mostPlacements}
 use Rattle.branching.specs.Ancestors.{ancestor}
 use Rattle.branching.specs.Nodes.{otherNodes}
+use Rattle.fitting.specs.Handing.{stateAt}
 use Rattle.fitting.specs.Fit.{chosenState, range, fittedLength, marked}
 use Rattle.listing.specs.Lines.{line, nodeName}
 use Rattle.listing.specs.Blocks.{mark}
@@ -44,10 +44,6 @@ pub record HoldsPlacements (placements array : List Placement) (number : ℕ) : 
 pub record HoldsFit (step : ℕ → ℤ → ℤ → ℕ) (tree : List ℕ) (rows : List (List ℤ)) (n m : ℕ) (lengths : List ℕ) (marks : List Bool) : Type 0 where
   pub lengthAt : (v : ℕ) → 2 ≤ v → v ≤ 2 * n - 2 → getD lengths v 0 ≡ fittedLength step tree rows n m v
   pub markAt : (v : ℕ) → 2 ≤ v → v ≤ 2 * n - 2 → getD marks v false ≡ marked step tree rows n m v
-
--- the state of node v in character j, in a list of the matrix's shape
-unfoldable pub stateAt : List ℤ → ℕ → ℕ → ℤ
-stateAt states v j = getD states (rowStart v + (j - 1)) (pos 0)
 
 -- lists of the matrix's shape hold the lowest, the highest and the chosen states of the HTUs
 pub record HoldsStates (tree : List ℕ) (rows : List (List ℤ)) (n m : ℕ) (low high chosen : List ℤ) : Type 0 where

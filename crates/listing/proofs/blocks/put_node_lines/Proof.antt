@@ -7,7 +7,7 @@ use Prim.Native.Nat.{_+_, _-_, _≤_}
 use native.Mathlib.Omega.{arith}
 use lib.ListN.{length}
 use Rattle.lists.specs.Numbers.{numbers}
-use Rattle.listing.specs.Handed.{namesIn, stateAt, stateTextAt, nodeTexts}
+use Rattle.listing.specs.Handed.{namesIn, stateTextAt, nodeTexts}
 use Rattle.listing.proofs.Puts.{Left, left-start, left-end, left-put, left-same, put-same}
 use Rattle.listing.proofs.BlockTexts.{states-from-one, same-states}
 use Rattle.listing.proofs.InTurn.{next-of, none-of, to-last, past-last}
@@ -69,7 +69,6 @@ loop-less : tie.Need-loop-less Inv-loop μ-loop
 loop-less c = omega arith
 
 loop-again : tie.Need-loop-again Inv-loop μ-loop
-unfolding stateAt
 loop-again c =
     let put = c .before .before in
     let read = put .before .before .before in
