@@ -9,9 +9,9 @@ use lib.IntN.{ℤ, pos}
 use lib.ListN.{take-append-drop, length, getD, take, drop, length-drop}
 use lib.Seq.{length-take-le, getD-take, getD-drop, ext-getD}
 use Rattle.matrix.specs.NodeRows.{rowsOf, withRows}
-use Rattle.matrix.proofs.NodeRows.{rowOf-next, length-rowsOf, rowOf-rowsOf, length-withRows, withRows-rows, withRows-else}
+use Rattle.matrix.proofs.NodeRows.{rowOf-next, length-rowsOf, rowOf-rowsOf, length-withRows, withRows-before, withRows-rows, withRows-else}
 use Rattle.lists.proofs.Stripes.{stripes-before}
-use Rattle.matrix.specs.Shape.{rowStart, columns}
+use Rattle.matrix.specs.Shape.{row, rowStart, columns}
 use Rattle.matrix.proofs.Row.{length-row}
 use Rattle.branching.specs.Hanging.{noBranches}
 use Rattle.wagner.specs.Matrix.{matrixAfter}
@@ -72,6 +72,11 @@ module _ (d : List ℤ → List ℤ → ℕ) (codes : List ℤ) (n m : ℕ) (wid
       ∙ withRows-rows codes m n (drop n (built .rows)) htus-each wide (omega (arith, later))
       ∙ ap (λ (front : List (List ℤ)). front ++ drop n (built .rows)) (sym taxa-first)
       ∙ take-append-drop n (built .rows)
+
+  -- the rows of the taxa stay
+  pub after-taxon : (v : ℕ) → 1 ≤ v → v ≤ n → row (matrixAfter codes n built) m v ≡ row codes m v
+  unfolding matrixAfter
+  after-taxon = withRows-before codes m n (drop n (built .rows)) htus-each wide
 
   -- no code is changed but those of characters 1 to m in the rows of nodes n+1 to 2n-2
   pub after-else : (v j : ℕ) → 1 ≤ v → j < columns → (n < v → v ≤ n + (n - 2) → j < m → ⊥)
