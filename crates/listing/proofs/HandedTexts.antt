@@ -18,6 +18,7 @@ use Rattle.prim.proofs.Holding.{holds-first}
 use Rattle.branching.specs.declared.placement.Placement.{Placement}
 use Rattle.branching.specs.Ancestors.{ancestor}
 use Rattle.branching.specs.Nodes.{otherNodes}
+use Rattle.listing.specs.Lines.{joined}
 use Rattle.listing.specs.Blocks.{primLine, wagnerLine, fittedLine, fittedLines, rangeLine, rangeLines}
 use Rattle.listing.specs.Listing.{refusalLine, printed}
 use Rattle.listing.specs.Handed.{namesIn, HoldsNames, HoldsPlacements, HoldsFit, HoldsStates, refusalText, branchText, branchTextAt, branchTexts, stateText, stateTextAt, nodeTexts, stateTexts}
@@ -25,7 +26,7 @@ use Rattle.branching.specs.Unasked.{noPlacement}
 use Rattle.wagner.specs.Answers.{mostPlacements}
 use Rattle.wagner.specs.Build.{wagner}
 use Rattle.listing.proofs.Parts.{wagner-count}
-use Rattle.listing.proofs.Joined.{joined, joined-one, joined-map, joined-each, flatMap-same}
+use Rattle.listing.proofs.Joined.{joined-one, joined-map, joined-each, flatMap-same}
 use Rattle.listing.proofs.Unpadded.{same-names}
 
 -- the line of a refusal is what is printed for it

@@ -4,10 +4,7 @@ use mathlib.Core.List.{List, [], _∷_, _++_, map, flatMap, append-nil, append-a
 use Prim.Native.Nat.{ℕ, _*_, _≤_}
 use native.Mathlib.Omega.{arith}
 use lib.ListN.{length, length-append}
-
--- lines joined
-abbrev pub joined : List (List ℕ) → List ℕ
-joined lines = flatMap (λ line. line) lines
+use Rattle.listing.specs.Lines.{joined}
 
 -- the texts of two lists of items, one behind the other
 pub flatMap-append : {A B : Type 0} (f : A → List B) (xs ys : List A) → flatMap f (xs ++ ys) ≡ flatMap f xs ++ flatMap f ys

@@ -12,6 +12,9 @@ pub mod Unpadded
 pub mod ReadNames
 pub mod HandedTexts
 pub mod Parts
-pub mod WholeListing
+pub mod Printed
+pub mod FoundResults
+pub mod ReadListed
+pub mod Called
 pub mod Totals
 pub mod Bounds

@@ -15,9 +15,10 @@ use Rattle.prim.proofs.Placing.{network-length}
 use Rattle.branching.specs.Nodes.{otherNodes}
 use Rattle.wagner.specs.Build.{Built, wagner, wagnerLength, build, buildOn}
 use Rattle.fitting.specs.Fit.{fittedTotal}
+use Rattle.listing.specs.Lines.{joined}
 use Rattle.listing.specs.Blocks.{totalLine, primLine, wagnerLine, fittedLine, fittedLines, rangeLine, rangeLines}
 use Rattle.listing.specs.Listing.{primBlock, wagnerBlock, fittedBlock, rangeBlock, blocks, listing}
-use Rattle.listing.proofs.Joined.{joined, flatMap-append}
+use Rattle.listing.proofs.Joined.{flatMap-append}
 
 -- three blocks with a line behind each, and a last block
 parts : (a b c d : List (List ℕ)) (x y z : List ℕ)

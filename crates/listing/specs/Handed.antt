@@ -1,7 +1,7 @@
 -- What the functions that put lines and blocks are handed, and the texts that they put. No public contract cites this.
 use mathlib.Core.Path.{_≡_}
 use mathlib.Core.Bool.{Bool, true, false}
-use mathlib.Core.List.{List, [], _∷_, map, flatMap}
+use mathlib.Core.List.{List, [], _∷_, _++_, map, flatMap}
 use Prim.Native.Nat.{ℕ, _+_, _-_, _*_, _≤_, _<_}
 use lib.IntN.{ℤ}
 use lib.ListN.{length, getD, take, drop}
@@ -12,15 +12,19 @@ use Rattle.matrix_file.specs.Decimal.{digitsOf, decimal}
 use Rattle.matrix_file.specs.Text.{bytes}
 use Rattle.matrix_file.specs.Job.{nameSize, nameForm}
 use Rattle.matrix_file.specs.Written.{padded}
+use Rattle.prim.specs.declared.answer.Network.{Network}
 use Rattle.branching.specs.declared.placement.Placement.{Placement}
+use Rattle.branching.specs.declared.tree.Tree.{Tree}
 use Rattle.branching.specs.Unasked.{noPlacement}
+use Rattle.wagner.specs.declared.build.WagnerTree.{WagnerTree}
 use Rattle.wagner.specs.Answers.{mostPlacements}
-use Rattle.branching.specs.Ancestors.{ancestor}
+use Rattle.branching.specs.Ancestors.{ancestors, ancestor}
 use Rattle.branching.specs.Nodes.{otherNodes}
 use Rattle.fitting.specs.Handing.{stateAt}
 use Rattle.fitting.specs.Fit.{chosenState, range, fittedLength, marked}
+use Rattle.fitting.specs.declared.whole.Fit.{Fit}
 use Rattle.listing.specs.Lines.{line, nodeName}
-use Rattle.listing.specs.Blocks.{mark}
+use Rattle.listing.specs.Blocks.{mark, totalLine, primLine, wagnerLine}
 
 -- the bytes lent for the name at place k, the first at place 0
 unfoldable pub nameBytes : List ℕ → ℕ → List ℕ
@@ -91,3 +95,15 @@ module _ (n : ℕ) (names : List (List ℕ)) where
     -- the `H` lines of the HTUs, by node number
     unfoldable pub stateTexts : ℕ → List ℕ
     stateTexts m = flatMap (nodeTexts m) (numbers (n + 1) (n - 2))
+
+  -- the `P` lines of a network's first `count` links, and the line `p`
+  unfoldable pub primTexts : Network → List ℕ
+  primTexts network = flatMap (primLine n names) (take (network .count) (network .links)) ++ totalLine "p" (network .total)
+
+  -- the `W` lines of a build's first `count` placements, and the line `w`
+  unfoldable pub wagnerTexts : WagnerTree → List ℕ
+  wagnerTexts built = flatMap (wagnerLine n names) (take (built .count) (built .placements)) ++ totalLine "w" (built .length)
+
+  -- the `T` lines of a tree with its fit, and the line `t`
+  unfoldable pub fittedTexts : Tree → Fit → List ℕ
+  fittedTexts tree fit = branchTexts (ancestors tree) (fit .lengths) (fit .marks) ++ totalLine "t" (fit .total)

@@ -1,5 +1,5 @@
 -- A line of the listing, and the node that a field names.
-use mathlib.Core.List.{List, [], _∷_, _++_}
+use mathlib.Core.List.{List, [], _∷_, _++_, flatMap}
 use mathlib.Core.Bool.{true, false}
 use Prim.Native.Nat.{ℕ, zero, suc, _-_}
 use lib.Dec.{leb}
@@ -11,6 +11,10 @@ use Rattle.matrix_file.specs.Text.{bytes}
 -- a line: its fields parted by tabs, ended by a line feed
 unfoldable pub line : List (List ℕ) → List ℕ
 line fields = joinedBy tab fields ++ (lineFeed ∷ [])
+
+-- lines joined: their bytes, one line after another
+abbrev pub joined : List (List ℕ) → List ℕ
+joined lines = flatMap (λ line. line) lines
 
 -- what stands where there is no node
 unfoldable pub hyphen : List ℕ

@@ -11,7 +11,7 @@ use Rattle.difference.specs.Rows.{Measure, plain, nodeDifference}
 use Rattle.prim.specs.Network.{network, networkLength}
 use Rattle.wagner.specs.Build.{Built, wagner, wagnerLength}
 use Rattle.fitting.specs.Fit.{fittedTotal}
-use Rattle.listing.specs.Lines.{line}
+use Rattle.listing.specs.Lines.{line, joined}
 use Rattle.listing.specs.Blocks.{totalLine, primLine, wagnerLine, fittedLines, rangeLines}
 
 -- the Prim Network: its `P` lines, and `p`
@@ -65,4 +65,4 @@ listingOf file = printed (readAnswer file)
 
 -- all that is printed for a file's bytes: its lines, joined
 unfoldable pub output : List ℕ → List ℕ
-output file = flatMap (λ line. line) (listingOf file)
+output file = joined (listingOf file)

@@ -1,4 +1,6 @@
-// The listing of a job: bytes, lines and blocks of lines, put into a lent list.
+// The listing of a job: bytes, lines and blocks of lines, put into a lent list; and the call from a file's bytes to the bytes of its listing.
 mod blocks;
+pub mod call;
+mod job;
 mod lines;
 mod put;

@@ -11,15 +11,17 @@ use Rattle.matrix_file.specs.Reading.{readAnswer}
 use Rattle.matrix_file.proofs.File.Numbered.{refused-number}
 use Rattle.matrix_file.specs.Text.{bytes}
 use Rattle.matrix_file.proofs.File.Accepted.{accepted-exactly}
+use Rattle.listing.specs.Lines.{joined}
 use Rattle.listing.specs.Listing.{refusalLine, printed, listingOf, output}
-use Rattle.listing.proofs.Joined.{joined, joined-one}
+use Rattle.listing.specs.Call.{outputSize}
+use Rattle.listing.proofs.Joined.{joined-one}
 use Rattle.listing.proofs.LineFields.{sizes, line-size}
 use Rattle.listing.proofs.Bounds.Fields.{number-size}
 use Rattle.listing.proofs.Bounds.LineNumbers.{LineWithin, none, some, file-line}
-use Rattle.listing.proofs.Bounds.Room.{outSize, job-room}
+use Rattle.listing.proofs.Bounds.Room.{job-room}
 
 -- the line of a refusal
-refusal-room : (number at : ℕ) → number ≤ 11 → at ≤ 66 → length (joined (refusalLine number at ∷ [])) ≤ outSize
+refusal-room : (number at : ℕ) → number ≤ 11 → at ≤ 66 → length (joined (refusalLine number at ∷ [])) ≤ outputSize
 unfolding refusalLine sizes bytes
 refusal-room number at few h =
     omega (
@@ -31,10 +33,10 @@ refusal-room number at few h =
     )
 
 -- every file's output
-pub output-room : (file : List ℕ) → length (output file) ≤ outSize
+pub output-room : (file : List ℕ) → length (output file) ≤ outputSize
 unfolding output listingOf printed
 output-room file = by (readAnswer file) refl (file-line file)
   where
-    by : (outcome : Outcome Job) → readAnswer file ≡ outcome → LineWithin 66 outcome → length (joined (printed outcome)) ≤ outSize
+    by : (outcome : Outcome Job) → readAnswer file ≡ outcome → LineWithin 66 outcome → length (joined (printed outcome)) ≤ outputSize
     by (value job) e none = job-room job (accepted-exactly file job .0 e .0)
     by (refused number line) e (some h) = refusal-room number line (refused-number file number line e .1) h

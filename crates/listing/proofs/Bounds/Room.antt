@@ -22,10 +22,11 @@ use Rattle.branching.specs.Ancestors.{ancestor}
 use Rattle.branching.specs.Nodes.{otherNodes}
 use Rattle.wagner.specs.Build.{wagnerLength}
 use Rattle.fitting.specs.Fit.{chosenState, range, fittedLength, fittedTotal, marked}
-use Rattle.listing.specs.Lines.{nodeName}
+use Rattle.listing.specs.Lines.{nodeName, joined}
 use Rattle.listing.specs.Blocks.{mark, totalLine, primLine, wagnerLine, fittedLine, fittedLines, rangeLine, rangeLines}
 use Rattle.listing.specs.Listing.{listing}
-use Rattle.listing.proofs.Joined.{joined, joined-map, joined-each, texts-room}
+use Rattle.listing.specs.Call.{outputSize}
+use Rattle.listing.proofs.Joined.{joined-map, joined-each, texts-room}
 use Rattle.listing.proofs.LineFields.{sizes, line-size}
 use Rattle.listing.proofs.Parts.{
   linksOf,
@@ -49,10 +50,6 @@ use Rattle.listing.proofs.Bounds.Fit.{state-near, range-near, fitted-ap
 -- a line has at most so many bytes
 abbrev pub mostLine : ℕ
 mostLine = 128
-
--- and all lines together at most so many
-abbrev pub outSize : ℕ
-outSize = 1048576
 
 -- the line of a total
 total-size : (letter : String) (total : ℕ) → length (bytes letter) ≡ 1 → total < 100000000 → length (totalLine letter total) ≤ mostLine
@@ -239,7 +236,7 @@ module _ (job : Job) (within : JobWithinLimits job) where
       )
 
   -- the whole listing of a job within the limits
-  pub job-room : length (joined (listing plain job)) ≤ outSize
+  pub job-room : length (joined (listing plain job)) ≤ outputSize
   job-room =
       omega (
         arith,

@@ -1,0 +1,180 @@
+-- What is found of a lent matrix, by the promises of the calls, and that the text put for it is the listing.
+use mathlib.Core.Path.{_≡_, refl, sym, ap, ap₂, _∙_}
+use mathlib.Core.Bool.{true}
+use mathlib.Core.List.{List, _++_, append-assoc}
+use Prim.Native.Nat.{ℕ, _+_, _*_, _-_, _≤_, _<_}
+use native.Mathlib.Omega.{arith}
+use lib.IntN.{ℤ}
+use lib.ListN.{length}
+use Rattle.matrix.specs.Shape.{row}
+use Rattle.matrix.specs.NodeRows.{rowsOf}
+use Rattle.matrix.specs.Questions.{LentMatrix, askMatrix}
+use Rattle.matrix.specs.declared.refusal.Asked.the-variants.{Passed}
+use Rattle.matrix.proofs.Passing.{matrix-passes}
+use Rattle.matrix_file.specs.Job.{Job}
+use Rattle.difference.specs.Rows.{difference, nodeDifference, plain}
+use Rattle.prim.specs.Network.{network}
+use Rattle.prim.specs.Answers.{Holds, NetworkAnswer}
+use Rattle.prim.specs.declared.answer.Answer.{Answer}
+use Rattle.prim.proofs.Lent.{answer-holds}
+use Rattle.branching.specs.Ancestors.{ancestors}
+use Rattle.branching.specs.Growing.{branching}
+use Rattle.branching.specs.Within.{branchingWithin}
+use Rattle.branching.proofs.Within.{branching-plain}
+use Rattle.wagner.specs.declared.build.WagnerTree.{WagnerTree}
+use Rattle.wagner.specs.Build.{wagnerLength}
+use Rattle.wagner.specs.Matrix.{matrixAfter}
+use Rattle.wagner.specs.Answers.{wagnerIn, buildSays, placementsIn, BuildDone}
+use Rattle.wagner.proofs.StillLent.{still-lent, same-taxa}
+use Rattle.fitting.specs.Calls.{FitOf, TreeFitted, statesWritten}
+use Rattle.fitting.specs.Fit.{statesIn}
+use Rattle.fitting.specs.declared.whole.Fit.{Fit}
+use Rattle.fitting.specs.declared.whole.Which.the-variants.{Low, High, Chosen}
+use Rattle.fitting.specs.Handing.{stateAt}
+use Rattle.fitting.proofs.Handed.{state-written}
+use Rattle.rivals.proofs.Lent.{same-network}
+use Rattle.rivals.proofs.Built.{built-whole}
+use Rattle.listing.specs.declared.job.Results.{Results}
+use Rattle.listing.specs.Lines.{joined}
+use Rattle.listing.specs.Blocks.{totalLine}
+use Rattle.listing.specs.Listing.{listing}
+use Rattle.listing.specs.Handed.{namesIn, HoldsNames, HoldsPlacements, HoldsFit, HoldsStates, primTexts, wagnerTexts, fittedTexts, stateTexts}
+use Rattle.listing.specs.Found.{StateLists, Listable, ResultsOf, resultTexts, heldJob}
+use Rattle.listing.proofs.Parts.{linksOf, builtOf, primLines, wagnerLines, treeLines, htuLines, primTotal, wagnerTotal, treeTotal, listing-text}
+use Rattle.listing.proofs.HandedTexts.{links-within, placements-within, prim-text, wagner-text, fitted-text, range-text}
+
+-- a block with the line of its total, and what follows it
+block-then : {a b : List ℕ} (lines total rest : List ℕ) → a ≡ lines ++ total → b ≡ rest → a ++ b ≡ lines ++ (total ++ rest)
+block-then lines total rest e f = ap₂ _++_ e f ∙ append-assoc lines total rest
+
+-- what was found of a matrix, with the names that lent bytes hold
+module _ (codes : List ℤ) (n m : ℕ) (low high chosen : List ℤ) (r : Results) (found : ResultsOf codes n m low high chosen r)
+    (names : List (List ℕ)) (lent : List ℕ) (named : HoldsNames n names lent) where
+  -- the job whose listing is put
+  abbrev job : Job
+  job = heldJob n m names codes
+
+  -- the links held are those of the job's network
+  links-held : Holds (linksOf plain job) (r .network)
+  links-held = rw (same-network codes n m) (found .network)
+
+  -- the block of the network
+  prim-put : primTexts n (namesIn n lent) (r .network) ≡ joined (primLines plain job) ++ primTotal plain job
+  unfolding primTexts
+  prim-put = ap₂ _++_ (prim-text n names lent named (linksOf plain job) (r .network) links-held) (ap (totalLine "p") (links-held .total))
+
+  -- the block of the build
+  wagner-put : wagnerTexts n (namesIn n lent) (r .built) ≡ joined (wagnerLines plain job) ++ wagnerTotal plain job
+  unfolding wagnerTexts wagnerIn
+  wagner-put =
+      ap₂ _++_ (wagner-text n names lent named (builtOf plain job .placements) _ _ (found .placements)) (ap (totalLine "w") (found .whole))
+
+  -- the block of the fitted tree
+  tree-put : fittedTexts n (namesIn n lent) (r .built .tree) (r .fit) ≡ joined (treeLines plain job) ++ treeTotal plain job
+  unfolding fittedTexts wagnerIn
+  tree-put =
+      rw (found .tree)
+      (ap₂ _++_
+      (fitted-text n names lent named (builtOf plain job .tree) (rowsOf codes m n) m (plain .step) (r .fit .lengths) (r .fit .marks)
+      (record { lengthAt = found .fit .lengths; markAt = found .fit .marks }))
+      (ap (totalLine "t") (found .fit .total)))
+
+  -- the `H` lines
+  states-put : stateTexts n (namesIn n lent) low high chosen m ≡ joined (htuLines plain job)
+  unfolding wagnerIn
+  states-put = range-text n names lent named (builtOf plain job .tree) (rowsOf codes m n) m low high chosen (found .states)
+
+  -- the whole text is the listing of the job
+  pub results-listed : resultTexts n (namesIn n lent) m r low high chosen ≡ joined (listing plain job)
+  unfolding resultTexts
+  results-listed =
+      block-then (joined (primLines plain job)) (primTotal plain job) _ prim-put
+      (block-then (joined (wagnerLines plain job)) (wagnerTotal plain job) _ wagner-put
+      (block-then (joined (treeLines plain job)) (treeTotal plain job) _ tree-put states-put))
+      ∙ sym (listing-text plain job)
+
+-- what the calls for network, build and fit promise of a lent matrix
+module _ (codes after : List ℤ) (n m : ℕ) (lent : LentMatrix codes n m) (low low′ high high′ chosen chosen′ : List ℤ)
+    (full : StateLists low high chosen) (answer : Answer) (links : NetworkAnswer codes n m answer)
+    (built : WagnerTree) (done : BuildDone codes after n m built)
+    (fit : Fit) (fitted : TreeFitted after n m (ancestors (built .tree)) low low′ high high′ chosen chosen′ fit) where
+  -- no question refuses
+  pass : askMatrix codes n m ≡ Passed
+  pass = matrix-passes codes n m .1 lent
+
+  -- the network is the matrix's own
+  found-network : Holds (network (nodeDifference difference (row codes m)) n) (answer .network)
+  found-network = answer-holds codes n m answer links pass
+
+  -- the tree is its Wagner tree
+  found-tree : ancestors (built .tree) ≡ wagnerIn codes n m .tree
+  unfolding buildSays
+  found-tree = rw pass at (done .tree)
+
+  -- with its placements
+  found-placements : HoldsPlacements (wagnerIn codes n m .placements) (built .placements) (built .count)
+  unfolding buildSays placementsIn
+  found-placements = record { list = rw pass at (done .placements); count = rw pass at (done .count) }
+
+  -- and its length
+  found-length : built .length ≡ wagnerLength difference n (wagnerIn codes n m)
+  unfolding buildSays
+  found-length = rw pass at (done .whole)
+
+  -- the matrix then
+  found-matrix : after ≡ matrixAfter codes n (wagnerIn codes n m)
+  unfolding buildSays
+  found-matrix = rw pass at (done .matrix)
+
+  -- the tree is a branching
+  found-branching : branchingWithin n (ancestors (built .tree)) ≡ true
+  found-branching = branching-plain n (ancestors (built .tree)) (lent .taxa) ∙ built-whole codes after n m built done pass
+
+  -- the taxa have the same rows in it
+  found-rows : rowsOf after m n ≡ rowsOf codes m n
+  found-rows = ap (λ (all : List ℤ). rowsOf all m n) found-matrix ∙ same-taxa codes n m lent
+
+  -- the fit of the Wagner tree, and what the three lists hold
+  found-fit : FitOf (plain .step) (wagnerIn codes n m .tree) (rowsOf codes m n) n m fit
+      × (low′ ≡ statesWritten Low (wagnerIn codes n m .tree) (rowsOf codes m n) n m low)
+      × (high′ ≡ statesWritten High (wagnerIn codes n m .tree) (rowsOf codes m n) n m high)
+      × (chosen′ ≡ statesWritten Chosen (wagnerIn codes n m .tree) (rowsOf codes m n) n m chosen)
+  found-fit =
+      let still : LentMatrix after n m = rw found-matrix (still-lent codes n m lent) in
+      simp (found-tree, found-rows) at (fitted .fitted found-branching still (full .lowFull) (full .highFull) (full .chosenFull))
+
+  -- the states of the HTUs
+  found-states : HoldsStates (wagnerIn codes n m .tree) (rowsOf codes m n) n m low′ high′ chosen′
+  unfolding statesIn
+  found-states = record {
+    lowAt = λ v j a b d e.
+        ap (λ (list : List ℤ). stateAt list v j) (found-fit .1)
+        ∙ state-written Low (wagnerIn codes n m .tree) (rowsOf codes m n) n m low v j (full .lowFull) (lent .taxa) (lent .characters) a b d e;
+    highAt = λ v j a b d e.
+        ap (λ (list : List ℤ). stateAt list v j) (found-fit .2)
+        ∙ state-written High (wagnerIn codes n m .tree) (rowsOf codes m n) n m high v j (full .highFull) (lent .taxa) (lent .characters) a b d e;
+    chosenAt = λ v j a b d e.
+        ap (λ (list : List ℤ). stateAt list v j) (found-fit .3)
+        ∙ state-written Chosen (wagnerIn codes n m .tree) (rowsOf codes m n) n m chosen v j (full .chosenFull) (lent .taxa) (lent .characters) a b d e;
+  }
+
+  -- what was found
+  pub results-found : length low′ ≡ length low → length high′ ≡ length high → length chosen′ ≡ length chosen
+      → ResultsOf codes n m low′ high′ chosen′ (record { network = answer .network; built = built; fit = fit })
+  unfolding wagnerIn
+  results-found a b d = record {
+    listable = record {
+      some = lent .taxon;
+      taxa = lent .taxa;
+      characters = lent .characters;
+      links = links-within _ n (answer .network) (lent .taxa) found-network;
+      placements = placements-within difference n (rowsOf codes m n) (built .placements) (built .count) (lent .taxa) found-placements;
+    };
+    full = record { lowFull = a ∙ full .lowFull; highFull = b ∙ full .highFull; chosenFull = d ∙ full .chosenFull };
+    network = found-network;
+    tree = found-tree;
+    placements = found-placements;
+    whole = found-length;
+    fit = found-fit .0;
+    states = found-states;
+  }

@@ -1,0 +1,89 @@
+-- What a read into lists of full size tells of what is printed: the listing of the job that the lists then hold, or the line of the refusal.
+use mathlib.Core.Path.{_≡_, refl, sym, ap, _∙_, subst, subst⁻¹}
+use mathlib.Core.List.{List}
+use Prim.Native.Nat.{ℕ}
+use lib.IntN.{ℤ}
+use lib.ListN.{length}
+use borrow.Author.Tests.{eq-eqb}
+use Rattle.matrix.specs.Shape.{matrixSize}
+use Rattle.matrix.specs.NodeRows.{rowsOf}
+use Rattle.matrix.specs.Questions.{LentMatrix}
+use Rattle.matrix.specs.Refusals.{refusalNumber}
+use Rattle.matrix.specs.Outcomes.{value, refused}
+use Rattle.matrix.specs.declared.refusal.Refusal.{Refusal}
+use Rattle.matrix_file.specs.Job.{Job}
+use Rattle.matrix_file.specs.Header.{headerOf}
+use Rattle.matrix_file.specs.Reading.{readAnswer}
+use Rattle.matrix_file.specs.Report.{readSays, fullSize, readOutcome, ReadDone}
+use Rattle.matrix_file.specs.Written.{namesSize, namesWritten, matrixWritten}
+use Rattle.matrix_file.specs.declared.answer.Header.{Header}
+use Rattle.matrix_file.specs.declared.answer.Read.{Read}
+use Rattle.matrix_file.specs.declared.answer.Read.the-variants as Read
+use Rattle.matrix_file.proofs.File.Outcomes.{then-refused}
+use Rattle.matrix_file.proofs.Lists.ReadLists.{job-lent, Accepting, read-accepting}
+use Rattle.difference.specs.Rows.{plain}
+use Rattle.rivals.proofs.Reading.{read-rows}
+use Rattle.listing.specs.Lines.{joined}
+use Rattle.listing.specs.Listing.{listing, printed, output}
+use Rattle.listing.specs.Put.{Put}
+use Rattle.listing.specs.Handed.{HoldsNames, refusalText}
+use Rattle.listing.specs.Found.{heldJob, ListsJob}
+use Rattle.listing.proofs.HandedTexts.{refusal-text}
+use Rattle.listing.proofs.Puts.{put-same}
+use Rattle.listing.proofs.ReadNames.{names-held}
+use Rattle.listing.proofs.Printed.{output-printed}
+
+-- a read of a file into lists of full size
+module _ (file : List ℕ) (oldMatrix : List ℤ) (oldNames : List ℕ) (matrix : List ℤ) (names : List ℕ) (r : Read)
+    (done : ReadDone file oldMatrix oldNames matrix names r) (full : length oldMatrix ≡ matrixSize) (room : length oldNames ≡ namesSize) where
+  -- a refused file brings its refusal
+  refused-answer : (refusal : Refusal) (line : ℕ) → r ≡ Read.Refused refusal line → readAnswer file ≡ refused (refusalNumber refusal) line
+  unfolding readOutcome fullSize
+  refused-answer refusal line e =
+      let outcome : readOutcome file oldMatrix oldNames ≡ refused (refusalNumber refusal) line =
+      then-refused (readOutcome file oldMatrix oldNames) headerOf (refusalNumber refusal) line (sym (done .says) ∙ ap readSays e) in
+      rw (eq-eqb (length oldMatrix) matrixSize full, eq-eqb (length oldNames) namesSize room) at outcome
+
+  -- so the line of the refusal is what is printed
+  pub refused-printed : (refusal : Refusal) (line number : ℕ) → number ≡ refusalNumber refusal → r ≡ Read.Refused refusal line
+      → refusalText number line ≡ output file
+  refused-printed refusal line number is e =
+      ap (λ (k : ℕ). refusalText k line) is
+      ∙ refusal-text (refusalNumber refusal) line
+      ∙ sym (output-printed file _ (refused-answer refusal line e))
+
+  -- an accepted file: what the read tells
+  module _ (header : Header) (e : r ≡ Read.Accepted header) where
+    abbrev told : Accepting file oldMatrix oldNames matrix names header
+    told = read-accepting file oldMatrix oldNames matrix names r header done e
+
+    -- the matrix is then a lent matrix
+    pub accepted-lent : LentMatrix matrix (header .n) (header .m)
+    accepted-lent =
+        subst (λ said. LentMatrix matrix (said .n) (said .m)) (told .says)
+        (subst⁻¹ (λ all. LentMatrix all (told .job .n) (told .job .m)) (told .matrix) (job-lent (told .job) (told .within) oldMatrix full))
+
+    -- its rows are those of the job
+    accepted-rows : told .job .rows ≡ rowsOf matrix (told .job .m) (told .job .n)
+    accepted-rows =
+        sym (read-rows (told .job) (told .within) oldMatrix full)
+        ∙ sym (ap (λ (all : List ℤ). rowsOf all (told .job .m) (told .job .n)) (told .matrix))
+
+    -- the lent bytes hold its names
+    accepted-names : HoldsNames (told .job .n) (told .job .names) names
+    accepted-names =
+        subst⁻¹ (λ lent. HoldsNames (told .job .n) (told .job .names) lent) (told .names) (names-held (told .job) (told .within) oldNames room)
+
+    -- the listing of the job that the lists hold is what is printed
+    job-printed : joined (listing plain (heldJob (told .job .n) (told .job .m) (told .job .names) matrix)) ≡ output file
+    unfolding printed
+    job-printed =
+        ap (λ (rows : List (List ℤ)). joined (listing plain (record { n = told .job .n; m = told .job .m; names = told .job .names; rows = rows }))) (sym accepted-rows)
+        ∙ sym (output-printed file (value (told .job)) (told .read))
+
+    -- so where the job's listing was put, what is printed was put
+    pub accepted-printed : {old new : List ℕ} {next : ℕ} → ListsJob (header .n) (header .m) names matrix old new next → Put (output file) old 0 new next
+    accepted-printed {old} {new} {next} listed =
+        let lists : ListsJob (told .job .n) (told .job .m) names matrix old new next =
+        subst⁻¹ (λ said. ListsJob (said .n) (said .m) names matrix old new next) (told .says) listed in
+        put-same job-printed (lists .is (told .job .names) accepted-names)

@@ -1,0 +1,60 @@
+-- What is found of a lent matrix, and the text that is put for it. No public contract cites this.
+use mathlib.Core.Path.{_≡_}
+use mathlib.Core.List.{List, _++_}
+use Prim.Native.Nat.{ℕ, _≤_}
+use lib.IntN.{ℤ}
+use lib.ListN.{length}
+use Rattle.matrix.specs.Shape.{columns, matrixSize, row}
+use Rattle.matrix.specs.NodeRows.{rowsOf}
+use Rattle.matrix_file.specs.Job.{Job}
+use Rattle.difference.specs.Rows.{difference, nodeDifference, plain}
+use Rattle.prim.specs.Network.{network}
+use Rattle.prim.specs.Answers.{mostLinks, Holds}
+use Rattle.branching.specs.Ancestors.{ancestors}
+use Rattle.wagner.specs.Build.{wagnerLength}
+use Rattle.wagner.specs.Answers.{mostPlacements, wagnerIn}
+use Rattle.fitting.specs.Calls.{FitOf}
+use Rattle.listing.specs.declared.job.Results.{Results}
+use Rattle.listing.specs.Lines.{joined}
+use Rattle.listing.specs.Listing.{listing}
+use Rattle.listing.specs.Put.{Put}
+use Rattle.listing.specs.Handed.{HoldsNames, HoldsPlacements, HoldsStates, primTexts, wagnerTexts, fittedTexts, stateTexts}
+
+-- three lists have the matrix's size
+pub record StateLists (low high chosen : List ℤ) : Type 0 where
+  pub lowFull : length low ≡ matrixSize
+  pub highFull : length high ≡ matrixSize
+  pub chosenFull : length chosen ≡ matrixSize
+
+-- what can be listed: n and m are within their limits, and no more links and placements are counted than there is room for
+pub record Listable (n m : ℕ) (r : Results) : Type 0 where
+  pub some : 1 ≤ n
+  pub taxa : n ≤ 64
+  pub characters : m ≤ columns
+  pub links : r .network .count ≤ mostLinks
+  pub placements : r .built .count ≤ mostPlacements
+
+-- what was found of a lent matrix: its Prim Network, its Wagner tree, the fit of that tree, and its states in three lists
+pub record ResultsOf (codes : List ℤ) (n m : ℕ) (low high chosen : List ℤ) (r : Results) : Type 0 where
+  pub listable : Listable n m r
+  pub full : StateLists low high chosen
+  pub network : Holds (network (nodeDifference difference (row codes m)) n) (r .network)
+  pub tree : ancestors (r .built .tree) ≡ wagnerIn codes n m .tree
+  pub placements : HoldsPlacements (wagnerIn codes n m .placements) (r .built .placements) (r .built .count)
+  pub whole : r .built .length ≡ wagnerLength difference n (wagnerIn codes n m)
+  pub fit : FitOf (plain .step) (wagnerIn codes n m .tree) (rowsOf codes m n) n m (r .fit)
+  pub states : HoldsStates (wagnerIn codes n m .tree) (rowsOf codes m n) n m low high chosen
+
+-- the text put for what was found: the blocks of network, build and fitted tree, and the `H` lines
+unfoldable pub resultTexts : ℕ → List (List ℕ) → ℕ → Results → List ℤ → List ℤ → List ℤ → List ℕ
+resultTexts n names m r low high chosen =
+    primTexts n names (r .network)
+    ++ (wagnerTexts n names (r .built) ++ (fittedTexts n names (r .built .tree) (r .fit) ++ stateTexts n names low high chosen m))
+
+-- the job of n taxa and m characters with these names and the taxa's rows of a matrix
+abbrev pub heldJob : ℕ → ℕ → List (List ℕ) → List ℤ → Job
+heldJob n m names codes = record { n = n; m = m; names = names; rows = rowsOf codes m n }
+
+-- the listing of the job that lent lists hold was put in front of a list
+pub record ListsJob (n m : ℕ) (lent : List ℕ) (codes : List ℤ) (old new : List ℕ) (next : ℕ) : Type 0 where
+  pub is : (names : List (List ℕ)) → HoldsNames n names lent → Put (joined (listing plain (heldJob n m names codes))) old 0 new next

@@ -1,0 +1,136 @@
+// The listing of a job: what is computed from lent lists, and the blocks of lines put for it in their order.
+use crate::blocks::put_branch_lines;
+use crate::blocks::put_fitted_total;
+use crate::blocks::put_prim_lines;
+use crate::blocks::put_prim_total;
+use crate::blocks::put_state_lines;
+use crate::blocks::put_wagner_lines;
+use crate::blocks::put_wagner_total;
+use branching::tree::Tree;
+use fitting::whole::Fit;
+use fitting::whole::fit_tree;
+use prim::answer::Network;
+use prim::network::network;
+use wagner::build::WagnerTree;
+use wagner::build::build;
+ghost use Prim.Native.Nat.{_≤_};
+ghost use Rattle.matrix.specs.Questions.{LentMatrix};
+ghost use Rattle.prim.specs.Answers.{mostLinks};
+ghost use Rattle.wagner.specs.Answers.{mostPlacements};
+ghost use Rattle.listing.specs.Put.{Put};
+ghost use Rattle.listing.specs.Handed.{namesIn, primTexts, wagnerTexts, fittedTexts};
+ghost use Rattle.listing.specs.Found.{StateLists, Listable, resultTexts, ResultsOf, ListsJob};
+
+// What is listed of a matrix: its Prim Network, its Wagner tree, and the fit of that tree.
+struct Results {
+    network: Network,
+    built: WagnerTree,
+    fit: Fit,
+}
+
+// Puts the block of a network: its `P` lines, and the line `p`.
+fn put_prim_block(out: &mut [u8], at: usize, n: usize, names: &[u8], network: Network) -> usize
+    requires { ⌜ network .count ≤ mostLinks ⌝ }
+    ensures { λ r. ⌜ Put (primTexts n (namesIn n (now (names .entry))) network) (now (out .entry)) at (now (out .exit)) r ⌝ }
+{
+    let next = put_prim_lines(out, at, n, names, network);
+    put_prim_total(out, next, network.total)
+}
+
+// Puts the block of a build: its `W` lines, and the line `w`.
+fn put_wagner_block(out: &mut [u8], at: usize, n: usize, names: &[u8], built: WagnerTree) -> usize
+    requires { ⌜ built .count ≤ mostPlacements ⌝ }
+    ensures { λ r. ⌜ Put (wagnerTexts n (namesIn n (now (names .entry))) built) (now (out .entry)) at (now (out .exit)) r ⌝ }
+{
+    let placements = built.placements;
+    let next = put_wagner_lines(out, at, n, names, placements, built.count);
+    put_wagner_total(out, next, built.length)
+}
+
+// Puts the block of a fitted tree: its `T` lines, and the line `t`.
+fn put_fitted_block(
+    out: &mut [u8],
+    at: usize,
+    n: usize,
+    names: &[u8],
+    tree: Tree,
+    fit: Fit,
+) -> usize
+    requires { ⌜ (1 ≤ n) × (n ≤ 64) ⌝ }
+    ensures { λ r. ⌜ Put (fittedTexts n (namesIn n (now (names .entry))) tree fit) (now (out .entry)) at (now (out .exit)) r ⌝ }
+{
+    let lengths = fit.lengths;
+    let marks = fit.marks;
+    let next = put_branch_lines(out, at, n, names, tree, lengths, marks);
+    put_fitted_total(out, next, fit.total)
+}
+
+// Puts the four blocks in front of a list: network, build, fitted tree and states.
+fn put_results(
+    out: &mut [u8],
+    n: usize,
+    m: usize,
+    names: &[u8],
+    results: Results,
+    low: &[i32],
+    high: &[i32],
+    chosen: &[i32],
+) -> usize
+    requires { ⌜ Listable n m results ⌝ }
+    requires { ⌜ StateLists (now low) (now high) (now chosen) ⌝ }
+    ensures { λ r. ⌜ Put (resultTexts n (namesIn n (now (names .entry))) m results (now (low .entry)) (now (high .entry)) (now (chosen .entry))) (now (out .entry)) 0 (now (out .exit)) r ⌝ }
+{
+    let network = results.network;
+    let built = results.built;
+    let fit = results.fit;
+    let tree = built.tree;
+    let a = put_prim_block(out, 0, n, names, network);
+    let b = put_wagner_block(out, a, n, names, built);
+    let c = put_fitted_block(out, b, n, names, tree, fit);
+    put_state_lines(out, c, n, m, names, low, high, chosen)
+}
+
+// The network, the build and the fit of a lent matrix. The rows of the HTUs are written into the matrix, their states into three lists of
+// its shape.
+fn results_of(
+    matrix: &mut [i32],
+    n: usize,
+    m: usize,
+    low: &mut [i32],
+    high: &mut [i32],
+    chosen: &mut [i32],
+) -> Results
+    requires { ⌜ LentMatrix (now matrix) n m ⌝ }
+    requires { ⌜ StateLists (now low) (now high) (now chosen) ⌝ }
+    ensures { λ r. ⌜ ResultsOf (now (matrix .entry)) n m (now (low .exit)) (now (high .exit)) (now (chosen .exit)) r ⌝ }
+{
+    let answer = network(matrix, n, m);
+    let links = answer.network;
+    let built = build(matrix, n, m);
+    let tree = built.tree;
+    let fit = fit_tree(matrix, n, m, tree, low, high, chosen);
+    Results {
+        network: links,
+        built,
+        fit,
+    }
+}
+
+// Puts the listing of the job that lent lists hold in front of a list.
+pub(crate) fn put_job(
+    out: &mut [u8],
+    n: usize,
+    m: usize,
+    names: &[u8],
+    matrix: &mut [i32],
+    low: &mut [i32],
+    high: &mut [i32],
+    chosen: &mut [i32],
+) -> usize
+    requires { ⌜ LentMatrix (now matrix) n m ⌝ }
+    requires { ⌜ StateLists (now low) (now high) (now chosen) ⌝ }
+    ensures { λ r. ⌜ ListsJob n m (now (names .entry)) (now (matrix .entry)) (now (out .entry)) (now (out .exit)) r ⌝ }
+{
+    let found = results_of(matrix, n, m, low, high, chosen);
+    put_results(out, n, m, names, found, low, high, chosen)
+}
