@@ -10,7 +10,8 @@ use mir.Val.{SFits, ofZ, toZ}
 use lib.IntN.{ℤ}
 use Rattle.lists.specs.Numbers.{numbers}
 use Rattle.branching.specs.Nodes.{otherNodes}
-use Rattle.listing.specs.Handed.{branchTextAt, branchTexts, stateText, stateTextAt, nodeTexts, stateTexts}
+use Rattle.listing.specs.Blocks.{stateLine}
+use Rattle.listing.specs.Handed.{branchTextAt, branchTexts, stateTextAt, nodeTexts, stateTexts}
 use Rattle.fitting.specs.Handing.{stateAt}
 
 module _ (n : ℕ) (names : List (List ℕ)) where
@@ -41,7 +42,7 @@ module _ (n : ℕ) (names : List (List ℕ)) where
 
     -- states handed on are the states that the lists hold
     pub same-states : (v j : ℕ) → SFits w32 (stateAt low v j) → SFits w32 (stateAt high v j) → SFits w32 (stateAt chosen v j)
-        → stateText n names v j (toZ w32 (ofZ w32 (stateAt low v j))) (toZ w32 (ofZ w32 (stateAt high v j)))
+        → stateLine n names v j (toZ w32 (ofZ w32 (stateAt low v j))) (toZ w32 (ofZ w32 (stateAt high v j)))
         (toZ w32 (ofZ w32 (stateAt chosen v j)))
         ≡ stateTextAt n names low high chosen v j
     unfolding stateTextAt

@@ -73,7 +73,8 @@ unfolding flatMap matrix-Shape.row matrix-Shape.inRange matrix-Shape.lastNode li
     fitting-Character.up fitting-Character.chosen fitting-Character.ranges fitting-Assignments.character
     fitting-Assignments.branchLength fitting-Assignments.total fitting-Fit.chosenState fitting-Fit.range fitting-Fit.fittedLength
     fitting-Fit.fittedTotal fitting-Fit.marked listing-Lines.line listing-Lines.hyphen listing-Lines.htuName listing-Lines.nodeName
-    listing-Blocks.totalLine listing-Blocks.mark listing-Blocks.primLine listing-Blocks.wagnerLine listing-Blocks.fittedLine
+    listing-Blocks.totalLine listing-Blocks.mark listing-Blocks.primLine listing-Blocks.wagnerLine listing-Blocks.branchLine
+    listing-Blocks.stateLine listing-Blocks.fittedLine
     listing-Blocks.rangeLine listing-Blocks.fittedLines listing-Blocks.rangeLines listing-Listing.primBlock listing-Listing.wagnerBlock
     listing-Listing.fittedBlock listing-Listing.rangeBlock listing-Listing.blocks listing-Listing.listing listing-Listing.refusalLine
     listing-Listing.printed listing-Listing.listingOf listing-Listing.output

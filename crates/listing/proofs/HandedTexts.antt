@@ -19,9 +19,9 @@ use Rattle.branching.specs.declared.placement.Placement.{Placement}
 use Rattle.branching.specs.Ancestors.{ancestor}
 use Rattle.branching.specs.Nodes.{otherNodes}
 use Rattle.listing.specs.Lines.{joined}
-use Rattle.listing.specs.Blocks.{primLine, wagnerLine, fittedLine, fittedLines, rangeLine, rangeLines}
+use Rattle.listing.specs.Blocks.{primLine, wagnerLine, fittedLine, fittedLines, rangeLine, rangeLines, branchLine, stateLine}
 use Rattle.listing.specs.Listing.{refusalLine, printed}
-use Rattle.listing.specs.Handed.{namesIn, HoldsNames, HoldsPlacements, HoldsFit, HoldsStates, refusalText, branchText, branchTextAt, branchTexts, stateText, stateTextAt, nodeTexts, stateTexts}
+use Rattle.listing.specs.Handed.{namesIn, HoldsNames, HoldsPlacements, HoldsFit, HoldsStates, branchTextAt, branchTexts, stateTextAt, nodeTexts, stateTexts}
 use Rattle.branching.specs.Unasked.{noPlacement}
 use Rattle.wagner.specs.Answers.{mostPlacements}
 use Rattle.wagner.specs.Build.{wagner}
@@ -30,8 +30,8 @@ use Rattle.listing.proofs.Joined.{joined-one, joined-map, joined-each, 
 use Rattle.listing.proofs.Unpadded.{same-names}
 
 -- the line of a refusal is what is printed for it
-pub refusal-text : (number at : ℕ) → refusalText number at ≡ joined (printed (refused number at))
-unfolding refusalText refusalLine printed
+pub refusal-text : (number at : ℕ) → refusalLine number at ≡ joined (printed (refused number at))
+unfolding printed
 refusal-text number at = sym (joined-one (refusalLine number at))
 
 -- a Prim Network of at most 64 taxa that is held has at most 63 links
@@ -76,7 +76,7 @@ module _ (n : ℕ) (names : List (List ℕ)) (lent : List ℕ) (named : HoldsNam
       -- a `T` line with the length and the mark of the fit
       branch-fitted : (v : ℕ) → 2 ≤ v → v ≤ 2 * n - 2
           → branchTextAt n (namesIn n lent) tree lengths marks v ≡ fittedLine n names tree rows m step v
-      unfolding branchTextAt branchText fittedLine
+      unfolding branchTextAt branchLine fittedLine
       branch-fitted v low high =
           rw (
             held .lengthAt v low high,
@@ -97,7 +97,7 @@ module _ (n : ℕ) (names : List (List ℕ)) (lent : List ℕ) (named : HoldsNam
       -- an `H` line with the states of the fit
       state-fitted : (v j : ℕ) → n < v → v ≤ 2 * n - 2 → 1 ≤ j → j ≤ m
           → stateTextAt n (namesIn n lent) low high chosen v j ≡ rangeLine n names tree rows m v j
-      unfolding stateTextAt stateText rangeLine
+      unfolding stateTextAt stateLine rangeLine
       state-fitted v j a b d e =
           rw (
             held .lowAt v j a b d e,

@@ -24,9 +24,9 @@ use Rattle.matrix_file.proofs.Lists.ReadLists.{job-lent, Accepting, read-accept
 use Rattle.difference.specs.Rows.{plain}
 use Rattle.rivals.proofs.Reading.{read-rows}
 use Rattle.listing.specs.Lines.{joined}
-use Rattle.listing.specs.Listing.{listing, printed, output}
+use Rattle.listing.specs.Listing.{listing, printed, output, refusalLine}
 use Rattle.listing.specs.Put.{Put}
-use Rattle.listing.specs.Handed.{HoldsNames, refusalText}
+use Rattle.listing.specs.Handed.{HoldsNames}
 use Rattle.listing.specs.Found.{heldJob, ListsJob}
 use Rattle.listing.proofs.HandedTexts.{refusal-text}
 use Rattle.listing.proofs.Puts.{put-same}
@@ -46,9 +46,9 @@ module _ (file : List ℕ) (oldMatrix : List ℤ) (oldNames : List ℕ) (matrix 
 
   -- so the line of the refusal is what is printed
   pub refused-printed : (refusal : Refusal) (line number : ℕ) → number ≡ refusalNumber refusal → r ≡ Read.Refused refusal line
-      → refusalText number line ≡ output file
+      → refusalLine number line ≡ output file
   refused-printed refusal line number is e =
-      ap (λ (k : ℕ). refusalText k line) is
+      ap (λ (k : ℕ). refusalLine k line) is
       ∙ refusal-text (refusalNumber refusal) line
       ∙ sym (output-printed file _ (refused-answer refusal line e))
 

@@ -40,30 +40,26 @@ module _ (n : ℕ) (names : List (List ℕ)) where
       ∷ digitsOf (p .added)
       ∷ [])
 
-  module _ (tree : List ℕ) (rows : List (List ℤ)) (m : ℕ) where
-    -- `T`: node, immediate ancestor, fitted length, mark; `step j a b` is what a change between states a and b costs in character j
-    unfoldable pub fittedLine : (ℕ → ℤ → ℤ → ℕ) → ℕ → List ℕ
-    fittedLine step v =
-        line
-        (bytes "T"
-        ∷ nodeName n names v
-        ∷ nodeName n names (ancestor tree v)
-        ∷ digitsOf (fittedLength step tree rows n m v)
-        ∷ mark (marked step tree rows n m v)
-        ∷ [])
+  -- `T`: node, immediate ancestor, fitted length, mark
+  unfoldable pub branchLine : ℕ → ℕ → ℕ → Bool → List ℕ
+  branchLine v above length marked =
+      line (bytes "T" ∷ nodeName n names v ∷ nodeName n names above ∷ digitsOf length ∷ mark marked ∷ [])
 
-    -- `H`: HTU, character, lowest and highest state, chosen state
+  -- `H`: HTU, character, lowest and highest state, chosen state
+  unfoldable pub stateLine : ℕ → ℕ → ℤ → ℤ → ℤ → List ℕ
+  stateLine v j low high chosen =
+      line (bytes "H" ∷ nodeName n names v ∷ digitsOf j ∷ decimal low ∷ decimal high ∷ decimal chosen ∷ [])
+
+  module _ (tree : List ℕ) (rows : List (List ℤ)) (m : ℕ) where
+    -- the `T` line of node v; `step j a b` is what a change between states a and b costs in character j
+    unfoldable pub fittedLine : (ℕ → ℤ → ℤ → ℕ) → ℕ → List ℕ
+    fittedLine step v = branchLine v (ancestor tree v) (fittedLength step tree rows n m v) (marked step tree rows n m v)
+
+    -- the `H` line of HTU v and character j
     unfoldable pub rangeLine : ℕ → ℕ → List ℕ
     rangeLine v j =
         let span = range tree rows n v j in
-        line
-        (bytes "H"
-        ∷ nodeName n names v
-        ∷ digitsOf j
-        ∷ decimal (span .low)
-        ∷ decimal (span .high)
-        ∷ decimal (chosenState tree rows n v j)
-        ∷ [])
+        stateLine v j (span .low) (span .high) (chosenState tree rows n v j)
 
     -- the `T` lines, by node number from 2
     unfoldable pub fittedLines : (ℕ → ℤ → ℤ → ℕ) → List (List ℕ)

@@ -24,7 +24,7 @@ use Rattle.fitting.specs.Handing.{stateAt}
 use Rattle.fitting.specs.Fit.{chosenState, range, fittedLength, marked}
 use Rattle.fitting.specs.declared.whole.Fit.{Fit}
 use Rattle.listing.specs.Lines.{line, nodeName}
-use Rattle.listing.specs.Blocks.{mark, totalLine, primLine, wagnerLine}
+use Rattle.listing.specs.Blocks.{totalLine, primLine, wagnerLine, branchLine, stateLine}
 
 -- the bytes lent for the name at place k, the first at place 0
 unfoldable pub nameBytes : List ℕ → ℕ → List ℕ
@@ -59,25 +59,11 @@ pub record HoldsStates (tree : List ℕ) (rows : List (List ℤ)) (n m : ℕ) (l
 unfoldable pub totalText : ℕ → ℕ → List ℕ
 totalText letter total = line ((letter ∷ []) ∷ digitsOf total ∷ [])
 
--- the line of a refusal, with its number
-unfoldable pub refusalText : ℕ → ℕ → List ℕ
-refusalText number at = line (bytes "R" ∷ digitsOf number ∷ digitsOf at ∷ [])
-
 module _ (n : ℕ) (names : List (List ℕ)) where
-  -- the `T` line of node v, with its ancestor, length and mark
-  unfoldable pub branchText : ℕ → ℕ → ℕ → Bool → List ℕ
-  branchText v above length marked =
-      line (bytes "T" ∷ nodeName n names v ∷ nodeName n names above ∷ digitsOf length ∷ mark marked ∷ [])
-
-  -- the `H` line of node v and character j, with the ends of the range and the chosen state
-  unfoldable pub stateText : ℕ → ℕ → ℤ → ℤ → ℤ → List ℕ
-  stateText v j low high chosen =
-      line (bytes "H" ∷ nodeName n names v ∷ digitsOf j ∷ decimal low ∷ decimal high ∷ decimal chosen ∷ [])
-
   module _ (tree lengths : List ℕ) (marks : List Bool) where
     -- the `T` line of node v of a tree, with lengths and marks by node number
     unfoldable pub branchTextAt : ℕ → List ℕ
-    branchTextAt v = branchText v (ancestor tree v) (getD lengths v 0) (getD marks v false)
+    branchTextAt v = branchLine n names v (ancestor tree v) (getD lengths v 0) (getD marks v false)
 
     -- the `T` lines of a tree, by node number from 2
     unfoldable pub branchTexts : List ℕ
@@ -86,7 +72,7 @@ module _ (n : ℕ) (names : List (List ℕ)) where
   module _ (low high chosen : List ℤ) where
     -- the `H` line of node v and character j, with the states that lists of the matrix's shape hold
     unfoldable pub stateTextAt : ℕ → ℕ → List ℕ
-    stateTextAt v j = stateText v j (stateAt low v j) (stateAt high v j) (stateAt chosen v j)
+    stateTextAt v j = stateLine n names v j (stateAt low v j) (stateAt high v j) (stateAt chosen v j)
 
     -- the `H` lines of node v, by character from 1 to m
     unfoldable pub nodeTexts : ℕ → ℕ → List ℕ

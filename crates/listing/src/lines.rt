@@ -6,9 +6,10 @@ use crate::put::put_tab_node;
 use crate::put::put_tab_number;
 use branching::placement::Placement;
 use prim::answer::Link;
-ghost use Rattle.listing.specs.Blocks.{primLine, wagnerLine};
+ghost use Rattle.listing.specs.Blocks.{primLine, wagnerLine, branchLine, stateLine};
+ghost use Rattle.listing.specs.Listing.{refusalLine};
 ghost use Rattle.listing.specs.Put.{Put};
-ghost use Rattle.listing.specs.Handed.{namesIn, totalText, refusalText, branchText, stateText};
+ghost use Rattle.listing.specs.Handed.{namesIn, totalText};
 
 const LINE_FEED: u8 = b'\n';
 
@@ -23,7 +24,7 @@ pub(crate) fn put_total_line(out: &mut [u8], at: usize, letter: u8, total: u64) 
 
 // Puts the line of a refusal: its number, and the line of the file.
 pub(crate) fn put_refusal_line(out: &mut [u8], at: usize, number: u64, line: usize) -> usize
-    ensures { λ r. ⌜ Put (refusalText number line) (now (out .entry)) at (now (out .exit)) r ⌝ }
+    ensures { λ r. ⌜ Put (refusalLine number line) (now (out .entry)) at (now (out .exit)) r ⌝ }
 {
     let a = put_byte(out, at, b'R');
     let b = put_tab_number(out, a, number);
@@ -72,7 +73,7 @@ pub(crate) fn put_branch_line(
     length: u64,
     marked: bool,
 ) -> usize
-    ensures { λ r. ⌜ Put (branchText n (namesIn n (now (names .entry))) v above length marked) (now (out .entry)) at (now (out .exit)) r ⌝ }
+    ensures { λ r. ⌜ Put (branchLine n (namesIn n (now (names .entry))) v above length marked) (now (out .entry)) at (now (out .exit)) r ⌝ }
 {
     let a = put_byte(out, at, b'T');
     let b = put_tab_node(out, a, n, names, v);
@@ -94,7 +95,7 @@ pub(crate) fn put_state_line(
     high: i32,
     chosen: i32,
 ) -> usize
-    ensures { λ r. ⌜ Put (stateText n (namesIn n (now (names .entry))) v j low high chosen) (now (out .entry)) at (now (out .exit)) r ⌝ }
+    ensures { λ r. ⌜ Put (stateLine n (namesIn n (now (names .entry))) v j low high chosen) (now (out .entry)) at (now (out .exit)) r ⌝ }
 {
     let a = put_byte(out, at, b'H');
     let b = put_tab_node(out, a, n, names, v);

@@ -23,7 +23,7 @@ use Rattle.branching.specs.Nodes.{otherNodes}
 use Rattle.wagner.specs.Build.{wagnerLength}
 use Rattle.fitting.specs.Fit.{chosenState, range, fittedLength, fittedTotal, marked}
 use Rattle.listing.specs.Lines.{nodeName, joined}
-use Rattle.listing.specs.Blocks.{mark, totalLine, primLine, wagnerLine, fittedLine, fittedLines, rangeLine, rangeLines}
+use Rattle.listing.specs.Blocks.{mark, totalLine, primLine, wagnerLine, branchLine, stateLine, fittedLine, fittedLines, rangeLine, rangeLines}
 use Rattle.listing.specs.Listing.{listing}
 use Rattle.listing.specs.Call.{outputSize}
 use Rattle.listing.proofs.Joined.{joined-map, joined-each, texts-room}
@@ -110,7 +110,7 @@ module _ (job : Job) (within : JobWithinLimits job) where
   -- a `T` line
   tree-size : (v : ℕ) → 2 ≤ v → v ≤ 2 * job .n - 2
       → length (fittedLine (job .n) (job .names) tree (job .rows) (job .m) (plain .step) v) ≤ mostLine
-  unfolding fittedLine sizes bytes
+  unfolding fittedLine branchLine sizes bytes
   tree-size v first last =
       let size = fittedLength (plain .step) tree (job .rows) (job .n) (job .m) v in
       let sign = mark (marked (plain .step) tree (job .rows) (job .n) (job .m) v) in
@@ -127,7 +127,7 @@ module _ (job : Job) (within : JobWithinLimits job) where
   -- an `H` line
   htu-size : (v j : ℕ) → job .n < v → v ≤ 2 * job .n - 2 → j ≤ job .m
       → length (rangeLine (job .n) (job .names) tree (job .rows) (job .m) v j) ≤ mostLine
-  unfolding rangeLine sizes bytes
+  unfolding rangeLine stateLine sizes bytes
   htu-size v j first last character =
       let span = range tree (job .rows) (job .n) v j in
       let own = chosenState tree (job .rows) (job .n) v j in

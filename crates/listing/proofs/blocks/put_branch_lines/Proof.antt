@@ -9,7 +9,8 @@ use native.Mathlib.Omega.{arith}
 use lib.ListN.{length, getD}
 use Rattle.lists.specs.Numbers.{numbers}
 use Rattle.branching.specs.Ancestors.{ancestors}
-use Rattle.listing.specs.Handed.{namesIn, branchText, branchTextAt, branchTexts}
+use Rattle.listing.specs.Blocks.{branchLine}
+use Rattle.listing.specs.Handed.{namesIn, branchTextAt, branchTexts}
 use Rattle.listing.proofs.Puts.{Left, left-start, left-end, left-put, left-same, put-same}
 use Rattle.listing.proofs.BlockTexts.{branches-from-two}
 use Rattle.listing.proofs.InTurn.{next-of, none-of}
@@ -70,7 +71,7 @@ loop-again c =
       put .put-branch-line .kept .0 ∙ known .2,
       left-put (left-same (next-of (branchTextAt (given .n) names (given .tree .ancestors) (given .t6) (given .t7)) _ _ (test .loop-test .taken)) (known .3))
           (put-same
-          (ap (λ above. branchText (given .n) names v above (getD (given .t6) v 0) (getD (given .t7) v false)) (put .before .before .ancestor .ensures)) (put .put-branch-line .ensures)),
+          (ap (λ above. branchLine (given .n) names v above (getD (given .t6) v 0) (getD (given .t7) v false)) (put .before .before .ancestor .ensures)) (put .put-branch-line .ensures)),
     )
 
 same-length : tie.Need-same-length Inv-loop μ-loop

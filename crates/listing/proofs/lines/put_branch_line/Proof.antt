@@ -1,7 +1,7 @@
 -- `listing::lines::put_branch_line` meets its contract. Assumes nothing.
 use mathlib.Core.Path.{sym}
 use Rattle.matrix_file.specs.Text.{bytes}
-use Rattle.listing.specs.Handed.{branchText}
+use Rattle.listing.specs.Blocks.{branchLine}
 use Rattle.listing.proofs.Puts.{put-then, put-same}
 use Rattle.listing.proofs.LineFields.{behind, line-fields}
 use borrow.Author.Needs.{needs}
@@ -30,7 +30,7 @@ same-length : tie.Need-same-length
 same-length c = search needs
 
 returns : tie.Need-returns
-unfolding branchText bytes behind
+unfolding branchLine bytes behind
 returns c =
     let e = c .before .before in
     let g = e .before .before .before .before in

@@ -1,7 +1,7 @@
 -- `listing::lines::put_refusal_line` meets its contract. Assumes nothing.
 use mathlib.Core.Path.{sym}
 use Rattle.matrix_file.specs.Text.{bytes}
-use Rattle.listing.specs.Handed.{refusalText}
+use Rattle.listing.specs.Listing.{refusalLine}
 use Rattle.listing.proofs.Puts.{put-then, put-same}
 use Rattle.listing.proofs.LineFields.{behind, line-fields}
 use borrow.Author.Needs.{needs}
@@ -24,7 +24,7 @@ same-length : tie.Need-same-length
 same-length c = search needs
 
 returns : tie.Need-returns
-unfolding refusalText bytes behind
+unfolding refusalLine bytes behind
 returns c =
     let e = c .before .before in
     let d = e .before .before .before .before in

@@ -1,7 +1,7 @@
 -- `listing::lines::put_state_line` meets its contract. Assumes nothing.
 use mathlib.Core.Path.{sym}
 use Rattle.matrix_file.specs.Text.{bytes}
-use Rattle.listing.specs.Handed.{stateText}
+use Rattle.listing.specs.Blocks.{stateLine}
 use Rattle.listing.proofs.Puts.{put-then, put-same}
 use Rattle.listing.proofs.Fields.{tab-code}
 use Rattle.listing.proofs.LineFields.{behind, line-fields}
@@ -34,7 +34,7 @@ same-length : tie.Need-same-length
 same-length c = search needs
 
 returns : tie.Need-returns
-unfolding stateText bytes behind
+unfolding stateLine bytes behind
 returns c =
     let e = c .before .before in
     let h = e .before .before .before .before in
