@@ -16,5 +16,7 @@ pub mod Printed
 pub mod FoundResults
 pub mod ReadListed
 pub mod Called
+pub mod InPrint
+pub mod OfFiles
 pub mod Totals
 pub mod Bounds

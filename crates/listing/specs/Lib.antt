@@ -3,6 +3,7 @@ pub mod Lines
 pub mod Blocks
 pub mod Listing
 pub mod Call
+pub mod InPrint
 -- for contracts within this crate: bytes put into a lent list, and what is handed to the functions that put lines
 pub mod Put
 pub mod Handed

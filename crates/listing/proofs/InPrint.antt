@@ -1,0 +1,79 @@
+-- The claim about the three rivals, for the numbers that are printed: one theorem to hold beside the output of the program.
+use mathlib.Core.Path.{_≡_, refl, sym, ap, _∙_}
+use mathlib.Core.List.{List, [], _∷_, _++_, map, flatMap, append-nil, append-assoc}
+use Prim.Native.Nat.{ℕ, _+_, _*_, _-_, _≤_, _<_}
+use lib.IntN.{ℤ}
+use Rattle.matrix.specs.Outcomes.{value}
+use Rattle.matrix_file.specs.Job.{Job}
+use Rattle.matrix_file.specs.Reading.{readAnswer}
+use Rattle.matrix_file.proofs.File.Accepted.{accepted-exactly}
+use Rattle.difference.specs.Rows.{difference, plain}
+use Rattle.prim.specs.Network.{networkLength}
+use Rattle.branching.specs.RowLengths.{lengthUnder}
+use Rattle.wagner.specs.Build.{wagnerLength}
+use Rattle.fitting.specs.Fit.{chosenState, range, fittedLength, fittedTotal, marked}
+use Rattle.rivals.specs.Demand.{NoRivalDoesBetter}
+use Rattle.rivals.proofs.InWords.{for-every-file}
+use Rattle.listing.specs.Lines.{joined}
+use Rattle.listing.specs.Blocks.{fittedLine, fittedLines, rangeLine, rangeLines}
+use Rattle.listing.specs.Listing.{primBlock, wagnerBlock, fittedBlock, rangeBlock, blocks, listing, printed}
+use Rattle.listing.specs.InPrint.{PrintedNumbers, linesWith, NoRivalInPrint}
+use Rattle.listing.proofs.Parts.{linksOf, builtOf, primLines, wagnerLines, treeLines, htuLines, primTotal, wagnerTotal, treeTotal}
+use Rattle.listing.proofs.Totals.{wagner-total}
+use Rattle.listing.proofs.Printed.{output-printed}
+
+-- the numbers that are printed for a job
+abbrev numbersOf : Job → PrintedNumbers
+numbersOf job =
+    let tree = builtOf plain job .tree in
+    record {
+      links = linksOf plain job;
+      p = networkLength (linksOf plain job);
+      built = builtOf plain job;
+      w = wagnerLength difference (job .n) (builtOf plain job);
+      lengths = fittedLength (plain .step) tree (job .rows) (job .n) (job .m);
+      marks = marked (plain .step) tree (job .rows) (job .n) (job .m);
+      t = fittedTotal (plain .step) tree (job .rows) (job .n) (job .m);
+      low = λ v j. range tree (job .rows) (job .n) v j .low;
+      high = λ v j. range tree (job .rows) (job .n) v j .high;
+      chosen = chosenState tree (job .rows) (job .n);
+    }
+
+-- blocks with their totals, one after another
+in-line : (a b c d : List (List ℕ)) (x y z : List ℕ)
+    → flatMap (λ (block : List (List ℕ)). block) ((a ++ (x ∷ [])) ∷ (b ++ (y ∷ [])) ∷ (c ++ (z ∷ [])) ∷ d ∷ [])
+    ≡ a ++ (x ∷ b ++ (y ∷ c ++ (z ∷ d)))
+unfolding flatMap
+in-line a b c d x y z = simp (append-nil, append-assoc)
+
+-- the listing of a job prints them
+numbers-listed : (job : Job) → listing plain job ≡ linesWith job (numbersOf job)
+unfolding listing blocks primBlock wagnerBlock fittedBlock rangeBlock fittedLines rangeLines fittedLine rangeLine linesWith
+numbers-listed job =
+    in-line (primLines plain job) (wagnerLines plain job) (treeLines plain job) (htuLines plain job) (primTotal plain job) (wagnerTotal plain job)
+    (treeTotal plain job)
+
+-- for every file that a read accepts, no rival does better than the numbers that its listing prints
+pub no-rival-in-print : (file : List ℕ) (job : Job) → readAnswer file ≡ value job → NoRivalInPrint file job
+unfolding printed wagnerLength lengthUnder fittedTotal fittedLength
+no-rival-in-print file job e =
+    let claim : NoRivalDoesBetter plain (job .n) (job .m) (job .rows) = for-every-file file job e in
+    let fit = claim .fit (builtOf plain job .tree) (claim .whole) in
+    record {
+      printed = numbersOf job;
+      lines = output-printed file (value job) e ∙ ap joined (numbers-listed job);
+      connected = claim .network .ours;
+      p-length = claim .network .length;
+      no-network-shorter = claim .network .least;
+      no-hanging-adds-less = claim .build;
+      w-length = refl;
+      w-sum = sym (wagner-total job (accepted-exactly file job .0 e .0));
+      whole = claim .whole;
+      assigns = fit .assigns;
+      t-length = refl;
+      branch-lengths = λ v. refl;
+      no-states-shorter = fit .least;
+      range-exactly = λ v j s a b d f.
+          let exactly = fit .ranges v j s a b d f in
+          (λ between. exactly .0 (record { fromLow = between .0; toHigh = between .1 }), λ o. let inside = exactly .1 o in (inside .fromLow, inside .toHigh));
+    }

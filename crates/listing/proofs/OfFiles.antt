@@ -1,0 +1,65 @@
+-- What is printed, said of every file: for one taxon and for two, and that something is.
+use mathlib.Core.Path.{_≡_, refl, ap, _∙_}
+use mathlib.Core.List.{List, [], _∷_, _++_}
+use Prim.Native.Nat.{ℕ, _≤_}
+use native.Mathlib.Omega.{arith}
+use lib.ListN.{length, length-append}
+use Rattle.matrix.specs.Outcomes.{Outcome, value, refused}
+use Rattle.matrix_file.specs.Decimal.{digitsOf}
+use Rattle.matrix_file.specs.Text.{bytes}
+use Rattle.matrix_file.specs.Job.{Job}
+use Rattle.matrix_file.specs.Reading.{readAnswer}
+use Rattle.difference.specs.Rows.{plain}
+use Rattle.listing.specs.Lines.{joined}
+use Rattle.listing.specs.Blocks.{totalLine}
+use Rattle.listing.specs.Listing.{listing, refusalLine, printed, output}
+use Rattle.listing.proofs.Joined.{joined-one}
+use Rattle.listing.proofs.LineFields.{sizes, line-size}
+use Rattle.listing.proofs.OneTaxon.{one-taxon}
+use Rattle.listing.proofs.Parts.{primLines, primTotal, listing-text, OneOfEach, two-taxa}
+use Rattle.listing.proofs.Printed.{output-printed}
+
+module _ (file : List ℕ) (job : Job) (read : readAnswer file ≡ value job) where
+  -- an accepted file's output is its job's listing
+  accepted-output : output file ≡ joined (listing plain job)
+  unfolding printed
+  accepted-output = output-printed file (value job) read
+
+  -- of one taxon: `p 0`, `w 0`, `t 0`, whatever its name, its codes and their number
+  pub one-taxon-file : job .n ≡ 1 → output file ≡ joined (totalLine "p" 0 ∷ totalLine "w" 0 ∷ totalLine "t" 0 ∷ [])
+  one-taxon-file e =
+      accepted-output
+      ∙ ap (λ (n : ℕ). joined (listing plain (record { n = n; m = job .m; names = job .names; rows = job .rows }))) e
+      ∙ ap joined (one-taxon plain (job .m) (job .names) (job .rows))
+
+  -- of two taxa: one `P`, one `W` and one `T` line, and no `H`
+  pub two-taxa-file : job .n ≡ 2 → (output file ≡ joined (listing plain job)) × OneOfEach plain job
+  two-taxa-file e = (accepted-output, two-taxa plain job e)
+
+-- a text with bytes between others has some
+between-some : (a b c : List ℕ) → 1 ≤ length b → 1 ≤ length (a ++ (b ++ c))
+between-some a b c h = simp length-append (omega arith)
+
+-- the line of a total has some
+total-some : (total : ℕ) → 1 ≤ length (totalLine "p" total)
+unfolding totalLine sizes
+total-some total = omega (arith, line-size (bytes "p") (digitsOf total ∷ []))
+
+-- some byte is printed of a listing
+listing-some : (job : Job) → 1 ≤ length (joined (listing plain job))
+listing-some job = rw (listing-text plain job) (between-some (joined (primLines plain job)) (primTotal plain job) _ (total-some _))
+
+-- and of a refusal
+refusal-some : (number line : ℕ) → 1 ≤ length (joined (refusalLine number line ∷ []))
+unfolding refusalLine sizes
+refusal-some number line =
+    omega (arith, ap length (joined-one (refusalLine number line)), line-size (bytes "R") (digitsOf number ∷ digitsOf line ∷ []))
+
+-- so of every file
+pub output-some : (file : List ℕ) → 1 ≤ length (output file)
+unfolding printed
+output-some file = by (readAnswer file) refl
+  where
+    by : (answer : Outcome Job) → readAnswer file ≡ answer → 1 ≤ length (output file)
+    by (value job) e = rw (output-printed file (value job) e) (listing-some job)
+    by (refused number line) e = rw (output-printed file (refused number line) e) (refusal-some number line)

@@ -1,0 +1,83 @@
+-- Demand 3 for what is printed (document 01, "The three rivals"): the numbers that the listing of an accepted file prints, and that no
+-- rival does better than they say.
+use mathlib.Core.Path.{_≡_}
+use mathlib.Core.Logic.{_↔_}
+use mathlib.Core.Bool.{Bool, true}
+use mathlib.Core.List.{List, _∷_, _++_, map, flatMap}
+use Prim.Native.Nat.{ℕ, _+_, _*_, _-_, _≤_, _<_}
+use lib.IntN.{ℤ}
+use lib.Signed.{_≤ℤ_}
+use Rattle.lists.specs.Numbers.{numbers}
+use Rattle.lists.specs.Sums.{sumOver}
+use Rattle.matrix.specs.NodeRows.{rowOf}
+use Rattle.matrix_file.specs.Job.{Job}
+use Rattle.difference.specs.Rows.{difference, nodeDifference, plain}
+use Rattle.prim.specs.Network.{Link}
+use Rattle.prim.specs.Rival.{Connected, linkEnds, linksLength}
+use Rattle.branching.specs.declared.placement.Placement.{Placement}
+use Rattle.branching.specs.Ancestors.{ancestor}
+use Rattle.branching.specs.Nodes.{otherNodes}
+use Rattle.branching.specs.Growing.{branching}
+use Rattle.branching.specs.RowLengths.{lengthUnder}
+use Rattle.wagner.specs.Build.{Built}
+use Rattle.fitting.specs.Assignments.{branchLength, total, IsAssignment, Occurs}
+use Rattle.rivals.specs.Demand.{BuildIsLeast}
+use Rattle.listing.specs.Lines.{joined}
+use Rattle.listing.specs.Blocks.{totalLine, primLine, wagnerLine, branchLine, stateLine}
+use Rattle.listing.specs.Listing.{output}
+
+-- the numbers that a listing prints
+pub record PrintedNumbers : Type 0 where
+  -- the links of the `P` lines, and `p`
+  pub links : List Link
+  pub p : ℕ
+  -- the build whose placements are the `W` lines, and `w`
+  pub built : Built
+  pub w : ℕ
+  -- length and mark in the `T` line of a node, and `t`
+  pub lengths : ℕ → ℕ
+  pub marks : ℕ → Bool
+  pub t : ℕ
+  -- lowest, highest and chosen state in the `H` line of a node and a character
+  pub low : ℕ → ℕ → ℤ
+  pub high : ℕ → ℕ → ℤ
+  pub chosen : ℕ → ℕ → ℤ
+
+-- the lines that print these numbers for a job
+unfoldable pub linesWith : Job → PrintedNumbers → List (List ℕ)
+linesWith job x =
+    map (primLine (job .n) (job .names)) (x .links)
+    ++ (totalLine "p" (x .p)
+    ∷ map (wagnerLine (job .n) (job .names)) (x .built .placements)
+    ++ (totalLine "w" (x .w)
+    ∷ map (λ v. branchLine (job .n) (job .names) v (ancestor (x .built .tree) v) (x .lengths v) (x .marks v)) (otherNodes (job .n))
+    ++ (totalLine "t" (x .t)
+    ∷ flatMap (λ v. map (λ j. stateLine (job .n) (job .names) v j (x .low v j) (x .high v j) (x .chosen v j)) (numbers 1 (job .m)))
+    (numbers (job .n + 1) (job .n - 2)))))
+
+-- the listing of a file that says a job prints numbers of which this holds
+pub record NoRivalInPrint (file : List ℕ) (job : Job) : Type 0 where
+  pub printed : PrintedNumbers
+  -- they are what is printed, in these lines
+  pub lines : output file ≡ joined (linesWith job printed)
+  -- the `P` lines are a connected network of the taxa, of length `p`, and no connected network of the taxa is shorter
+  pub connected : Connected (job .n) (linkEnds (printed .links))
+  pub p-length : linksLength (nodeDifference difference (rowOf (job .rows))) (linkEnds (printed .links)) ≡ printed .p
+  pub no-network-shorter : (rival : List (ℕ × ℕ)) → Connected (job .n) rival
+      → printed .p ≤ linksLength (nodeDifference difference (rowOf (job .rows))) rival
+  -- each `W` line but the first is a hanging of its taxon of which none adds less; `w` is the length of the tree with the rows so made, and
+  -- the sum of the lengths that the `W` lines add
+  pub no-hanging-adds-less : BuildIsLeast difference (job .n) (job .m) (job .rows) (printed .built)
+  pub w-length : lengthUnder difference (job .n) (printed .built .tree) (printed .built .rows) ≡ printed .w
+  pub w-sum : sumOver (λ (placement : Placement). placement .added) (printed .built .placements) ≡ printed .w
+  -- the tree is a branching of all taxa; the chosen states are an assignment, of total `t`, whose branches have the lengths of the `T` lines
+  pub whole : branching (job .n) (printed .built .tree) ≡ true
+  pub assigns : IsAssignment (job .rows) (job .n) (job .m) (printed .chosen)
+  pub t-length : total (plain .step) (printed .built .tree) (job .n) (job .m) (printed .chosen) ≡ printed .t
+  pub branch-lengths : (v : ℕ) → printed .lengths v ≡ branchLength (plain .step) (printed .built .tree) (job .m) (printed .chosen) v
+  -- no assignment has a lower total
+  pub no-states-shorter : (rival : ℕ → ℕ → ℤ) → IsAssignment (job .rows) (job .n) (job .m) rival
+      → printed .t ≤ total (plain .step) (printed .built .tree) (job .n) (job .m) rival
+  -- a state lies from the lowest to the highest of an `H` line exactly if the HTU has it in some assignment of least length
+  pub range-exactly : (v j : ℕ) (s : ℤ) → job .n < v → v ≤ 2 * job .n - 2 → 1 ≤ j → j ≤ job .m
+      → ((printed .low v j ≤ℤ s) × (s ≤ℤ printed .high v j)) ↔ Occurs (plain .step) (printed .built .tree) (job .rows) (job .n) (job .m) v j s
