@@ -1,0 +1,24 @@
+-- `exports::calls::lists_full` meets its contract: its tests are the definition's. Assumes nothing.
+use borrow.Author.Tests.{eq-eqb, ne-eqb}
+use Rattle.fitting.specs.Calls.{listsFull}
+use borrow.Author.Needs.{needs}
+use Rattle.exports.proofs.calls.lists_full.Statement.{statement}
+use Rattle.exports.proofs.calls.lists_full.Tie as tie
+
+mul-size : tie.Need-mul-size
+mul-size c = search needs
+
+returns : tie.Need-returns
+unfolding listsFull
+returns c = rw (ne-eqb _ _ (c .if1 .taken))
+
+returns-2 : tie.Need-returns-2
+unfolding listsFull
+returns-2 c = rw (eq-eqb _ _ (c .before .if1 .left), ne-eqb _ _ (c .if2 .taken))
+
+returns-3 : tie.Need-returns-3
+unfolding listsFull
+returns-3 c = rw (eq-eqb _ _ (c .before .if1 .left), eq-eqb _ _ (c .if2 .left))
+
+pub lists-full-spec : {M : Type 1} → statement M
+lists-full-spec = tie.close (tie.spec mul-size returns returns-2 returns-3)
