@@ -95,9 +95,9 @@ pub extern "C" fn wagner_fit(
     if !lists_full(low.len(), high.len(), chosen.len()) {
         return refused(Refusal::ListSize);
     }
-    let built = build(matrix, n, m);
-    let asked = built.asked;
-    let tree = built.tree;
+    let grown = build(matrix, n, m);
+    let asked = grown.asked;
+    let tree = grown.tree;
     match asked {
         Asked::Refused(refusal) => refused(refusal),
         Asked::Passed => {
