@@ -30,7 +30,7 @@ pub struct Fitted {
 }
 
 // Whether three lists have the matrix's size.
-fn lists_full(low: usize, high: usize, chosen: usize) -> bool
+pub fn lists_full(low: usize, high: usize, chosen: usize) -> bool
     ensures { λ r. ⌜ r ≡ listsFull low high chosen ⌝ }
 {
     let size = ROWS * COLUMNS;

@@ -1,0 +1,74 @@
+//! Lent lists with known contents, and what they should hold afterwards.
+
+use crate::{COLUMNS, MATRIX_SIZE, NAMES_SIZE};
+use wagner_reference::data::Data;
+use wagner_reference::ranges::{Range, Ranges};
+
+/// A list of codes that are no codes, each place another one, so that every
+/// write shows.
+pub fn codes(size: usize, mark: i32) -> Vec<i32> {
+    (0..size)
+        .map(|i| 1_000_000 + mark * 100_000 + i as i32)
+        .collect()
+}
+
+/// A list of bytes that are no names.
+pub fn bytes(size: usize) -> Vec<u8> {
+    (0..size).map(|i| 128 + (i % 97) as u8).collect()
+}
+
+/// The place of node v's code for character j.
+pub fn place(v: usize, j: usize) -> usize {
+    (v - 1) * COLUMNS + (j - 1)
+}
+
+/// A lent matrix with the rows of the taxa of a reference matrix in it.
+pub fn matrix_of(data: &Data) -> Vec<i32> {
+    let mut matrix = codes(MATRIX_SIZE, 0);
+    write_rows(&mut matrix, data, 1, data.n);
+    matrix
+}
+
+/// Writes the rows of nodes `first` to `last` over a matrix.
+pub fn write_rows(matrix: &mut [i32], data: &Data, first: usize, last: usize) {
+    for v in first..=last {
+        for j in 1..=data.m {
+            matrix[place(v, j)] = data.code(v, j);
+        }
+    }
+}
+
+/// A lent list of names with these written over it, padded with zeros.
+pub fn write_names(list: &mut [u8], names: &[String]) {
+    for (i, name) in names.iter().enumerate() {
+        list[i * 16..i * 16 + 16].fill(0);
+        list[i * 16..i * 16 + name.len()].copy_from_slice(name.as_bytes());
+    }
+}
+
+/// A lent list of names.
+pub fn names() -> Vec<u8> {
+    bytes(NAMES_SIZE)
+}
+
+/// The lowest and highest states of the HTUs, written over two lists.
+pub fn write_ranges(low: &mut [i32], high: &mut [i32], data: &Data, found: &Ranges) {
+    for v in data.n + 1..found.ranges.len() {
+        for j in 1..=data.m {
+            let Range::Ordered(ends) = found.ranges[v][j - 1] else {
+                panic!("an unordered character in a file without requests");
+            };
+            low[place(v, j)] = ends.low;
+            high[place(v, j)] = ends.high;
+        }
+    }
+}
+
+/// The chosen states of the HTUs, written over a list.
+pub fn write_chosen(list: &mut [i32], data: &Data, chosen: &[Vec<i32>]) {
+    for v in data.n + 1..chosen.len() {
+        for j in 1..=data.m {
+            list[place(v, j)] = chosen[v][j - 1];
+        }
+    }
+}

@@ -1,0 +1,123 @@
+//! The proved library as Rust sees it, and what the comparison and the
+//! benchmark share.
+
+pub mod lent;
+pub mod plain;
+
+/// A lent matrix has 126 rows of 128 codes.
+pub const ROWS: usize = 126;
+pub const COLUMNS: usize = 128;
+pub const MATRIX_SIZE: usize = ROWS * COLUMNS;
+
+/// A lent list of names has 64 names of 16 bytes.
+pub const NAMES_SIZE: usize = 1024;
+
+/// What a read answers: refusal 0, line 0, n and m; or the number of the
+/// refusal, its line, and zeros.
+#[repr(C)]
+#[derive(Clone, Copy, PartialEq, Eq, Debug)]
+pub struct FileRead {
+    pub refusal: u64,
+    pub line: usize,
+    pub n: usize,
+    pub m: usize,
+}
+
+/// What a call on a lent matrix answers: refusal 0 and a length; or the
+/// number of the refusal and 0.
+#[repr(C)]
+#[derive(Clone, Copy, PartialEq, Eq, Debug)]
+pub struct Measured {
+    pub refusal: u64,
+    pub length: u64,
+}
+
+mod library {
+    use super::{FileRead, Measured};
+
+    // A list is two arguments: where it begins, and how many items it has.
+    extern "C" {
+        pub fn wagner_read(
+            file: *const u8,
+            file_length: usize,
+            matrix: *mut i32,
+            matrix_length: usize,
+            names: *mut u8,
+            names_length: usize,
+        ) -> FileRead;
+        pub fn wagner_network(
+            matrix: *const i32,
+            matrix_length: usize,
+            n: usize,
+            m: usize,
+        ) -> Measured;
+        pub fn wagner_build(
+            matrix: *mut i32,
+            matrix_length: usize,
+            n: usize,
+            m: usize,
+        ) -> Measured;
+        pub fn wagner_fit(
+            matrix: *mut i32,
+            matrix_length: usize,
+            n: usize,
+            m: usize,
+            low: *mut i32,
+            low_length: usize,
+            high: *mut i32,
+            high_length: usize,
+            chosen: *mut i32,
+            chosen_length: usize,
+        ) -> Measured;
+    }
+}
+
+/// Reads a file into a lent matrix and a lent list of names.
+pub fn read(file: &[u8], matrix: &mut [i32], names: &mut [u8]) -> FileRead {
+    unsafe {
+        library::wagner_read(
+            file.as_ptr(),
+            file.len(),
+            matrix.as_mut_ptr(),
+            matrix.len(),
+            names.as_mut_ptr(),
+            names.len(),
+        )
+    }
+}
+
+/// The length of the Prim Network of a lent matrix.
+pub fn network(matrix: &[i32], n: usize, m: usize) -> Measured {
+    unsafe { library::wagner_network(matrix.as_ptr(), matrix.len(), n, m) }
+}
+
+/// The Wagner tree of a lent matrix: HTU rows written, its length.
+pub fn build(matrix: &mut [i32], n: usize, m: usize) -> Measured {
+    unsafe { library::wagner_build(matrix.as_mut_ptr(), matrix.len(), n, m) }
+}
+
+/// The Wagner tree of a lent matrix, fitted: HTU rows and the states of the
+/// HTUs written, the fitted total.
+pub fn fit(
+    matrix: &mut [i32],
+    n: usize,
+    m: usize,
+    low: &mut [i32],
+    high: &mut [i32],
+    chosen: &mut [i32],
+) -> Measured {
+    unsafe {
+        library::wagner_fit(
+            matrix.as_mut_ptr(),
+            matrix.len(),
+            n,
+            m,
+            low.as_mut_ptr(),
+            low.len(),
+            high.as_mut_ptr(),
+            high.len(),
+            chosen.as_mut_ptr(),
+            chosen.len(),
+        )
+    }
+}

@@ -1,0 +1,27 @@
+-- What the exported call for a read hands back, from what the call below it answers.
+use mathlib.Core.Path.{_≡_, sym, _∙_, ap}
+use mathlib.Core.List.{List}
+use Prim.Native.Nat.{ℕ}
+use lib.IntN.{ℤ}
+use Rattle.matrix.specs.Refusals.{refusalNumber}
+use Rattle.matrix.specs.declared.refusal.Refusal.{Refusal}
+use Rattle.matrix_file.specs.Report.{readSays, ReadDone}
+use Rattle.matrix_file.specs.declared.answer.Header.{Header}
+use Rattle.matrix_file.specs.declared.answer.Read.{Read}
+use Rattle.matrix_file.specs.declared.answer.Read.the-variants.{Accepted, Refused}
+use Rattle.exports.specs.Answers.{fileRead}
+use Rattle.exports.specs.Calls.{ReadExported}
+
+module _ (file : List ℕ) (oldMatrix : List ℤ) (oldNames : List ℕ) (newMatrix : List ℤ) (newNames : List ℕ) (answer : Read)
+    (done : ReadDone file oldMatrix oldNames newMatrix newNames answer) where
+  -- a refusal
+  pub read-refused : (refusal : Refusal) (line : ℕ) → answer ≡ Refused refusal line → (number : ℕ) → number ≡ refusalNumber refusal
+      → ReadExported file oldMatrix oldNames newMatrix newNames (record { refusal = number; line = line; n = 0; m = 0 })
+  read-refused refusal line e number is =
+      record { answers = rw is (ap fileRead (sym (ap readSays e) ∙ done .says)); matrix = done .matrix; names = done .names }
+
+  -- a header
+  pub read-accepted : (header : Header) → answer ≡ Accepted header
+      → ReadExported file oldMatrix oldNames newMatrix newNames (record { refusal = 0; line = 0; n = header .n; m = header .m })
+  read-accepted header e =
+      record { answers = ap fileRead (sym (ap readSays e) ∙ done .says); matrix = done .matrix; names = done .names }

@@ -1,0 +1,66 @@
+-- The number handed back is 0 exactly if nothing was refused.
+use mathlib.Core.Path.{_≡_, refl}
+use mathlib.Core.Logic.{_↔_}
+use mathlib.Core.Bool.{Bool, true, false}
+use mathlib.Core.List.{List}
+use Prim.Native.Nat.{ℕ, _≤_}
+use native.Mathlib.Omega.{arith}
+use lib.IntN.{ℤ}
+use Rattle.matrix.specs.Outcomes.{Outcome, value, refused, ask, onLine, answered}
+use Rattle.matrix.specs.Refusals.{refusalNumber}
+use Rattle.matrix.specs.declared.refusal.Refusal.{Refusal}
+use Rattle.matrix.specs.declared.refusal.Refusal.the-variants.{FileTooLong, FileEmpty, FirstLine, BeyondLimits, LineMissing}
+use Rattle.matrix.specs.declared.refusal.Refusal.the-variants.{NameForm, NameTaken, FieldCount, CodeForm, CodeRange, FileGoesOn}
+use Rattle.matrix.specs.declared.refusal.Refusal.the-variants.{ListSize, NotThere, NotBranching}
+use Rattle.matrix.specs.declared.refusal.Asked.{Asked}
+use Rattle.matrix.specs.declared.refusal.Asked.the-variants.{Passed, Refused}
+use Rattle.matrix_file.specs.Job.{Job}
+use Rattle.matrix_file.specs.Reading.{readAnswer}
+use Rattle.matrix_file.specs.Report.{fullSize, readOutcome, withHeader}
+use Rattle.matrix_file.proofs.File.Numbered.{refused-number}
+use Rattle.exports.specs.Answers.{fileRead, measured}
+
+-- no refusal has the number 0
+pub numbered : (refusal : Refusal) → 1 ≤ refusalNumber refusal
+numbered FileTooLong = omega arith
+numbered FileEmpty = omega arith
+numbered FirstLine = omega arith
+numbered BeyondLimits = omega arith
+numbered LineMissing = omega arith
+numbered NameForm = omega arith
+numbered NameTaken = omega arith
+numbered FieldCount = omega arith
+numbered CodeForm = omega arith
+numbered CodeRange = omega arith
+numbered FileGoesOn = omega arith
+numbered ListSize = omega arith
+numbered NotThere = omega arith
+numbered NotBranching = omega arith
+
+-- a call on a lent matrix hands back 0 exactly if its questions passed
+pub zero-passed : (asked : Asked) (length : ℕ) → (measured (answered asked length) .refusal ≡ 0) ↔ (asked ≡ Passed)
+zero-passed Passed length = (λ e. refl, λ e. refl)
+zero-passed (Refused refusal) length =
+    (λ e. absurd (omega (arith, numbered refusal)), λ e. absurd (let z : _≡_ {A = ℕ} 0 1 = cc in omega arith))
+
+-- nor has any refusal of a read
+read-numbered : (file : List ℕ) (matrix : List ℤ) (names : List ℕ) (number line : ℕ) → readOutcome file matrix names ≡ refused number line
+    → 1 ≤ number
+unfolding readOutcome
+read-numbered file matrix names number line e = go (fullSize matrix names) e
+  where
+    go : (full : Bool) → onLine 0 (ask full ListSize Passed) (readAnswer file) ≡ refused number line → 1 ≤ number
+    go true e = refused-number file number line e .0
+    go false e = let same : 12 ≡ number = cc in omega arith
+
+-- what a file brings is a job, or it is refused by a number that is not 0
+zero-value : (outcome : Outcome Job) → ((number line : ℕ) → outcome ≡ refused number line → 1 ≤ number)
+    → (fileRead (withHeader outcome) .refusal ≡ 0) ↔ ((job : Job) × (outcome ≡ value job))
+zero-value (value job) counts = (λ e. (job, refl), λ e. refl)
+zero-value (refused number line) counts =
+    (λ e. absurd (omega (arith, counts number line refl)), λ e. absurd (let same = e .1 in let z : _≡_ {A = ℕ} 0 1 = cc in omega arith))
+
+-- a read hands back 0 exactly if the file was accepted
+pub zero-accepted : (file : List ℕ) (matrix : List ℤ) (names : List ℕ)
+    → (fileRead (withHeader (readOutcome file matrix names)) .refusal ≡ 0) ↔ ((job : Job) × (readOutcome file matrix names ≡ value job))
+zero-accepted file matrix names = zero-value (readOutcome file matrix names) (read-numbered file matrix names)

@@ -1,0 +1,3 @@
+-- What the exported calls answer.
+pub mod Answers
+pub mod Calls
