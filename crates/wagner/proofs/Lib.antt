@@ -8,4 +8,5 @@ pub mod Choosing
 pub mod UnderWay
 pub mod Stepping
 pub mod Lengths
+pub mod Recording
 pub mod Rising
