@@ -1,4 +1,4 @@
--- The questions of a lent branching and of a placement, computed: each refusal, and of two questions that would both refuse the earlier
+-- The questions of a lent branching, of a placement and of a finished tree, computed: each refusal, and of two questions that would both refuse the earlier
 -- one answers. The matrix has one character; the code of row v stands at (v-1)*128.
 use mathlib.Core.Path.{_≡_, refl}
 use mathlib.Core.List.{List, [], _∷_}
@@ -19,7 +19,7 @@ use Rattle.branching.specs.Nodes.{hasAncestor, inTree, nodesIn, otherNod
 use Rattle.branching.specs.Growing.{descendantCount, descendantsWanted, climbs, rowOneAlone, nodesOnly, htusIn, ancestorsIn}
 use Rattle.branching.specs.Growing.{descendantsRight, allClimb, grown, growingTree, branching}
 use Rattle.branching.specs.Branches.{branchesRead, ancestorsOf, namedInOrder, lentBranching}
-use Rattle.branching.specs.Asking.{htusOf, askPlacement, askBranching}
+use Rattle.branching.specs.Asking.{htusOf, askPlacement, askBranching, askRecords}
 
 -- a matrix of full size with code 0 everywhere
 full : List ℤ
@@ -48,7 +48,7 @@ lent : List ℤ → ℕ → List Branch → Asked
 unfolding numbers every sameNumbers keep row inRange lastNode oneTo withinLimits allInRange rowsInRange askMatrix htuInRange htusInRange
     ancestor descendants hasAncestor inTree nodesIn otherNodes taxaPlaced descendantCount descendantsWanted climbs rowOneAlone nodesOnly
     htusIn ancestorsIn descendantsRight allClimb grown growingTree branching branchesRead ancestorsOf namedInOrder lentBranching htusOf
-    askPlacement askBranching full wrongRow branch three zeros
+    askPlacement askBranching askRecords full wrongRow branch three zeros
 lent codes n records = askBranching codes n 1 records
 
 -- 124 and 126 records are 12, 125 pass
@@ -181,3 +181,69 @@ then-in-order = refl
 other-htu : placed (wrongRow 6) 4 grownTree 3 ∷ placed (wrongRow 5) 4 (replicate 127 0) 3 ∷ [] ≡ Passed ∷ Passed ∷ []
 unfolding placed
 other-htu = refl
+
+-- a finished tree of three taxa: taxa 2 and 3 hang from HTU 4
+wholeTree : List ℕ
+wholeTree = 0 ∷ 0 ∷ 4 ∷ 4 ∷ 1 ∷ replicate 122 0
+
+-- the questions of a finished tree that is handed back into a list of so many records
+recorded : List ℤ → ℕ → List ℕ → ℕ → Asked
+unfolding placed wholeTree
+recorded codes n tree room = askRecords codes n 1 tree room
+
+-- each answer by itself: the size of the list of records, too small and too large, that of the matrix, the limits, a code of a taxon, no growing
+-- tree, a growing tree that lacks a taxon, row 1 alone, a code of an HTU, and none; of one taxon, row 1 alone is the finished tree
+each-record-refusal : recorded full 3 wholeTree 124
+    ∷ recorded full 3 wholeTree 126
+    ∷ recorded (replicate 16127 (pos 0)) 3 wholeTree 125
+    ∷ recorded full 65 wholeTree 125
+    ∷ recorded (wrongRow 3) 3 wholeTree 125
+    ∷ recorded full 4 wrongTree 125
+    ∷ recorded full 4 grownTree 125
+    ∷ recorded full 3 (replicate 127 0) 125
+    ∷ recorded (wrongRow 4) 3 wholeTree 125
+    ∷ recorded full 3 wholeTree 125
+    ∷ recorded full 1 (replicate 127 0) 125
+    ∷ []
+    ≡ Refused ListSize
+    ∷ Refused ListSize
+    ∷ Refused ListSize
+    ∷ Refused BeyondLimits
+    ∷ Refused CodeRange
+    ∷ Refused NotBranching
+    ∷ Refused NotBranching
+    ∷ Refused NotBranching
+    ∷ Refused CodeRange
+    ∷ Passed
+    ∷ Passed
+    ∷ []
+unfolding recorded
+each-record-refusal = refl
+
+-- the sizes come before the limits, the codes and the tree; the limits before the codes of the taxa and the tree; the codes of the taxa before
+-- the tree; the tree before the codes of the HTUs
+records-in-order : recorded full 65 wholeTree 124
+    ∷ recorded (wrongRow 1) 3 wholeTree 124
+    ∷ recorded full 3 wrongTree 124
+    ∷ recorded (wrongRow 4) 3 wholeTree 124
+    ∷ recorded (replicate 16127 (pos 1000)) 65 wrongTree 125
+    ∷ recorded (wrongRow 1) 65 wrongTree 125
+    ∷ recorded (wrongRow 1) 3 wrongTree 125
+    ∷ recorded (wrongRow 5) 4 grownTree 125
+    ∷ []
+    ≡ Refused ListSize
+    ∷ Refused ListSize
+    ∷ Refused ListSize
+    ∷ Refused ListSize
+    ∷ Refused ListSize
+    ∷ Refused BeyondLimits
+    ∷ Refused CodeRange
+    ∷ Refused NotBranching
+    ∷ []
+unfolding recorded
+records-in-order = refl
+
+-- the row of no node of the tree is not read
+records-unread : recorded (wrongRow 5) 3 wholeTree 125 ∷ recorded (wrongRow 2) 1 (replicate 127 0) 125 ∷ [] ≡ Passed ∷ Passed ∷ []
+unfolding recorded
+records-unread = refl

@@ -1,4 +1,4 @@
--- The questions of a placement and of a lent branching, in document 01's order.
+-- The questions of a placement, of a lent branching and of a finished tree, in document 01's order.
 use mathlib.Core.List.{List}
 use mathlib.Core.Bool.{not}
 use Prim.Native.Nat.{ℕ, _+_, _-_}
@@ -13,7 +13,7 @@ use Rattle.matrix.specs.declared.refusal.Asked.{Asked}
 use Rattle.matrix.specs.declared.refusal.Asked.the-variants.{Passed}
 use Rattle.branching.specs.declared.branch.Branch.{Branch}
 use Rattle.branching.specs.Nodes.{inTree, taxaPlaced}
-use Rattle.branching.specs.Growing.{growingTree}
+use Rattle.branching.specs.Growing.{growingTree, branching}
 use Rattle.branching.specs.Branches.{lentBranching}
 
 -- the HTUs of a growing tree of n taxa, k of them placed: n+1 to n+k-2
@@ -39,3 +39,11 @@ unfoldable pub askBranching : List ℤ → ℕ → ℕ → List Branch → Asked
 askBranching codes n m records =
     ask (eqb (length records) branchesSize) ListSize
     (andThen (askMatrix codes n m) (ask (lentBranching n records) NotBranching Passed))
+
+-- the questions of a call that hands a finished tree back as branch records, into a lent list of so many records: the size of that list, those
+-- on the matrix, whether the tree is a branching of all n taxa, the rows of its HTUs
+unfoldable pub askRecords : List ℤ → ℕ → ℕ → List ℕ → ℕ → Asked
+askRecords codes n m tree room =
+    ask (eqb room branchesSize) ListSize
+    (andThen (askMatrix codes n m)
+    (ask (branching n tree) NotBranching (ask (htusInRange codes n m (htusOf n tree)) CodeRange Passed)))

@@ -8,7 +8,7 @@ ghost use Rattle.branching.specs.Ancestors.{ancestors};
 ghost use Rattle.branching.specs.Branches.{lengthsBy, branchOf, withRecords, placesOf, namedInOrder, lentBranching};
 
 // How many branch records are read or written: one for each node but node 1, as far as there are 125.
-fn record_count(n: usize) -> usize
+pub fn record_count(n: usize) -> usize
     ensures { λ r. ⌜ r ≡ min (2 * n - 3) 125 ⌝ }
 {
     if n < 2 {

@@ -1,4 +1,5 @@
-// The questions of a placement on a tree handed in, and of a lent branching.
+// The questions of a placement on a tree handed in, of a lent branching, and of a finished tree.
+use crate::branch::BRANCHES;
 use crate::branch::Branch;
 use crate::lent::lent_branching;
 use crate::tree::Tree;
@@ -11,7 +12,7 @@ ghost use mathlib.Core.Path.{_≡_};
 ghost use Prim.Native.Nat.{_+_, _-_, _≤_};
 ghost use Rattle.matrix.specs.Questions.{htusInRange};
 ghost use Rattle.branching.specs.Ancestors.{ancestors};
-ghost use Rattle.branching.specs.Asking.{htusOf, askPlacement, askBranching};
+ghost use Rattle.branching.specs.Asking.{htusOf, askPlacement, askBranching, askRecords};
 
 // The number behind the last HTU of a growing tree of n taxa, k of them placed.
 fn htus_end(n: usize, k: usize) -> usize
@@ -74,6 +75,28 @@ pub fn ask_branching(matrix: &[i32], n: usize, m: usize, records: [Branch; 125])
         Asked::Passed => {
             if !lent_branching(records, n) {
                 return Asked::Refused(Refusal::NotBranching);
+            }
+            Asked::Passed
+        }
+    }
+}
+
+// The questions of a call that hands a finished tree back as branch records, into a lent list of `room` records: the size of that list, those
+// on the matrix, whether the tree is a branching of n taxa, and the rows of its HTUs.
+pub fn ask_records(matrix: &[i32], n: usize, m: usize, tree: Tree, room: usize) -> Asked
+    ensures { λ r. ⌜ r ≡ askRecords (now (matrix .entry)) n m (ancestors tree) room ⌝ }
+{
+    if room != BRANCHES {
+        return Asked::Refused(Refusal::ListSize);
+    }
+    match ask_matrix(matrix, n, m) {
+        Asked::Refused(refusal) => Asked::Refused(refusal),
+        Asked::Passed => {
+            if !tree.is_branching(n) {
+                return Asked::Refused(Refusal::NotBranching);
+            }
+            if !htus_right(matrix, n, m, tree) {
+                return Asked::Refused(Refusal::CodeRange);
             }
             Asked::Passed
         }

@@ -15,6 +15,7 @@ pub mod Gathering
 pub mod Shapes
 pub mod Handed
 pub mod Answered
+pub mod Taken
 pub mod NodeRange
 pub mod Passed
 pub mod Examples

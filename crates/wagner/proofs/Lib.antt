@@ -9,4 +9,5 @@ pub mod UnderWay
 pub mod Stepping
 pub mod Lengths
 pub mod StillLent
+pub mod Recording
 pub mod Rising

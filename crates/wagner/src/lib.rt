@@ -2,3 +2,4 @@
 pub mod build;
 pub mod order;
 pub mod records;
+pub mod written;
