@@ -13,7 +13,7 @@ use Rattle.lists.specs.Sums.{sumOver}
 use Rattle.lists.proofs.Numbers.{numbers-within, map-numbers, map-beyond, length-map-numbers}
 use Rattle.lists.proofs.Stripes.{Narrow, stripes-inside}
 use Rattle.lists.proofs.Sums.{sum-same}
-use Rattle.matrix.specs.Shape.{columns, matrixSize, rowStart}
+use Rattle.matrix.specs.Shape.{columns, matrixSize, rowStart, lastNode}
 use Rattle.matrix.specs.NodeRows.{withRows}
 use Rattle.difference.specs.Rows.{plain}
 use Rattle.branching.specs.Ancestors.{ancestor}
@@ -95,7 +95,7 @@ module _ (tree : List ℕ) (rows : List (List ℤ)) (n m : ℕ) (some : 1 ≤ n)
         let a = ap (λ (list : List ℤ). stateAt list v j) isLow ∙ state-written Low tree rows n m low v j lowSize few wide p q l h in
         let b = ap (λ (list : List ℤ). stateAt list v j) isHigh ∙ state-written High tree rows n m high v j highSize few wide p q l h in
         let ends = ends-in tree rows n v j s _ _ a b in
-        let occurs = claim .ranges v j s p q l h in
+        let occurs = claim .ranges v j s (omega arith) (unfold lastNode in omega arith) l h in
         (λ between. occurs .0 (ends .0 between), λ o. ends .1 (occurs .1 o));
     assigns = record { keeps = λ v j p q l h. unfold handedStates in rw (le-leb v n q) };
     isTotal = same-total ∙ sym (fits .total);
