@@ -5,6 +5,7 @@ use mathlib.Core.List.{List}
 use Prim.Native.Nat.{ℕ, _-_, _≤_}
 use native.Mathlib.Omega.{arith}
 use borrow.Author.Needs.{needs, sfits-of}
+use lib.Dec.{eqb}
 use lib.IntN.{ℤ, pos}
 use lib.ListN.{length, getD, replicate, length-set}
 use mir.Syntax.{w32}
@@ -16,8 +17,9 @@ use Rattle.branching.specs.Walks.{WalkOf, nodeAt}
 use Rattle.branching.specs.Within.{branchingWithin}
 use Rattle.fitting.specs.Assignments.{character}
 use Rattle.fitting.specs.declared.characters.Seen.{Seen}
+use Rattle.fitting.specs.declared.spans.Span.{Span}
 use Rattle.fitting.specs.Plans.{Belows}
-use Rattle.fitting.specs.Steps.{Codes, PartsAre, seenAt}
+use Rattle.fitting.specs.Steps.{Codes, PartsAre, partAt, outsideFrom, seenAt}
 use Rattle.fitting.proofs.Descending.{sister-within}
 use Rattle.fitting.proofs.Pass.Down.{DownTo, down-start, down-next, down-all}
 use Rattle.fitting.proofs.characters.seen_down.Statement.{statement}
@@ -142,7 +144,9 @@ loop-again c =
     let first : ℤ = getD (start .args .t1) 1 (pos 0) in
     let first-is : toZ w32 (ofZ w32 first) ≡ first = toZ-ofZ (sfits-of (c .before .before .before .before .before .before .before .before .before .before .before .before .before .before .before .row1 .given)) in
     let state = rw (code-is, above-is) at (c .before .state-of .ensures) in
-    let outside = rw (first-is, c .before .before .before .before .before .before .before .sister .ensures) at (c .outside-of .ensures) in
+    let beside : Span = partAt (start .args .t4) (c .before .before .before .before .before .before .before .sister .result) .set in
+    let seen-from : c .outside-of .result ≡ outsideFrom (eqb u 1) first beside (seenAt (loop .seen) u .outside) = rw first-is at (c .outside-of .ensures) in
+    let outside = rw (c .before .before .before .before .before .before .before .sister .ensures) at seen-from in
     let place = rw (c .before .before .before .before .before .before .before .before .before .before .ancestor .ensures) at (c .before .before .before .before .before .before .before .before .before .place-of .ensures) in (
       omega arith,
       simp length-set (inv .1),

@@ -32,11 +32,11 @@ fit-columns-requires c κs =
       (is .isLow, is .isHigh, is .isChosen),
     )
 
-marks-of-requires : tie.Need-marks-of-requires
-marks-of-requires c κs = shaped (c .before .before .before .before .before .before .before .before) .taxa
-
 sum-lengths-requires : tie.Need-sum-lengths-requires
-sum-lengths-requires c κs = shaped (c .before .before .before .before .before .before .before .before .before) .taxa
+sum-lengths-requires c κs = shaped (c .before .before .before .before .before .before .before .before) .taxa
+
+fit-of-requires : tie.Need-fit-of-requires
+fit-of-requires c κs = shaped (c .before .before .before .before .before .before .before .before .before) .taxa
 
 same-length : tie.Need-same-length
 same-length c = search needs
@@ -51,7 +51,7 @@ returns-2 : tie.Need-returns-2
 returns-2 c =
     let columns = c .before .before .before .before .before in
     let written = rw (columns .before .before .before .before .plan-of .ensures .is) at (columns .fit-columns .ensures) in
-    tree-fitted _ _ _ _ _ _ _ _ _ _ _ _ _ written (c .before .marks-of .ensures) (c .sum-lengths .ensures)
+    tree-fitted _ _ _ _ _ _ _ _ _ _ _ _ _ written (c .before .sum-lengths .ensures) (c .fit-of .ensures)
 
 pub fit-tree-spec : {M : Type 1} → statement M
 fit-tree-spec =
@@ -62,8 +62,8 @@ fit-tree-spec =
     returns
     plan-of-requires
     fit-columns-requires
-    marks-of-requires
     sum-lengths-requires
+    fit-of-requires
     same-length
     same-length-2
     same-length-3
