@@ -61,7 +61,7 @@ start-written matrix n m tree low high chosen = record {
 }
 
 -- the chosen one of a node's states
-chosen-is : (tree : List ℕ) (rows : List (List ℤ)) (n v j : ℕ) → statesIn tree rows n v j .chosen ≡ chosenState tree rows n v j
+pub chosen-is : (tree : List ℕ) (rows : List (List ℤ)) (n v j : ℕ) → statesIn tree rows n v j .chosen ≡ chosenState tree rows n v j
 unfolding statesIn
 chosen-is tree rows n v j = refl
 

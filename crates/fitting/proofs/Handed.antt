@@ -28,6 +28,7 @@ use Rattle.fitting.specs.declared.whole.Which.{Which}
 use Rattle.fitting.specs.declared.whole.Which.the-variants.{Low, High, Chosen}
 use Rattle.fitting.specs.declared.whole.Fit.{Fit}
 use Rattle.fitting.proofs.Cases.{either}
+use Rattle.fitting.proofs.Gathering.{chosen-is}
 
 -- rows of m codes are no wider than their places
 rows-narrow : (f : ℕ → ℕ → ℤ) (m first count : ℕ) → m ≤ columns → Narrow columns (map (λ v. map (f v) (numbers 1 m)) (numbers first count))
@@ -61,15 +62,10 @@ state-written which tree rows n m old v j size few wide l h first last =
     ∙ ap (f v) here)
 
 -- both ends of a range are its ends
-ends-in : (tree : List ℕ) (rows : List (List ℤ)) (n v j : ℕ) (s a b : ℤ) → a ≡ stateIn Low (statesIn tree rows n v j) → b ≡ stateIn High (statesIn tree rows n v j)
+pub ends-in : (tree : List ℕ) (rows : List (List ℤ)) (n v j : ℕ) (s a b : ℤ) → a ≡ stateIn Low (statesIn tree rows n v j) → b ≡ stateIn High (statesIn tree rows n v j)
     → ((a ≤ℤ s) × (s ≤ℤ b)) ↔ In s (range tree rows n v j)
 unfolding statesIn
 ends-in tree rows n v j s a b e f = rw (e, f) (λ p. record { fromLow = p .0; toHigh = p .1 }, λ i. (i .fromLow, i .toHigh))
-
--- the chosen one of a node's states
-chosen-in : (tree : List ℕ) (rows : List (List ℤ)) (n v j : ℕ) → stateIn Chosen (statesIn tree rows n v j) ≡ chosenState tree rows n v j
-unfolding statesIn
-chosen-in tree rows n v j = refl
 
 module _ (tree : List ℕ) (rows : List (List ℤ)) (n m : ℕ) (some : 1 ≤ n) (few : n ≤ 64) (wide : m ≤ columns)
     (claim : FitIsLeast (plain .step) tree rows n m) (above : (v : ℕ) → 2 ≤ v → v ≤ 2 * n - 2 → (1 ≤ ancestor tree v) × (ancestor tree v ≤ 2 * n - 2))
@@ -86,7 +82,7 @@ module _ (tree : List ℕ) (rows : List (List ℤ)) (n m : ℕ) (some : 1 ≤ n)
       (λ htu.
       let read : stateAt chosen′ v j ≡ stateIn Chosen (statesIn tree rows n v j) =
       ap (λ (list : List ℤ). stateAt list v j) isChosen ∙ state-written Chosen tree rows n m chosen v j chosenSize few wide htu q l h in
-      rw (lt-leb v n htu) (read ∙ chosen-in tree rows n v j))
+      rw (lt-leb v n htu) (read ∙ chosen-is tree rows n v j))
 
   -- what is handed back
   pub handed-back : HandedBack (plain .step) tree rows n m low′ high′ chosen′ fit

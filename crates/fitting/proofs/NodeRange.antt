@@ -1,5 +1,5 @@
 -- The states of one node, taxon or HTU, told by assignments, and the answer of the call for them.
-use mathlib.Core.Path.{_≡_, _∙_}
+use mathlib.Core.Path.{_≡_, _∙_, ap}
 use mathlib.Core.Logic.{_↔_}
 use mathlib.Core.List.{List}
 use mathlib.Core.Bool.{true}
@@ -8,7 +8,6 @@ use native.Mathlib.Omega.{arith}
 use lib.Dec.{eqb}
 use lib.IntN.{ℤ}
 use lib.ListN.{length}
-use lib.Signed.{_≤ℤ_}
 use Rattle.matrix.specs.Shape.{lastNode}
 use Rattle.matrix.specs.NodeRows.{rowsOf}
 use Rattle.matrix.specs.Questions.{askMatrix, oneTo, LentMatrix}
@@ -22,8 +21,7 @@ use Rattle.branching.specs.Branches.{ancestorsOf, placesOf, lentBranching}
 use Rattle.branching.specs.Asking.{branchesSize}
 use Rattle.branching.proofs.Lending.{places-ancestors}
 use Rattle.branching.proofs.Test.{branching-iff}
-use Rattle.fitting.specs.Sets.{In}
-use Rattle.fitting.specs.Fit.{range, statesIn}
+use Rattle.fitting.specs.Fit.{statesIn}
 use Rattle.fitting.specs.Calls.{StatesOf}
 use Rattle.fitting.specs.Handing.{askNode, NodeAnswer}
 use Rattle.fitting.specs.declared.characters.States.{States}
@@ -31,6 +29,7 @@ use Rattle.fitting.specs.declared.calls.NodeStates.the-variants.{Are}
 use Rattle.fitting.specs.declared.calls.NodeStates.the-variants as NodeStates
 use Rattle.fitting.proofs.Passed.{places-branching, lent-test}
 use Rattle.fitting.proofs.SameTree.{states-same}
+use Rattle.fitting.proofs.Handed.{ends-in}
 use Rattle.fitting.proofs.Matrix.ThirdRival.{third-rival}
 
 -- states handed back as a value
@@ -59,12 +58,6 @@ node-named codes n m records v j e =
       branches = ask-passed (lentBranching n records) NotBranching Passed (named .1) .0;
     }
 
--- the ends of a range among a node's states
-states-in : (tree : List ℕ) (rows : List (List ℤ)) (n v j : ℕ) (s : ℤ) (states : States) → states ≡ statesIn tree rows n v j
-    → ((states .low ≤ℤ s) × (s ≤ℤ states .high)) ↔ In s (range tree rows n v j)
-unfolding statesIn
-states-in tree rows n v j s states e = rw e (λ p. record { fromLow = p .0; toHigh = p .1 }, λ i. (i .fromLow, i .toHigh))
-
 -- one after the other
 both-ways : {A B C : Type 0} → (A ↔ B) → (B ↔ C) → (A ↔ C)
 both-ways f g = (λ a. g .0 (f .0 a), λ c. f .1 (g .1 c))
@@ -88,7 +81,7 @@ node-answer codes n m records v j tree r e is of =
       says = rw (e, found);
       ranges = λ states same s.
           let own : states ≡ statesIn new rows n v j = value-same states r same ∙ found in
-          both-ways (states-in new rows n v j s states own)
+          both-ways (ends-in new rows n v j s (states .low) (states .high) (ap (λ (t : States). t .low) own) (ap (λ (t : States). t .high) own))
           (claim .ranges v j s (named .node .0) (named .node .1) (named .character .0) (named .character .1));
     }
 

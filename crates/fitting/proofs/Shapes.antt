@@ -20,7 +20,7 @@ use Rattle.difference.specs.Rows.{plain}
 use Rattle.branching.specs.Nodes.{otherNodes}
 use Rattle.branching.specs.Within.{branchingWithin}
 use Rattle.fitting.specs.Fit.{fittedLength, fittedTotal}
-use Rattle.fitting.specs.Calls.{FitOf, TreeFitted}
+use Rattle.fitting.specs.Calls.{listsFull, FitOf, TreeFitted}
 use Rattle.fitting.specs.Lists.{branchAt, Written, SumOf, FitFrom, fitShapes}
 use Rattle.fitting.specs.declared.whole.BranchFit.{BranchFit}
 use Rattle.fitting.specs.declared.whole.Fit.{Fit}
@@ -40,7 +40,7 @@ pub record Shaped (matrix n m low high chosen : ℕ) : Type 0 where
 
 -- the test tells so
 pub shapes-true : (matrix n m low high chosen : ℕ) → fitShapes matrix n m low high chosen ≡ true → Shaped matrix n m low high chosen
-unfolding fitShapes withinLimits
+unfolding fitShapes withinLimits listsFull
 shapes-true matrix n m low high chosen e =
     let a = and-eq-true-iff (withinLimits n m) _ .0 e in
     let b = and-eq-true-iff (eqb matrix matrixSize) _ .0 (a .1) in
@@ -60,7 +60,7 @@ shapes-true matrix n m low high chosen e =
 -- lists of the right shape beside a lent matrix pass the test
 pub true-shapes : (matrix low high chosen : List ℤ) (n m : ℕ) → LentMatrix matrix n m → length low ≡ matrixSize → length high ≡ matrixSize
     → length chosen ≡ matrixSize → fitShapes (length matrix) n m (length low) (length high) (length chosen) ≡ true
-unfolding fitShapes withinLimits
+unfolding fitShapes withinLimits listsFull
 true-shapes matrix low high chosen n m lent l h c =
     rw (
       true-oneTo 64 n (lent .taxon) (lent .taxa),
@@ -73,7 +73,7 @@ true-shapes matrix low high chosen n m lent l h c =
 
 -- so do lists that are known to have it
 pub true-shape : (matrix : List ℤ) (n m : ℕ) → LentMatrix matrix n m → fitShapes (length matrix) n m matrixSize matrixSize matrixSize ≡ true
-unfolding fitShapes withinLimits
+unfolding fitShapes withinLimits listsFull
 true-shape matrix n m lent =
     rw (
       true-oneTo 64 n (lent .taxon) (lent .taxa),

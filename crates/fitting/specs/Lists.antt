@@ -19,7 +19,7 @@ use Rattle.branching.specs.Nodes.{otherNodes}
 use Rattle.branching.specs.Within.{branchingWithin}
 use Rattle.fitting.specs.Fit.{fittedLength, marked}
 use Rattle.fitting.specs.Steps.{PlusOf, statesAt}
-use Rattle.fitting.specs.Calls.{statesWritten}
+use Rattle.fitting.specs.Calls.{statesWritten, listsFull}
 use Rattle.fitting.specs.declared.characters.States.{States}
 use Rattle.fitting.specs.declared.whole.BranchFit.{BranchFit}
 use Rattle.fitting.specs.declared.whole.Fit.{Fit}
@@ -79,4 +79,4 @@ pub record Written (matrix : List ℤ) (n m k : ℕ) (tree : List ℕ) (low low�
 -- the lengths of a matrix and of three lists are that of the matrix's shape, and n and m are within their limits
 unfoldable pub fitShapes : ℕ → ℕ → ℕ → ℕ → ℕ → ℕ → Bool
 fitShapes matrix n m low high chosen =
-    withinLimits n m && (eqb matrix matrixSize && (eqb low matrixSize && (eqb high matrixSize && eqb chosen matrixSize)))
+    withinLimits n m && (eqb matrix matrixSize && listsFull low high chosen)

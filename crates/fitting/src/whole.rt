@@ -22,7 +22,7 @@ ghost use Rattle.branching.specs.Ancestors.{ancestors};
 ghost use Rattle.fitting.specs.Plans.{Planned};
 ghost use Rattle.fitting.specs.Steps.{statesAt};
 ghost use Rattle.fitting.specs.Lists.{withColumn, marksIn, Longer, Lengthened, SumOf, FitFrom, Written, fitShapes};
-ghost use Rattle.fitting.specs.Calls.{stateIn, noFit, TreeFitted, StatesOf};
+ghost use Rattle.fitting.specs.Calls.{stateIn, noFit, listsFull, TreeFitted, StatesOf};
 
 // The fit of a tree, by node number: the fitted length of each node's branch, and its mark; and the total.
 pub struct Fit {
@@ -192,17 +192,11 @@ pub(crate) fn no_fit() -> Fit
     }
 }
 
-// Whether a matrix and three lists have the matrix's shape, and n and m are within their limits.
-fn fit_shapes(matrix: usize, n: usize, m: usize, low: usize, high: usize, chosen: usize) -> bool
-    ensures { λ r. ⌜ r ≡ fitShapes matrix n m low high chosen ⌝ }
+// Whether three lists have the matrix's size.
+pub(crate) fn lists_full(low: usize, high: usize, chosen: usize) -> bool
+    ensures { λ r. ⌜ r ≡ listsFull low high chosen ⌝ }
 {
-    if !within_limits(n, m) {
-        return false;
-    }
     let size = ROWS * COLUMNS;
-    if matrix != size {
-        return false;
-    }
     if low != size {
         return false;
     }
@@ -210,6 +204,19 @@ fn fit_shapes(matrix: usize, n: usize, m: usize, low: usize, high: usize, chosen
         return false;
     }
     chosen == size
+}
+
+// Whether a matrix and three lists have the matrix's shape, and n and m are within their limits.
+fn fit_shapes(matrix: usize, n: usize, m: usize, low: usize, high: usize, chosen: usize) -> bool
+    ensures { λ r. ⌜ r ≡ fitShapes matrix n m low high chosen ⌝ }
+{
+    if !within_limits(n, m) {
+        return false;
+    }
+    if matrix != ROWS * COLUMNS {
+        return false;
+    }
+    lists_full(low, high, chosen)
 }
 
 // Fits a tree that is a branching, with a lent matrix that no question refuses, and writes the states of its HTUs into three lists of

@@ -3,7 +3,7 @@ use mathlib.Core.Path.{_≡_, refl, sym, _∙_, ap, subst}
 use mathlib.Core.Logic.{_≢_, by-cases}
 use mathlib.Core.List.{List, [], _∷_, flatMap, List·Memᴰ, List·Memᴰ·head}
 use mathlib.Core.Bool.{Bool, true, false, cond, and-eq-true-iff}
-use Prim.Native.Nat.{ℕ, _*_, _-_, _≤_, _<_}
+use Prim.Native.Nat.{ℕ, _*_, _-_, _≤_, _<_, max}
 use native.Mathlib.Omega.{arith}
 use native.Mathlib.Decide.{decLe}
 use lib.Dec.{leb, eqb}
@@ -54,6 +54,11 @@ module _ (n : ℕ) (tree : List ℕ) (branches : branchingWithin n tree ≡ true
 pub last-several : (n : ℕ) → 2 ≤ n → lastNode n ≡ 2 * n - 2
 unfolding lastNode
 last-several n two = omega arith
+
+-- the last node is the one before the end of the nodes
+pub last-end : (n end : ℕ) → end ≡ max 2 (2 * n - 1) → end - 1 ≡ lastNode n
+unfolding lastNode
+last-end n end e = omega arith
 
 -- of the descendants of a node, the first two are kept
 pub two-kept : (n : ℕ) (tree : List ℕ) (below : List Below) → Belows n tree below → (u a b : ℕ) → Htu n tree u a b → u ≤ 126

@@ -1,9 +1,9 @@
--- `fitting::calls::lists_full` meets its contract: its tests are the definition's. Assumes nothing.
+-- `fitting::whole::lists_full` meets its contract: its tests are the definition's. Assumes nothing.
 use borrow.Author.Tests.{eq-eqb, ne-eqb}
 use Rattle.fitting.specs.Calls.{listsFull}
 use borrow.Author.Needs.{needs}
-use Rattle.fitting.proofs.calls.lists_full.Statement.{statement}
-use Rattle.fitting.proofs.calls.lists_full.Tie as tie
+use Rattle.fitting.proofs.whole.lists_full.Statement.{statement}
+use Rattle.fitting.proofs.whole.lists_full.Tie as tie
 
 mul-size : tie.Need-mul-size
 mul-size c = search needs
