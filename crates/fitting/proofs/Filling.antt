@@ -31,7 +31,8 @@ pub filled-more : {A : Type 0} (P Q : ℕ → A → Type 0) (none : A) (xs : Lis
     → FilledTo P Q none first i xs → P i x → FilledTo P Q none first (i + 1) (set xs i x)
 filled-more P Q none xs first i x room from before here = record {
   inside = filled-next P none xs first i x room (before .inside) here;
-  outside = λ u out. rw (getD-set-other xs i u x none (λ e. out (omega arith) (omega arith))) (before .outside u (λ l h. out l (omega arith)));
+  outside = λ u out. rw (getD-set-other xs i u x none (λ e. out (omega arith) (omega arith))) (before .outside u (λ l h. out l
+      (omega arith)));
 }
 
 -- a sum over consecutive numbers with one more

@@ -43,7 +43,8 @@ map-on f g [] same = refl
 map-on f g (v ∷ vs) same = ap₂ (λ x xs. x ∷ xs) (same v (List·Memᴰ·head refl)) (map-on f g vs (λ u m. same u (List·Memᴰ·tail m)))
 
 -- a column of what is the same for each HTU is the same
-column-same : (n j : ℕ) (f g : ℕ → ℤ) (old : List ℤ) → ((v : ℕ) → n < v → v ≤ 2 * n - 2 → f v ≡ g v) → withColumn n j f old ≡ withColumn n j g old
+column-same : (n j : ℕ) (f g : ℕ → ℤ) (old : List ℤ) → ((v : ℕ) → n < v → v ≤ 2 * n - 2 → f v ≡ g v)
+    → withColumn n j f old ≡ withColumn n j g old
 unfolding withColumn
 column-same n j f g old same =
     ap (λ (items : List (List ℤ)). stripes columns (rowStart (n + 1) + (j - 1)) items old)
@@ -87,7 +88,8 @@ mark-next : (tree : List ℕ) (rows : List (List ℤ)) (n j v : ℕ) → 1 ≤ j
     ≡ (marked (plain .step) tree rows n (j - 1) v || marksIn (statesIn tree rows n v j) (statesIn tree rows n (ancestor tree v) j))
 unfolding marked statesIn
 mark-next tree rows n j v first = ap (ltb 0) (length-next tree rows n j v first)
-    ∙ above-zero (fittedLength (plain .step) tree rows n (j - 1) v) (apart (chosenState tree rows n v j) (chosenState tree rows n (ancestor tree v) j))
+    ∙ above-zero (fittedLength (plain .step) tree rows n (j - 1) v) (apart (chosenState tree rows n v j) (chosenState tree rows n
+    (ancestor tree v) j))
 
 module _ (matrix : List ℤ) (n m : ℕ) (tree : List ℕ) (branches : branchingWithin n tree ≡ true) (lent : LentMatrix matrix n m) where
   -- the rows of the taxa
@@ -110,7 +112,8 @@ module _ (matrix : List ℤ) (n m : ℕ) (tree : List ℕ) (branches : branching
     step-most : (j : ℕ) → 1 ≤ j → j ≤ m → apart (chosenState tree rows n v j) (chosenState tree rows n (ancestor tree v) j) ≤ 1998
     step-most j first end =
         let grown = grown-of n tree branches several in
-        let known : (u : ℕ) → 1 ≤ u → u ≤ n → inRange (character rows j u) ≡ true = λ u l h. character-known matrix n m lent u j l h first end in
+        let known : (u : ℕ) → 1 ≤ u → u ≤ n → inRange (character rows j u)
+        ≡ true = λ u l h. character-known matrix n m lent u j l h first end in
         apart-inRange (chosenState tree rows n v j) (chosenState tree rows n (ancestor tree v) j)
         (chosenState-each (λ z. inRange z ≡ true) n tree grown rows j known v (omega arith) last)
         (chosenState-each (λ z. inRange z ≡ true) n tree grown rows j known (ancestor tree v) (above-within .0) (above-within .1))

@@ -40,7 +40,8 @@ rows-narrow f m first count wide k =
     rw (map-beyond (λ v. map (f v) (numbers 1 m)) [] first count k out) (omega arith))
 
 -- a state written is read back
-pub state-written : (which : Which) (tree : List ℕ) (rows : List (List ℤ)) (n m : ℕ) (old : List ℤ) (v j : ℕ) → length old ≡ matrixSize → n ≤ 64
+pub state-written : (which : Which) (tree : List ℕ) (rows : List (List ℤ)) (n m : ℕ) (old : List ℤ) (v j : ℕ) → length old ≡ matrixSize
+    → n ≤ 64
     → m ≤ columns → n < v → v ≤ 2 * n - 2 → 1 ≤ j → j ≤ m
     → stateAt (statesWritten which tree rows n m old) v j ≡ stateIn which (statesIn tree rows n v j)
 unfolding statesWritten withRows
@@ -62,13 +63,15 @@ state-written which tree rows n m old v j size few wide l h first last =
     ∙ ap (f v) here)
 
 -- both ends of a range are its ends
-pub ends-in : (tree : List ℕ) (rows : List (List ℤ)) (n v j : ℕ) (s a b : ℤ) → a ≡ stateIn Low (statesIn tree rows n v j) → b ≡ stateIn High (statesIn tree rows n v j)
+pub ends-in : (tree : List ℕ) (rows : List (List ℤ)) (n v j : ℕ) (s a b : ℤ) → a ≡ stateIn Low (statesIn tree rows n v j)
+    → b ≡ stateIn High (statesIn tree rows n v j)
     → ((a ≤ℤ s) × (s ≤ℤ b)) ↔ In s (range tree rows n v j)
 unfolding statesIn
 ends-in tree rows n v j s a b e f = rw (e, f) (λ p. record { fromLow = p .0; toHigh = p .1 }, λ i. (i .fromLow, i .toHigh))
 
 module _ (tree : List ℕ) (rows : List (List ℤ)) (n m : ℕ) (some : 1 ≤ n) (few : n ≤ 64) (wide : m ≤ columns)
-    (claim : FitIsLeast (plain .step) tree rows n m) (above : (v : ℕ) → 2 ≤ v → v ≤ 2 * n - 2 → (1 ≤ ancestor tree v) × (ancestor tree v ≤ 2 * n - 2))
+    (claim : FitIsLeast (plain .step) tree rows n m) (above : (v : ℕ) → 2 ≤ v → v ≤ 2 * n - 2
+    → (1 ≤ ancestor tree v) × (ancestor tree v ≤ 2 * n - 2))
     (low low′ high high′ chosen chosen′ : List ℤ) (fit : Fit) (fits : FitOf (plain .step) tree rows n m fit)
     (lowSize : length low ≡ matrixSize) (highSize : length high ≡ matrixSize) (chosenSize : length chosen ≡ matrixSize)
     (isLow : low′ ≡ statesWritten Low tree rows n m low) (isHigh : high′ ≡ statesWritten High tree rows n m high)

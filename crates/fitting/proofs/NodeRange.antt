@@ -44,7 +44,8 @@ pub record NodeNamed (codes : List ℤ) (n m : ℕ) (records : List Branch) (v j
   pub branches : lentBranching n records ≡ true
 
 -- they tell so
-node-named : (codes : List ℤ) (n m : ℕ) (records : List Branch) (v j : ℕ) → askNode codes n m records v j ≡ Passed → NodeNamed codes n m records v j
+node-named : (codes : List ℤ) (n m : ℕ) (records : List Branch) (v j : ℕ) → askNode codes n m records v j ≡ Passed
+    → NodeNamed codes n m records v j
 unfolding askNode
 node-named codes n m records v j e =
     let size = ask-passed (eqb (length records) branchesSize) ListSize _ e in
@@ -81,12 +82,14 @@ node-answer codes n m records v j tree r e is of =
       says = rw (e, found);
       ranges = λ states same s.
           let own : states ≡ statesIn new rows n v j = value-same states r same ∙ found in
-          both-ways (ends-in new rows n v j s (states .low) (states .high) (ap (λ (t : States). t .low) own) (ap (λ (t : States). t .high) own))
+          both-ways (ends-in new rows n v j s (states .low) (states .high) (ap (λ (t : States). t .low) own) (ap (λ
+          (t : States). t .high) own))
           (claim .ranges v j s (named .node .0) (named .node .1) (named .character .0) (named .character .1));
     }
 
 -- after a refusal there are no states
-pub node-refused : (codes : List ℤ) (n m : ℕ) (records : List Branch) (v j : ℕ) (refusal : Refusal) → askNode codes n m records v j ≡ Refused refusal
+pub node-refused : (codes : List ℤ) (n m : ℕ) (records : List Branch) (v j : ℕ) (refusal : Refusal)
+    → askNode codes n m records v j ≡ Refused refusal
     → NodeAnswer codes n m records v j (NodeStates.Refused refusal)
 node-refused codes n m records v j refusal e = record {
   says = rw e;

@@ -58,7 +58,8 @@ pub record Lengthened (n : ℕ) (tree : List ℕ) (states : List States) (branch
 
 -- r is the sum of the branches' lengths, if it fits 64 bits
 pub record SumOf (n : ℕ) (branches : List BranchFit) (r : ℕ) : Type 0 where
-  pub is : sumOver (λ v. branchAt branches v .length) (otherNodes n) < 2 ^ 64 → r ≡ sumOver (λ v. branchAt branches v .length) (otherNodes n)
+  pub is : sumOver (λ v. branchAt branches v .length) (otherNodes n) < 2 ^ 64
+      → r ≡ sumOver (λ v. branchAt branches v .length) (otherNodes n)
 
 -- a fit has the lengths and the marks of these branches, by node number, and this total; elsewhere stand 0 and no mark
 pub record FitFrom (n : ℕ) (branches : List BranchFit) (sum : ℕ) (fit : Fit) : Type 0 where
@@ -69,7 +70,8 @@ pub record FitFrom (n : ℕ) (branches : List BranchFit) (sum : ℕ) (fit : Fit)
   pub total : fit .total ≡ sum
 
 -- the first k of m characters fitted: the states of the HTUs in them are written, and the branches are those of the fit of them
-pub record Written (matrix : List ℤ) (n m k : ℕ) (tree : List ℕ) (low low′ high high′ chosen chosen′ : List ℤ) (branches : List BranchFit) : Type 0 where
+pub record Written (matrix : List ℤ) (n m k : ℕ) (tree : List ℕ) (low low′ high high′ chosen chosen′ : List ℤ)
+    (branches : List BranchFit) : Type 0 where
   pub isLow : branchingWithin n tree ≡ true → LentMatrix matrix n m → low′ ≡ statesWritten Low tree (rowsOf matrix m n) n k low
   pub isHigh : branchingWithin n tree ≡ true → LentMatrix matrix n m → high′ ≡ statesWritten High tree (rowsOf matrix m n) n k high
   pub isChosen : branchingWithin n tree ≡ true → LentMatrix matrix n m → chosen′ ≡ statesWritten Chosen tree (rowsOf matrix m n) n k chosen

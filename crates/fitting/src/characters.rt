@@ -18,7 +18,8 @@ ghost use Prim.Native.Nat.{_≤_};
 ghost use lib.ListN.{length};
 ghost use Rattle.matrix.specs.Shape.{matrixSize};
 ghost use Rattle.fitting.specs.Plans.{Planned};
-ghost use Rattle.fitting.specs.Steps.{Column, PlusOf, PartOf, PartsUp, LeastCost, stateOf, outsideFrom, SeenDown, statesWith, statesFrom, Fits};
+ghost use Rattle.fitting.specs.Steps.{Column, PlusOf, PartOf, PartsUp, LeastCost};
+ghost use Rattle.fitting.specs.Steps.{stateOf, outsideFrom, SeenDown, statesWith, statesFrom, Fits};
 ghost use Rattle.branching.specs.Ancestors.{ancestors};
 
 // What is found of a node from the tips up: its set, and the least cost of its clade.

@@ -85,7 +85,8 @@ descendant-behind n tree nodes grown walk side u a b i htu h at =
     (place .0, walk-later n tree nodes walk i (place .0) h (place .1) other (ap (ancestor tree) here ∙ d .from ∙ sym at), place .1, here)
 
 -- a taxon keeps its code under the chosen states, and its range is its code alone
-module _ (n : ℕ) (tree : List ℕ) (branches : branchingWithin n tree ≡ true) (rows : List (List ℤ)) (j v : ℕ) (some : 1 ≤ n) (l : v ≤ n) where
+module _ (n : ℕ) (tree : List ℕ) (branches : branchingWithin n tree ≡ true) (rows : List (List ℤ)) (j v : ℕ) (some : 1 ≤ n)
+    (l : v ≤ n) where
   -- of one taxon there is no HTU
   one-taxon : {A : Type 0} (P : ℕ → A) (x : A) → P 1 ≡ x → (2 ≤ n → ⊥) → P n ≡ x
   one-taxon P x e one = let is : n ≡ 1 = omega arith in rw is e
@@ -117,7 +118,8 @@ sister-on right a b = go (eqb a b) refl
     go false e = refl
 
 -- the one descendant of row 1 is a node below row 1
-pub root-within : (n : ℕ) (tree : List ℕ) (grown : Grown n n tree) → (2 ≤ cladeOf n tree grown .root) × (cladeOf n tree grown .root ≤ 2 * n - 2)
+pub root-within : (n : ℕ) (tree : List ℕ) (grown : Grown n n tree) → (2 ≤ cladeOf n tree grown .root) ×
+    (cladeOf n tree grown .root ≤ 2 * n - 2)
 unfolding otherNodes
 root-within n tree grown =
     let root = cladeOf n tree grown .root in

@@ -34,7 +34,14 @@ unfolding askNode
 returns c =
     let start = c .before .before .before .before .before .before in
     let size : length (start .args .records) ≡ 125 = search needs in
-    rw (eq-eqb _ _ size, sym (c .before .before .before .before .before .ask-matrix .ensures) ∙ c .before .before .before .enum-told .given .1, sym (c .before .one-to .ensures ∙ ap (λ (last : ℕ). oneTo last (start .args .node)) (last-end _ _ (c .before .before .nodes-end .ensures))) ∙ not-true _ (c .if1 .taken))
+    rw (
+      eq-eqb _ _ size,
+      sym (c .before .before .before .before .before .ask-matrix .ensures)
+          ∙ c .before .before .before .enum-told .given .1,
+      sym (c .before .one-to .ensures
+          ∙ ap (λ (last : ℕ). oneTo last (start .args .node)) (last-end _ _ (c .before .before .nodes-end .ensures)))
+          ∙ not-true _ (c .if1 .taken),
+    )
 
 one-to-requires-2 : tie.Need-one-to-requires-2
 one-to-requires-2 c κs = search needs
@@ -44,7 +51,15 @@ unfolding askNode
 returns-2 c =
     let start = c .before .before .before .before .before .before .before .before in
     let size : length (start .args .records) ≡ 125 = search needs in
-    rw (eq-eqb _ _ size, sym (c .before .before .before .before .before .before .before .ask-matrix .ensures) ∙ c .before .before .before .before .before .enum-told .given .1, sym (c .before .before .before .one-to .ensures ∙ ap (λ (last : ℕ). oneTo last (start .args .node)) (last-end _ _ (c .before .before .before .before .nodes-end .ensures))) ∙ not-false _ (c .before .before .if1 .left), sym (c .before .one-to2 .ensures) ∙ not-true _ (c .if2 .taken))
+    rw (
+      eq-eqb _ _ size,
+      sym (c .before .before .before .before .before .before .before .ask-matrix .ensures)
+          ∙ c .before .before .before .before .before .enum-told .given .1,
+      sym (c .before .before .before .one-to .ensures
+          ∙ ap (λ (last : ℕ). oneTo last (start .args .node)) (last-end _ _ (c .before .before .before .before .nodes-end .ensures)))
+          ∙ not-false _ (c .before .before .if1 .left),
+      sym (c .before .one-to2 .ensures) ∙ not-true _ (c .if2 .taken),
+    )
 
 lent-branching-requires : tie.Need-lent-branching-requires
 lent-branching-requires c κs = search needs
@@ -54,7 +69,18 @@ unfolding askNode
 returns-3 c =
     let start = c .before .before .before .before .before .before .before .before .before .before in
     let size : length (start .args .records) ≡ 125 = search needs in
-    rw (eq-eqb _ _ size, sym (c .before .before .before .before .before .before .before .before .before .ask-matrix .ensures) ∙ c .before .before .before .before .before .before .before .enum-told .given .1, sym (c .before .before .before .before .before .one-to .ensures ∙ ap (λ (last : ℕ). oneTo last (start .args .node)) (last-end _ _ (c .before .before .before .before .before .before .nodes-end .ensures))) ∙ not-false _ (c .before .before .before .before .if1 .left), sym (c .before .before .before .one-to2 .ensures) ∙ not-false _ (c .before .before .if2 .left), sym (c .before .lent-branching .ensures) ∙ not-true _ (c .if3 .taken))
+    rw (
+      eq-eqb _ _ size,
+      sym (c .before .before .before .before .before .before .before .before .before .ask-matrix .ensures)
+          ∙ c .before .before .before .before .before .before .before .enum-told .given .1,
+      sym
+          (c .before .before .before .before .before .one-to .ensures ∙ ap (λ (last : ℕ). oneTo last (start .args .node)) (last-end _ _
+          (c .before .before .before .before .before .before .nodes-end .ensures)))
+          ∙ not-false _ (c .before .before .before .before .if1 .left),
+      sym (c .before .before .before .one-to2 .ensures)
+          ∙ not-false _ (c .before .before .if2 .left),
+      sym (c .before .lent-branching .ensures) ∙ not-true _ (c .if3 .taken),
+    )
 
 returns-4 : tie.Need-returns-4
 unfolding askNode
@@ -68,7 +94,18 @@ unfolding askNode
 returns-5 c =
     let start = c .before .before .before .before .before .before .before .before .before .before in
     let size : length (start .args .records) ≡ 125 = search needs in
-    rw (eq-eqb _ _ size, sym (c .before .before .before .before .before .before .before .before .before .ask-matrix .ensures) ∙ c .before .before .before .before .before .before .before .enum-told .given .1, sym (c .before .before .before .before .before .one-to .ensures ∙ ap (λ (last : ℕ). oneTo last (start .args .node)) (last-end _ _ (c .before .before .before .before .before .before .nodes-end .ensures))) ∙ not-false _ (c .before .before .before .before .if1 .left), sym (c .before .before .before .one-to2 .ensures) ∙ not-false _ (c .before .before .if2 .left), sym (c .before .lent-branching .ensures) ∙ not-false _ (c .if3 .left))
+    rw (
+      eq-eqb _ _ size,
+      sym (c .before .before .before .before .before .before .before .before .before .ask-matrix .ensures)
+          ∙ c .before .before .before .before .before .before .before .enum-told .given .1,
+      sym
+          (c .before .before .before .before .before .one-to .ensures ∙ ap (λ (last : ℕ). oneTo last (start .args .node)) (last-end _ _
+          (c .before .before .before .before .before .before .nodes-end .ensures)))
+          ∙ not-false _ (c .before .before .before .before .if1 .left),
+      sym (c .before .before .before .one-to2 .ensures)
+          ∙ not-false _ (c .before .before .if2 .left),
+      sym (c .before .lent-branching .ensures) ∙ not-false _ (c .if3 .left),
+    )
 
 pub ask-node-spec : {M : Type 1} → statement M
 ask-node-spec =

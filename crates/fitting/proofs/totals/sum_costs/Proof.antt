@@ -81,7 +81,8 @@ returns c =
       is = λ branches lent.
           let all : loop .j - 1 ≡ start .args .m = omega (arith, c .loop-test .left) in
           rw all at (inv .2 branches lent)
-          ∙ sym (total-characters (ancestors (start .args .plan .tree)) (rowsOf (start .args .matrix .now) (start .args .m) (start .args .n)) (start .args .n) (start .args .m));
+          ∙ sym (total-characters (ancestors (start .args .plan .tree)) (rowsOf (start .args .matrix .now) (start .args .m)
+          (start .args .n)) (start .args .n) (start .args .m));
     }
 
 pub sum-costs-spec : {M : Type 1} → statement M

@@ -18,7 +18,8 @@ Inv-loop tree n branches₀ states end v₀ branches v =
     × (end ≤ 127)
     × (length branches ≡ 127)
     × FilledTo
-    (λ u b. ancestor (ancestors tree) u ≤ 126 → Longer (statesAt states u) (statesAt states (ancestor (ancestors tree) u)) (branchAt branches₀ u) b)
+    (λ u b. ancestor (ancestors tree) u ≤ 126 → Longer (statesAt states u) (statesAt states (ancestor (ancestors tree) u))
+    (branchAt branches₀ u) b)
     (λ u b. b ≡ branchAt branches₀ u) noBranch 2 v branches
 
 abbrev μ-loop : tie.MeasureT-loop
@@ -78,7 +79,8 @@ loop-again c =
     let start = c .before .before .before .before .before .before .before .before .before in
     let tree = ancestors (start .args .tree) in
     let states = start .args .t4 in
-    let place = rw (c .before .before .before .before .before .ancestor .ensures) at (c .before .before .before .before .place-of .ensures) in
+    let place = rw (c .before .before .before .before .before .ancestor .ensures) at
+    (c .before .before .before .before .place-of .ensures) in
     let same = inv .4 .outside (loop .v) (λ l h. omega arith) in (
       omega arith,
       omega arith,

@@ -66,8 +66,10 @@ loop-again c =
       ap length low ∙ length-column n j _ (loop .low) ∙ inv .2,
       ap length high ∙ length-column n j _ (loop .high) ∙ inv .3,
       ap length chosen ∙ length-column n j _ (loop .chosen) ∙ inv .4,
-      written-more (start .args .matrix .now) n (start .args .m) j (inv .0) taken (ancestors (start .args .plan .tree)) _ (c .before .before .before .before .before .before .before .before .before .before .before .codes-of .ensures)
-          _ (c .before .before .before .before .before .before .before .before .before .before .fit-character .ensures) _ _ _ _ _ _ _ _ _ _ _ (inv .5) low high chosen (c .before .before .before .before .before .before .before .before .before .add-lengths .ensures),
+      written-more (start .args .matrix .now) n (start .args .m) j (inv .0) taken (ancestors (start .args .plan .tree)) _
+          (c .before .before .before .before .before .before .before .before .before .before .before .codes-of .ensures)
+          _ (c .before .before .before .before .before .before .before .before .before .before .fit-character .ensures) _ _ _ _ _ _ _ _ _ _ _
+          (inv .5) low high chosen (c .before .before .before .before .before .before .before .before .before .add-lengths .ensures),
     )
 
 same-length : tie.Need-same-length Inv-loop μ-loop

@@ -70,8 +70,10 @@ loop-again c =
       inv .2,
       simp length-set (inv .3),
       simp length-set (inv .4),
-      filled-more (λ u x. x ≡ branchAt branches u .length) (λ u x. x ≡ 0) 0 (loop .lengths) 2 (loop .v) _ (omega arith) (inv .0) (inv .5) refl,
-      filled-more (λ u t. t ≡ branchAt branches u .mark) (λ u t. t ≡ false) false (loop .marks) 2 (loop .v) _ (omega arith) (inv .0) (inv .6) refl,
+      filled-more (λ u x. x ≡ branchAt branches u .length) (λ u x. x ≡ 0) 0 (loop .lengths) 2 (loop .v) _ (omega arith) (inv .0)
+          (inv .5) refl,
+      filled-more (λ u t. t ≡ branchAt branches u .mark) (λ u t. t ≡ false) false (loop .marks) 2 (loop .v) _ (omega arith) (inv .0)
+          (inv .6) refl,
     )
 
 returns : tie.Need-returns Inv-loop μ-loop

@@ -26,7 +26,11 @@ lists-full-requires c κs = search needs
 returns-3 : tie.Need-returns-3
 unfolding fitShapes
 returns-3 c =
-    rw (sym (c .before .before .before .within-limits .ensures) ∙ not-false _ (c .before .before .if1 .left), eq-eqb _ _ (c .before .if2 .left))
+    rw (
+      sym (c .before .before .before .within-limits .ensures) ∙ not-false _ (c .before .before .if1 .left),
+      eq-eqb _ _
+          (c .before .if2 .left),
+    )
     (c .lists-full .ensures)
 
 pub fit-shapes-spec : {M : Type 1} → statement M

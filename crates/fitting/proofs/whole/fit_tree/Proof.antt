@@ -19,7 +19,8 @@ returns c = not-fitted _ _ _ _ _ _ _ _ (sym (c .before .before .fit-shapes .ensu
 
 -- the shapes are right where the test passed
 shaped : (c : tie.Else1) → Shaped (length (c .before .before .args .matrix .now)) (c .before .before .args .n) (c .before .before .args .m)
-    (length (c .before .before .args .low .now)) (length (c .before .before .args .high .now)) (length (c .before .before .args .chosen .now))
+    (length (c .before .before .args .low .now)) (length (c .before .before .args .high .now)) (length
+    (c .before .before .args .chosen .now))
 shaped c = shapes-true _ _ _ _ _ _ (sym (c .before .fit-shapes .ensures) ∙ not-false _ (c .if1 .left))
 
 plan-of-requires : tie.Need-plan-of-requires

@@ -12,7 +12,8 @@ apart-requires c κs = search needs
 
 returns : tie.Need-returns
 returns c =
-    ap (ltb 0) (of-bits apart _ _ _ (sfits-of (c .before .before .struct-told .given .1 .1 .0 .1)) (sfits-of (c .before .struct-told2 .given .1 .1 .0 .1)) (c .apart .ensures))
+    ap (ltb 0) (of-bits apart _ _ _ (sfits-of (c .before .before .struct-told .given .1 .1 .0 .1)) (sfits-of
+    (c .before .struct-told2 .given .1 .1 .0 .1)) (c .apart .ensures))
 
 pub marks-spec : {M : Type 1} → statement M
 marks-spec = tie.close (tie.spec apart-requires returns)
