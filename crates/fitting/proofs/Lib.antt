@@ -18,4 +18,5 @@ pub mod Answered
 pub mod NodeRange
 pub mod Passed
 pub mod Examples
+pub mod Refusals
 pub mod Sample
