@@ -76,7 +76,8 @@ module _ (codes : List ℤ) (n m : ℕ) (records : List Branch) (low high chosen
         isLow = λ p. isLow;
         isHigh = λ p. isHigh;
         isChosen = λ p. isChosen;
-        handed = λ p. handed-back new rows n m (lent .taxon) (lent .taxa) (lent .characters) claim above low low′ high high′ chosen chosen′ fit fits
+        handed = λ p. handed-back new rows n m (lent .taxon) (lent .taxa)
+            (lent .characters) claim above low low′ high high′ chosen chosen′ fit fits
             lowSize highSize chosenSize isLow isHigh isChosen;
         refused = λ refusal f. never _ refusal f e;
       }

@@ -1,7 +1,7 @@
 -- The columns of a lent matrix are its characters, and their lengths under the chosen states stay small.
 use mathlib.Core.Path.{_≡_, sym, _∙_, ap}
 use mathlib.Core.Logic.{by-cases}
-use mathlib.Core.List.{List, [], _∷_, _++_}
+use mathlib.Core.List.{List}
 use mathlib.Core.Bool.{true}
 use Prim.Native.Nat.{ℕ, suc, _+_, _*_, _-_, _≤_, _<_}
 use native.Mathlib.Omega.{arith}
@@ -11,8 +11,8 @@ use lib.ListN.{length, getD}
 use Rattle.lists.specs.Numbers.{numbers}
 use Rattle.lists.specs.Sums.{sumOver}
 use Rattle.lists.proofs.Every.{every-at}
-use Rattle.lists.proofs.Numbers.{numbers-within, length-numbers, numbers-snoc}
-use Rattle.lists.proofs.Sums.{sum-most, sum-snoc}
+use Rattle.lists.proofs.Numbers.{numbers-within, length-numbers}
+use Rattle.lists.proofs.Sums.{sum-most}
 use Rattle.matrix.specs.Shape.{row, rowStart, inRange}
 use Rattle.matrix.specs.NodeRows.{rowsOf}
 use Rattle.matrix.specs.Questions.{LentMatrix, allInRange}
@@ -30,17 +30,6 @@ use Rattle.fitting.proofs.Pass.Standing.{taxa-most, grown-of, root-with
 no-branch : (tree : List ℕ) (rows : List (List ℤ)) (n j : ℕ) → 2 * n - 3 ≡ 0 → characterLength tree rows n j ≡ 0
 unfolding characterLength otherNodes sumOver numbers
 no-branch tree rows n j none = rw none
-
--- the lengths of one character more
-pub characters-next : (tree : List ℕ) (rows : List (List ℤ)) (n j : ℕ) → 1 ≤ j
-    → sumOver (characterLength tree rows n) (numbers 1 (j + 1 - 1))
-    ≡ sumOver (characterLength tree rows n) (numbers 1 (j - 1)) + characterLength tree rows n j
-characters-next tree rows n j first =
-    let one : j + 1 - 1 ≡ suc (j - 1) = omega arith in
-    let last : 1 + (j - 1) ≡ j = omega arith in
-    rw one
-    (ap (sumOver (characterLength tree rows n)) (numbers-snoc 1 (j - 1) ∙ ap (λ (k : ℕ). numbers 1 (j - 1) ++ (k ∷ [])) last)
-    ∙ sum-snoc (characterLength tree rows n) (numbers 1 (j - 1)) j)
 
 -- a lent matrix of n taxa and m characters
 module _ (codes : List ℤ) (n m : ℕ) (lent : LentMatrix codes n m) where

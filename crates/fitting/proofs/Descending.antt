@@ -26,7 +26,8 @@ keep-snoc test [] u = refl
 keep-snoc test (x ∷ us) u = go (test x) (keep-snoc test us u)
   where
     go : (t : Bool) → keep test (us ++ (u ∷ [])) ≡ keep test us ++ cond (test u) (u ∷ []) []
-        → cond t (x ∷ keep test (us ++ (u ∷ []))) (keep test (us ++ (u ∷ []))) ≡ cond t (x ∷ keep test us) (keep test us) ++ cond (test u) (u ∷ []) []
+        → cond t (x ∷ keep test (us ++ (u ∷ []))) (keep test (us ++ (u ∷ []))) ≡ cond t (x ∷ keep test us) (keep test us) ++ cond (test u)
+        (u ∷ []) []
     go true h = ap (λ (rest : List ℕ). x ∷ rest) h
     go false h = h
 
@@ -35,7 +36,8 @@ module _ (tree us : List ℕ) (u : ℕ) where
   descendants-more : descendants tree (us ++ (u ∷ [])) (ancestor tree u) ≡ descendants tree us (ancestor tree u) ++ (u ∷ [])
   unfolding descendants
   descendants-more = keep-snoc (λ w. eqb (ancestor tree w) (ancestor tree u)) us u
-      ∙ ap (λ (t : Bool). keep (λ w. eqb (ancestor tree w) (ancestor tree u)) us ++ cond t (u ∷ []) []) (eq-eqb (ancestor tree u) (ancestor tree u) refl)
+      ∙ ap (λ (t : Bool). keep (λ w. eqb (ancestor tree w) (ancestor tree u)) us ++ cond t (u ∷ []) []) (eq-eqb (ancestor tree u)
+      (ancestor tree u) refl)
 
   -- of any other node it is none
   descendants-same : (v : ℕ) → ancestor tree u ≢ v → descendants tree (us ++ (u ∷ [])) v ≡ descendants tree us v
@@ -84,7 +86,8 @@ pub none-within : (v : ℕ) → (belowAt (replicate 127 (record { first = 0; sec
 none-within v = rw (getD-replicate {A = Below} (record { first = 0; second = 0 }) 127 v) (omega arith, omega arith)
 
 -- the descendants kept when node u has been gone through besides
-module _ (tree : List ℕ) (below : List Below) (u above : ℕ) (size : length below ≡ 127) (low : 2 ≤ u) (place : PlaceOf (ancestor tree u) above) where
+module _ (tree : List ℕ) (below : List Below) (u above : ℕ) (size : length below ≡ 127) (low : 2 ≤ u) (place : PlaceOf
+    (ancestor tree u) above) where
   -- those of every node
   pub below-more : BelowTo tree u below → BelowTo tree (u + 1) (set below above (withDescendant (belowAt below above) u))
   below-more inv v l h =

@@ -45,8 +45,8 @@ pub record Printed : Type 0 where
 
 -- the fit of a matrix as a listing shows it
 unfoldable pub printed : List ℕ → List (List ℤ) → ℕ → ℕ → Printed
-unfolding cladesBelow cladeAt above otherNodes numbers descendants keep ancestor fittedTotal marked fittedLength total branchLength sumOver apart lower
-    higher chosenState range valueAt chosen ranges up join nearestMember middle inOrder insert only character flatMap
+unfolding cladesBelow cladeAt above otherNodes numbers descendants keep ancestor fittedTotal marked fittedLength total branchLength
+    sumOver apart lower higher chosenState range valueAt chosen ranges up join nearestMember middle inOrder insert only character flatMap
 printed tree rows n m = record {
   lengths = map (fittedLength (plain .step) tree rows n m) (otherNodes n);
   marks = map (marked (plain .step) tree rows n m) (otherNodes n);

@@ -21,6 +21,20 @@ filled-next P none xs first i x room before here u l h =
     (λ e. rw (e, getD-set-same xs i x none room) here)
     (λ ne. rw (getD-set-other xs i u x none ne) (before u l (omega arith)))
 
+-- a list filled from place `first` to place i: P holds of what was written there, Q of the other entries
+pub record FilledTo {A : Type 0} (P Q : ℕ → A → Type 0) (none : A) (first i : ℕ) (xs : List A) : Type 0 where
+  pub inside : (u : ℕ) → first ≤ u → u < i → P u (getD xs u none)
+  pub outside : (u : ℕ) → (first ≤ u → u < i → ⊥) → Q u (getD xs u none)
+
+-- it is filled one place further
+pub filled-more : {A : Type 0} (P Q : ℕ → A → Type 0) (none : A) (xs : List A) (first i : ℕ) (x : A) → i < length xs → first ≤ i
+    → FilledTo P Q none first i xs → P i x → FilledTo P Q none first (i + 1) (set xs i x)
+filled-more P Q none xs first i x room from before here = record {
+  inside = filled-next P none xs first i x room (before .inside) here;
+  outside = λ u out. rw (getD-set-other xs i u x none (λ e. out (omega arith) (omega arith))) (before .outside u (λ l h. out l
+      (omega arith)));
+}
+
 -- a sum over consecutive numbers with one more
 pub sum-next : (f : ℕ → ℕ) (first i : ℕ) → first ≤ i
     → sumOver f (numbers first (i + 1 - first)) ≡ sumOver f (numbers first (i - first)) + f i

@@ -1,11 +1,13 @@
 -- A matrix fitted character after character: what is written and summed with one character more.
 use mathlib.Core.Path.{_≡_, refl, sym, _∙_, ap, ap₂}
 use mathlib.Core.List.{List, [], _∷_, map, List·Memᴰ, List·Memᴰ·head, List·Memᴰ·tail}
-use mathlib.Core.Bool.{true}
+use mathlib.Core.Bool.{Bool, true, false, _||_}
 use Prim.Native.Nat.{ℕ, _+_, _*_, _-_, _≤_, _<_}
 use native.Mathlib.Omega.{arith}
+use lib.Dec.{ltb}
 use lib.IntN.{ℤ}
-use lib.ListN.{getD, replicate}
+use lib.ListN.{replicate}
+use borrow.Author.Tests.{ltb-true, ltb-false, lt-ltb}
 use Rattle.lists.specs.Numbers.{numbers}
 use Rattle.lists.specs.Over.{stripes}
 use Rattle.lists.specs.Sums.{sumOver}
@@ -21,11 +23,12 @@ use Rattle.branching.specs.Ancestors.{ancestor}
 use Rattle.branching.specs.Within.{branchingWithin}
 use Rattle.branching.proofs.Walks.{branching-rooted}
 use Rattle.fitting.specs.Assignments.{character, branchLength}
-use Rattle.fitting.specs.Fit.{chosenState, statesIn, fittedLength}
+use Rattle.fitting.specs.Fit.{chosenState, statesIn, fittedLength, marked}
 use Rattle.fitting.specs.Steps.{Column, Fits, statesAt}
 use Rattle.fitting.specs.Calls.{stateIn, statesWritten}
-use Rattle.fitting.specs.Lists.{withColumn, Lengthened, Written}
+use Rattle.fitting.specs.Lists.{withColumn, noBranch, branchAt, fittedBranch, marksIn, Lengthened, Written}
 use Rattle.fitting.specs.declared.characters.States.{States}
+use Rattle.fitting.specs.declared.whole.BranchFit.{BranchFit}
 use Rattle.fitting.specs.declared.whole.Which.{Which}
 use Rattle.fitting.specs.declared.whole.Which.the-variants.{Low, High, Chosen}
 use Rattle.fitting.proofs.Filling.{sum-next}
@@ -40,26 +43,26 @@ map-on f g [] same = refl
 map-on f g (v ∷ vs) same = ap₂ (λ x xs. x ∷ xs) (same v (List·Memᴰ·head refl)) (map-on f g vs (λ u m. same u (List·Memᴰ·tail m)))
 
 -- a column of what is the same for each HTU is the same
-column-same : (n j : ℕ) (f g : ℕ → ℤ) (old : List ℤ) → ((v : ℕ) → n < v → v ≤ 2 * n - 2 → f v ≡ g v) → withColumn n j f old ≡ withColumn n j g old
+column-same : (n j : ℕ) (f g : ℕ → ℤ) (old : List ℤ) → ((v : ℕ) → n < v → v ≤ 2 * n - 2 → f v ≡ g v)
+    → withColumn n j f old ≡ withColumn n j g old
 unfolding withColumn
 column-same n j f g old same =
     ap (λ (items : List (List ℤ)). stripes columns (rowStart (n + 1) + (j - 1)) items old)
     (map-on (λ v. f v ∷ []) (λ v. g v ∷ []) (numbers (n + 1) (n - 2))
     (λ v m. let w = numbers-within (n + 1) (n - 2) v m in ap (λ z. z ∷ []) (same v (omega (arith, w .0)) (omega (arith, w .1)))))
 
--- before the first character nothing is written and every length is 0
+-- before the first character nothing is written, every length is 0 and no branch is marked
 pub start-written : (matrix : List ℤ) (n m : ℕ) (tree : List ℕ) (low high chosen : List ℤ) →
-    Written matrix n m 0 tree low low high high chosen chosen (replicate 127 0)
+    Written matrix n m 0 tree low low high high chosen chosen (replicate 127 noBranch)
 start-written matrix n m tree low high chosen = record {
   isLow = λ branches lent. sym (written-none Low tree (rowsOf matrix m n) n low);
   isHigh = λ branches lent. sym (written-none High tree (rowsOf matrix m n) n high);
   isChosen = λ branches lent. sym (written-none Chosen tree (rowsOf matrix m n) n chosen);
-  lengthsAre = λ branches lent v l h. getD-replicate 0 127 v ∙ unfold fittedLength branchLength sumOver numbers in refl;
-  noLength = λ v out. getD-replicate 0 127 v;
+  are = λ branches lent v l h. getD-replicate noBranch 127 v ∙ unfold marked fittedLength branchLength sumOver numbers in refl;
 }
 
 -- the chosen one of a node's states
-chosen-is : (tree : List ℕ) (rows : List (List ℤ)) (n v j : ℕ) → statesIn tree rows n v j .chosen ≡ chosenState tree rows n v j
+pub chosen-is : (tree : List ℕ) (rows : List (List ℤ)) (n v j : ℕ) → statesIn tree rows n v j .chosen ≡ chosenState tree rows n v j
 unfolding statesIn
 chosen-is tree rows n v j = refl
 
@@ -70,6 +73,23 @@ length-next : (tree : List ℕ) (rows : List (List ℤ)) (n j v : ℕ) → 1 ≤
 unfolding fittedLength branchLength
 length-next tree rows n j v first =
     sum-next (λ i. apart (chosenState tree rows n v i) (chosenState tree rows n (ancestor tree v) i)) 1 j first
+
+-- a sum is above 0 exactly if one of its parts is
+above-zero : (a b : ℕ) → ltb 0 (a + b) ≡ (ltb 0 a || ltb 0 b)
+above-zero a b = go (ltb 0 a) refl
+  where
+    go : (t : Bool) → ltb 0 a ≡ t → ltb 0 (a + b) ≡ (t || ltb 0 b)
+    go true e = lt-ltb 0 (a + b) (omega (arith, ltb-true 0 a e))
+    go false e = let none : a + b ≡ b = omega (arith, ltb-false 0 a e) in ap (ltb 0) none
+
+-- the mark of a branch with one character more
+mark-next : (tree : List ℕ) (rows : List (List ℤ)) (n j v : ℕ) → 1 ≤ j →
+    marked (plain .step) tree rows n (j + 1 - 1) v
+    ≡ (marked (plain .step) tree rows n (j - 1) v || marksIn (statesIn tree rows n v j) (statesIn tree rows n (ancestor tree v) j))
+unfolding marked statesIn
+mark-next tree rows n j v first = ap (ltb 0) (length-next tree rows n j v first)
+    ∙ above-zero (fittedLength (plain .step) tree rows n (j - 1) v) (apart (chosenState tree rows n v j) (chosenState tree rows n
+    (ancestor tree v) j))
 
 module _ (matrix : List ℤ) (n m : ℕ) (tree : List ℕ) (branches : branchingWithin n tree ≡ true) (lent : LentMatrix matrix n m) where
   -- the rows of the taxa
@@ -92,7 +112,8 @@ module _ (matrix : List ℤ) (n m : ℕ) (tree : List ℕ) (branches : branching
     step-most : (j : ℕ) → 1 ≤ j → j ≤ m → apart (chosenState tree rows n v j) (chosenState tree rows n (ancestor tree v) j) ≤ 1998
     step-most j first end =
         let grown = grown-of n tree branches several in
-        let known : (u : ℕ) → 1 ≤ u → u ≤ n → inRange (character rows j u) ≡ true = λ u l h. character-known matrix n m lent u j l h first end in
+        let known : (u : ℕ) → 1 ≤ u → u ≤ n → inRange (character rows j u)
+        ≡ true = λ u l h. character-known matrix n m lent u j l h first end in
         apart-inRange (chosenState tree rows n v j) (chosenState tree rows n (ancestor tree v) j)
         (chosenState-each (λ z. inRange z ≡ true) n tree grown rows j known v (omega arith) last)
         (chosenState-each (λ z. inRange z ≡ true) n tree grown rows j known (ancestor tree v) (above-within .0) (above-within .1))
@@ -127,37 +148,37 @@ module _ (matrix : List ℤ) (n m j : ℕ) (first : 1 ≤ j) (last : j ≤ m) (t
       ∙ ap (withColumn n j (λ v. stateIn which (statesIn tree (rowsOf matrix m n) n v j))) before
       ∙ written-next which tree (rowsOf matrix m n) n j old first (omega arith)
 
-  -- a length with that of one character more
-  length-right : (lengths lengths′ : List ℕ) → branchingWithin n tree ≡ true → LentMatrix matrix n m → Lengthened n tree states lengths lengths′
-      → (v : ℕ) → 2 ≤ v → v ≤ 2 * n - 2 → getD lengths v 0 ≡ fittedLength (plain .step) tree (rowsOf matrix m n) n (j - 1) v
-      → getD lengths′ v 0 ≡ fittedLength (plain .step) tree (rowsOf matrix m n) n (j + 1 - 1) v
-  length-right lengths lengths′ branches lent longer v l h before =
+  -- a branch with one character more
+  branch-right : (old new : List BranchFit) → branchingWithin n tree ≡ true → LentMatrix matrix n m → Lengthened n tree states old new
+      → (v : ℕ) → 2 ≤ v → v ≤ 2 * n - 2 → branchAt old v ≡ fittedBranch tree (rowsOf matrix m n) n (j - 1) v
+      → branchAt new v ≡ fittedBranch tree (rowsOf matrix m n) n (j + 1 - 1) v
+  branch-right old new branches lent longer v l h before =
+      let rows = rowsOf matrix m n in
       let above = above-within matrix n m tree branches lent v l h in
       let few = taxa-most n tree branches in
       let end = last-several n (omega arith) in
-      let small : ancestor tree v ≤ 126 = omega (arith, above .1) in
-      let own = ap (λ (s : States). s .chosen) (states-are branches lent v (omega arith) (omega arith)) in
-      let its = ap (λ (s : States). s .chosen) (states-are branches lent (ancestor tree v) (above .0) (omega (arith, above .1))) in
-      let step : apart (statesAt states v .chosen) (statesAt states (ancestor tree v) .chosen)
-      ≡ apart (chosenState tree (rowsOf matrix m n) n v j) (chosenState tree (rowsOf matrix m n) n (ancestor tree v) j) =
-      ap₂ apart (own ∙ chosen-is tree (rowsOf matrix m n) n v j) (its ∙ chosen-is tree (rowsOf matrix m n) n (ancestor tree v) j) in
-      let next = length-next tree (rowsOf matrix m n) n j v first in
+      let own = states-are branches lent v (omega arith) (omega arith) in
+      let its = states-are branches lent (ancestor tree v) (above .0) (omega (arith, above .1)) in
+      let more = rw (own, its, before) at (longer .added v l h (omega (arith, above .1))) in
+      let step = ap₂ apart (chosen-is tree rows n v j) (chosen-is tree rows n (ancestor tree v) j) in
+      let next = length-next tree rows n j v first in
       let most = length-most matrix n m tree branches lent v l h (j + 1 - 1) (omega arith) in
       let wide = lent .characters in
-      longer .added v l h small .is (omega arith) ∙ ap₂ _+_ before step ∙ sym next
+      ap₂ (λ (x : ℕ) (t : Bool). record { length = x; mark = t })
+      (more .length .is (omega arith) ∙ ap (λ (x : ℕ). fittedLength (plain .step) tree rows n (j - 1) v + x) step ∙ sym next)
+      (more .mark ∙ sym (mark-next tree rows n j v first))
 
   -- all of it
-  pub written-more : (low low′ low″ high high′ high″ chosen chosen′ chosen″ : List ℤ) (lengths lengths′ : List ℕ)
-      → Written matrix n m (j - 1) tree low low′ high high′ chosen chosen′ lengths
+  pub written-more : (low low′ low″ high high′ high″ chosen chosen′ chosen″ : List ℤ) (old new : List BranchFit)
+      → Written matrix n m (j - 1) tree low low′ high high′ chosen chosen′ old
       → low″ ≡ withColumn n j (λ v. stateIn Low (statesAt states v)) low′
       → high″ ≡ withColumn n j (λ v. stateIn High (statesAt states v)) high′
       → chosen″ ≡ withColumn n j (λ v. stateIn Chosen (statesAt states v)) chosen′
-      → Lengthened n tree states lengths lengths′
-      → Written matrix n m (j + 1 - 1) tree low low″ high high″ chosen chosen″ lengths′
-  written-more low low′ low″ high high′ high″ chosen chosen′ chosen″ lengths lengths′ before l h c longer = record {
+      → Lengthened n tree states old new
+      → Written matrix n m (j + 1 - 1) tree low low″ high high″ chosen chosen″ new
+  written-more low low′ low″ high high′ high″ chosen chosen′ chosen″ old new before l h c longer = record {
     isLow = λ branches lent. list-next Low low low′ low″ branches lent (before .isLow branches lent) l;
     isHigh = λ branches lent. list-next High high high′ high″ branches lent (before .isHigh branches lent) h;
     isChosen = λ branches lent. list-next Chosen chosen chosen′ chosen″ branches lent (before .isChosen branches lent) c;
-    lengthsAre = λ branches lent v p q. length-right lengths lengths′ branches lent longer v p q (before .lengthsAre branches lent v p q);
-    noLength = λ v out. longer .kept v out ∙ before .noLength v out;
+    are = λ branches lent v p q. branch-right old new branches lent longer v p q (before .are branches lent v p q);
   }

@@ -13,7 +13,7 @@ use Rattle.lists.specs.Sums.{sumOver}
 use Rattle.lists.proofs.Numbers.{numbers-within, map-numbers, map-beyond, length-map-numbers}
 use Rattle.lists.proofs.Stripes.{Narrow, stripes-inside}
 use Rattle.lists.proofs.Sums.{sum-same}
-use Rattle.matrix.specs.Shape.{columns, matrixSize, rowStart}
+use Rattle.matrix.specs.Shape.{columns, matrixSize, rowStart, lastNode}
 use Rattle.matrix.specs.NodeRows.{withRows}
 use Rattle.difference.specs.Rows.{plain}
 use Rattle.branching.specs.Ancestors.{ancestor}
@@ -28,6 +28,7 @@ use Rattle.fitting.specs.declared.whole.Which.{Which}
 use Rattle.fitting.specs.declared.whole.Which.the-variants.{Low, High, Chosen}
 use Rattle.fitting.specs.declared.whole.Fit.{Fit}
 use Rattle.fitting.proofs.Cases.{either}
+use Rattle.fitting.proofs.Gathering.{chosen-is}
 
 -- rows of m codes are no wider than their places
 rows-narrow : (f : ℕ → ℕ → ℤ) (m first count : ℕ) → m ≤ columns → Narrow columns (map (λ v. map (f v) (numbers 1 m)) (numbers first count))
@@ -39,7 +40,8 @@ rows-narrow f m first count wide k =
     rw (map-beyond (λ v. map (f v) (numbers 1 m)) [] first count k out) (omega arith))
 
 -- a state written is read back
-pub state-written : (which : Which) (tree : List ℕ) (rows : List (List ℤ)) (n m : ℕ) (old : List ℤ) (v j : ℕ) → length old ≡ matrixSize → n ≤ 64
+pub state-written : (which : Which) (tree : List ℕ) (rows : List (List ℤ)) (n m : ℕ) (old : List ℤ) (v j : ℕ) → length old ≡ matrixSize
+    → n ≤ 64
     → m ≤ columns → n < v → v ≤ 2 * n - 2 → 1 ≤ j → j ≤ m
     → stateAt (statesWritten which tree rows n m old) v j ≡ stateIn which (statesIn tree rows n v j)
 unfolding statesWritten withRows
@@ -61,18 +63,15 @@ state-written which tree rows n m old v j size few wide l h first last =
     ∙ ap (f v) here)
 
 -- both ends of a range are its ends
-ends-in : (tree : List ℕ) (rows : List (List ℤ)) (n v j : ℕ) (s a b : ℤ) → a ≡ stateIn Low (statesIn tree rows n v j) → b ≡ stateIn High (statesIn tree rows n v j)
+pub ends-in : (tree : List ℕ) (rows : List (List ℤ)) (n v j : ℕ) (s a b : ℤ) → a ≡ stateIn Low (statesIn tree rows n v j)
+    → b ≡ stateIn High (statesIn tree rows n v j)
     → ((a ≤ℤ s) × (s ≤ℤ b)) ↔ In s (range tree rows n v j)
 unfolding statesIn
 ends-in tree rows n v j s a b e f = rw (e, f) (λ p. record { fromLow = p .0; toHigh = p .1 }, λ i. (i .fromLow, i .toHigh))
 
--- the chosen one of a node's states
-chosen-in : (tree : List ℕ) (rows : List (List ℤ)) (n v j : ℕ) → stateIn Chosen (statesIn tree rows n v j) ≡ chosenState tree rows n v j
-unfolding statesIn
-chosen-in tree rows n v j = refl
-
 module _ (tree : List ℕ) (rows : List (List ℤ)) (n m : ℕ) (some : 1 ≤ n) (few : n ≤ 64) (wide : m ≤ columns)
-    (claim : FitIsLeast (plain .step) tree rows n m) (above : (v : ℕ) → 2 ≤ v → v ≤ 2 * n - 2 → (1 ≤ ancestor tree v) × (ancestor tree v ≤ 2 * n - 2))
+    (claim : FitIsLeast (plain .step) tree rows n m) (above : (v : ℕ) → 2 ≤ v → v ≤ 2 * n - 2
+    → (1 ≤ ancestor tree v) × (ancestor tree v ≤ 2 * n - 2))
     (low low′ high high′ chosen chosen′ : List ℤ) (fit : Fit) (fits : FitOf (plain .step) tree rows n m fit)
     (lowSize : length low ≡ matrixSize) (highSize : length high ≡ matrixSize) (chosenSize : length chosen ≡ matrixSize)
     (isLow : low′ ≡ statesWritten Low tree rows n m low) (isHigh : high′ ≡ statesWritten High tree rows n m high)
@@ -86,7 +85,7 @@ module _ (tree : List ℕ) (rows : List (List ℤ)) (n m : ℕ) (some : 1 ≤ n)
       (λ htu.
       let read : stateAt chosen′ v j ≡ stateIn Chosen (statesIn tree rows n v j) =
       ap (λ (list : List ℤ). stateAt list v j) isChosen ∙ state-written Chosen tree rows n m chosen v j chosenSize few wide htu q l h in
-      rw (lt-leb v n htu) (read ∙ chosen-in tree rows n v j))
+      rw (lt-leb v n htu) (read ∙ chosen-is tree rows n v j))
 
   -- what is handed back
   pub handed-back : HandedBack (plain .step) tree rows n m low′ high′ chosen′ fit
@@ -95,7 +94,7 @@ module _ (tree : List ℕ) (rows : List (List ℤ)) (n m : ℕ) (some : 1 ≤ n)
         let a = ap (λ (list : List ℤ). stateAt list v j) isLow ∙ state-written Low tree rows n m low v j lowSize few wide p q l h in
         let b = ap (λ (list : List ℤ). stateAt list v j) isHigh ∙ state-written High tree rows n m high v j highSize few wide p q l h in
         let ends = ends-in tree rows n v j s _ _ a b in
-        let occurs = claim .ranges v j s p q l h in
+        let occurs = claim .ranges v j s (omega arith) (unfold lastNode in omega arith) l h in
         (λ between. occurs .0 (ends .0 between), λ o. ends .1 (occurs .1 o));
     assigns = record { keeps = λ v j p q l h. unfold handedStates in rw (le-leb v n q) };
     isTotal = same-total ∙ sym (fits .total);

@@ -19,4 +19,5 @@ pub mod Taken
 pub mod NodeRange
 pub mod Passed
 pub mod Examples
+pub mod Refusals
 pub mod Sample

@@ -1,14 +1,13 @@
 -- The states of one node, taxon or HTU, told by assignments, and the answer of the call for them.
-use mathlib.Core.Path.{_≡_, refl, sym, _∙_, subst}
+use mathlib.Core.Path.{_≡_, _∙_, ap}
 use mathlib.Core.Logic.{_↔_}
 use mathlib.Core.List.{List}
 use mathlib.Core.Bool.{true}
-use Prim.Native.Nat.{ℕ, _-_, _≤_}
+use Prim.Native.Nat.{ℕ, _≤_}
 use native.Mathlib.Omega.{arith}
 use lib.Dec.{eqb}
 use lib.IntN.{ℤ}
 use lib.ListN.{length}
-use lib.Signed.{_≤ℤ_, ≤ℤ-refl}
 use Rattle.matrix.specs.Shape.{lastNode}
 use Rattle.matrix.specs.NodeRows.{rowsOf}
 use Rattle.matrix.specs.Questions.{askMatrix, oneTo, LentMatrix}
@@ -17,49 +16,21 @@ use Rattle.matrix.specs.declared.refusal.Refusal.{Refusal}
 use Rattle.matrix.specs.declared.refusal.Refusal.the-variants.{ListSize, NotThere, NotBranching}
 use Rattle.matrix.specs.declared.refusal.Asked.the-variants.{Passed, Refused}
 use Rattle.matrix.proofs.Passing.{ask-passed, andThen-passed, matrix-passes, oneTo-true}
-use Rattle.difference.specs.Rows.{plain}
-use Rattle.difference.proofs.Laws.Codes.{≤ℤ-antisym}
 use Rattle.branching.specs.declared.branch.Branch.{Branch}
 use Rattle.branching.specs.Branches.{ancestorsOf, placesOf, lentBranching}
 use Rattle.branching.specs.Asking.{branchesSize}
 use Rattle.branching.proofs.Lending.{places-ancestors}
 use Rattle.branching.proofs.Test.{branching-iff}
-use Rattle.branching.proofs.Within.{branching-plain}
-use Rattle.fitting.specs.Sets.{In, only}
-use Rattle.fitting.specs.Assignments.{character, total, Occurs}
-use Rattle.fitting.specs.Fit.{chosenState, range, statesIn, fittedTotal}
-use Rattle.fitting.specs.Rival.{FitIsLeast}
+use Rattle.fitting.specs.Fit.{statesIn}
 use Rattle.fitting.specs.Calls.{StatesOf}
 use Rattle.fitting.specs.Handing.{askNode, NodeAnswer}
 use Rattle.fitting.specs.declared.characters.States.{States}
 use Rattle.fitting.specs.declared.calls.NodeStates.the-variants.{Are}
 use Rattle.fitting.specs.declared.calls.NodeStates.the-variants as NodeStates
-use Rattle.fitting.proofs.Cases.{either}
 use Rattle.fitting.proofs.Passed.{places-branching, lent-test}
 use Rattle.fitting.proofs.SameTree.{states-same}
-use Rattle.fitting.proofs.Pass.Standing.{taxon-range}
+use Rattle.fitting.proofs.Handed.{ends-in}
 use Rattle.fitting.proofs.Matrix.ThirdRival.{third-rival}
-
--- the total of the chosen states
-chosen-total : (step : ℕ → ℤ → ℤ → ℕ) (tree : List ℕ) (rows : List (List ℤ)) (n m : ℕ) → total step tree n m (chosenState tree rows n) ≡ fittedTotal step tree rows n m
-unfolding fittedTotal
-chosen-total step tree rows n m = refl
-
--- a state is a taxon's code exactly if the taxon has it in some assignment of least length
-pub taxon-occurs : (step : ℕ → ℤ → ℤ → ℕ) (tree : List ℕ) (rows : List (List ℤ)) (n m : ℕ) → FitIsLeast step tree rows n m → (v j : ℕ) (s : ℤ)
-    → 1 ≤ v → v ≤ n → 1 ≤ j → j ≤ m → In s (only (character rows j v)) ↔ Occurs step tree rows n m v j s
-unfolding only
-taxon-occurs step tree rows n m claim v j s p q l h = (
-  λ i. record {
-    states = chosenState tree rows n;
-    isLeast = record { assigns = claim .assigns; least = λ others k. omega (arith, chosen-total step tree rows n m, claim .least others k) };
-    here = claim .assigns .keeps v j p q l h ∙ ≤ℤ-antisym (i .fromLow) (i .toHigh);
-  },
-  λ o.
-      let is : character rows j v ≡ s = sym (o .isLeast .assigns .keeps v j p q l h) ∙ o .here in
-      subst (λ (z : ℤ). In z (record { low = character rows j v; high = character rows j v })) is
-      (record { fromLow = ≤ℤ-refl (character rows j v); toHigh = ≤ℤ-refl (character rows j v) }),
-)
 
 -- states handed back as a value
 value-same : (a b : States) → _≡_ {A = Outcome States} (value b) (value a) → a ≡ b
@@ -73,7 +44,8 @@ pub record NodeNamed (codes : List ℤ) (n m : ℕ) (records : List Branch) (v j
   pub branches : lentBranching n records ≡ true
 
 -- they tell so
-node-named : (codes : List ℤ) (n m : ℕ) (records : List Branch) (v j : ℕ) → askNode codes n m records v j ≡ Passed → NodeNamed codes n m records v j
+node-named : (codes : List ℤ) (n m : ℕ) (records : List Branch) (v j : ℕ) → askNode codes n m records v j ≡ Passed
+    → NodeNamed codes n m records v j
 unfolding askNode
 node-named codes n m records v j e =
     let size = ask-passed (eqb (length records) branchesSize) ListSize _ e in
@@ -87,12 +59,6 @@ node-named codes n m records v j e =
       branches = ask-passed (lentBranching n records) NotBranching Passed (named .1) .0;
     }
 
--- the ends of a range among a node's states
-states-in : (tree : List ℕ) (rows : List (List ℤ)) (n v j : ℕ) (s : ℤ) (states : States) → states ≡ statesIn tree rows n v j
-    → ((states .low ≤ℤ s) × (s ≤ℤ states .high)) ↔ In s (range tree rows n v j)
-unfolding statesIn
-states-in tree rows n v j s states e = rw e (λ p. record { fromLow = p .0; toHigh = p .1 }, λ i. (i .fromLow, i .toHigh))
-
 -- one after the other
 both-ways : {A B C : Type 0} → (A ↔ B) → (B ↔ C) → (A ↔ C)
 both-ways f g = (λ a. g .0 (f .0 a), λ c. f .1 (g .1 c))
@@ -101,7 +67,6 @@ both-ways f g = (λ a. g .0 (f .0 a), λ c. f .1 (g .1 c))
 pub node-answer : (codes : List ℤ) (n m : ℕ) (records : List Branch) (v j : ℕ) (tree : List ℕ) (r : States)
     → askNode codes n m records v j ≡ Passed → tree ≡ placesOf n records → StatesOf codes n m tree v j r
     → NodeAnswer codes n m records v j (Are r)
-unfolding lastNode
 node-answer codes n m records v j tree r e is of =
     let named = node-named codes n m records v j e in
     let lent = named .lent in
@@ -113,20 +78,18 @@ node-answer codes n m records v j tree r e is of =
     (rw is at of) .are places lent (named .node .0) (named .node .1) (named .character .0) (named .character .1)
     ∙ states-same (placesOf n records) new (places-ancestors n records) rows n v j in
     let claim = third-rival n m new rows (lent .taxon) (branching-iff new n (lent .taxon) .0 test) in
-    let within = branching-plain n new (lent .taxa) ∙ test in
     record {
       says = rw (e, found);
       ranges = λ states same s.
           let own : states ≡ statesIn new rows n v j = value-same states r same ∙ found in
-          both-ways (states-in new rows n v j s states own)
-          (either v n
-          (λ taxon. rw (taxon-range n new within rows j v (lent .taxon) taxon)
-          (taxon-occurs (plain .step) new rows n m claim v j s (named .node .0) taxon (named .character .0) (named .character .1)))
-          (λ htu. claim .ranges v j s htu (omega (arith, named .node .1, lent .taxon)) (named .character .0) (named .character .1)));
+          both-ways (ends-in new rows n v j s (states .low) (states .high) (ap (λ (t : States). t .low) own) (ap (λ
+          (t : States). t .high) own))
+          (claim .ranges v j s (named .node .0) (named .node .1) (named .character .0) (named .character .1));
     }
 
 -- after a refusal there are no states
-pub node-refused : (codes : List ℤ) (n m : ℕ) (records : List Branch) (v j : ℕ) (refusal : Refusal) → askNode codes n m records v j ≡ Refused refusal
+pub node-refused : (codes : List ℤ) (n m : ℕ) (records : List Branch) (v j : ℕ) (refusal : Refusal)
+    → askNode codes n m records v j ≡ Refused refusal
     → NodeAnswer codes n m records v j (NodeStates.Refused refusal)
 node-refused codes n m records v j refusal e = record {
   says = rw e;

@@ -34,7 +34,8 @@ unfolding lentBranching
 lent-test n records e = and-eq-true-iff (namedInOrder n records) (branching n (ancestorsOf n records)) .0 e .1
 
 -- what passed questions tell of the records
-pub records-passed : (codes : List ℤ) (n m : ℕ) (records : List Branch) → askBranching codes n m records ≡ Passed → lentBranching n records ≡ true
+pub records-passed : (codes : List ℤ) (n m : ℕ) (records : List Branch) → askBranching codes n m records ≡ Passed
+    → lentBranching n records ≡ true
 unfolding askBranching
 records-passed codes n m records e =
     let size = ask-passed (eqb (length records) branchesSize) ListSize _ e in

@@ -50,7 +50,8 @@ module _ (old new : List ℕ) (same : (v : ℕ) → ancestor old v ≡ ancestor 
     pub state-same : (v j : ℕ) → chosenState old rows n v j ≡ chosenState new rows n v j
     unfolding chosenState
     state-same v j =
-        ap (λ (ts : List Clade). valueAt (character rows j v) (flatMap (chosen (character rows j) (character rows j 1)) ts) v) (clades-same n)
+        ap (λ (ts : List Clade). valueAt (character rows j v) (flatMap (chosen (character rows j) (character rows j 1)) ts) v)
+        (clades-same n)
 
     -- its range
     pub range-same : (v j : ℕ) → range old rows n v j ≡ range new rows n v j
@@ -99,8 +100,10 @@ module _ (old new : List ℕ) (same : (v : ℕ) → ancestor old v ≡ ancestor 
       }
 
     -- states written
-    pub written-same : (which : Which) (m : ℕ) (list : List ℤ) → statesWritten which old rows n m list ≡ statesWritten which new rows n m list
+    pub written-same : (which : Which) (m : ℕ) (list : List ℤ) → statesWritten which old rows n m list
+        ≡ statesWritten which new rows n m list
     unfolding statesWritten
     written-same which m list =
-        ap (λ (f : ℕ → ℕ → States). withRows list (n + 1) (map (λ v. map (λ j. stateIn which (f v j)) (numbers 1 m)) (numbers (n + 1) (n - 2))))
+        ap (λ (f : ℕ → ℕ → States). withRows list (n + 1) (map (λ v. map (λ j. stateIn which (f v j)) (numbers 1 m)) (numbers (n + 1)
+        (n - 2))))
         (fun-ext (λ v. fun-ext (λ j. states-same v j)))

@@ -38,4 +38,4 @@ pub #1-in-character-3 : (s : ℤ) → In s (span (pos 0) (pos 1)) ↔ Occurs (pl
 unfolding printed
 #1-in-character-3 s =
     third-rival 4 3 treeABCD rowsABCD (omega arith) branching-ABCD
-    .ranges 5 3 s (omega arith) (omega arith) (omega arith) (omega arith)
+    .ranges 5 3 s (omega arith) (unfold lastNode in omega arith) (omega arith) (omega arith)

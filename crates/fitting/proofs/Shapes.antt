@@ -1,12 +1,12 @@
--- The fit of a tree put together from what is written, the marks and the sum; and when its lists have the matrix's shape.
+-- The fit of a tree put together from what is written and from its branches; and when its lists have the matrix's shape.
 use mathlib.Core.Path.{_≡_, refl, sym, _∙_, ap}
 use mathlib.Core.List.{List}
 use mathlib.Core.Bool.{Bool, true, false, true≢false, and-eq-true-iff}
 use Prim.Native.Nat.{ℕ, _*_, _-_, _^_, _≤_, _<_}
 use native.Mathlib.Omega.{arith}
-use lib.Dec.{eqb, ltb}
+use lib.Dec.{eqb}
 use lib.IntN.{ℤ}
-use lib.ListN.{length, getD}
+use lib.ListN.{length}
 use borrow.Author.Tests.{eqb-true, eq-eqb}
 use Rattle.lists.specs.Sums.{sumOver}
 use Rattle.lists.specs.Numbers.{numbers}
@@ -19,9 +19,10 @@ use Rattle.matrix.proofs.Passing.{oneTo-true, true-oneTo}
 use Rattle.difference.specs.Rows.{plain}
 use Rattle.branching.specs.Nodes.{otherNodes}
 use Rattle.branching.specs.Within.{branchingWithin}
-use Rattle.fitting.specs.Fit.{fittedLength, fittedTotal, marked}
-use Rattle.fitting.specs.Calls.{FitOf, TreeFitted}
-use Rattle.fitting.specs.Lists.{Written, Marks, SumOf, fitShapes}
+use Rattle.fitting.specs.Fit.{fittedLength, fittedTotal}
+use Rattle.fitting.specs.Calls.{listsFull, FitOf, TreeFitted}
+use Rattle.fitting.specs.Lists.{branchAt, Written, SumOf, FitFrom, fitShapes}
+use Rattle.fitting.specs.declared.whole.BranchFit.{BranchFit}
 use Rattle.fitting.specs.declared.whole.Fit.{Fit}
 use Rattle.fitting.proofs.Matrix.EachFitted.{lengths-total}
 use Rattle.fitting.proofs.Pass.Standing.{taxa-most}
@@ -39,7 +40,7 @@ pub record Shaped (matrix n m low high chosen : ℕ) : Type 0 where
 
 -- the test tells so
 pub shapes-true : (matrix n m low high chosen : ℕ) → fitShapes matrix n m low high chosen ≡ true → Shaped matrix n m low high chosen
-unfolding fitShapes withinLimits
+unfolding fitShapes withinLimits listsFull
 shapes-true matrix n m low high chosen e =
     let a = and-eq-true-iff (withinLimits n m) _ .0 e in
     let b = and-eq-true-iff (eqb matrix matrixSize) _ .0 (a .1) in
@@ -59,7 +60,7 @@ shapes-true matrix n m low high chosen e =
 -- lists of the right shape beside a lent matrix pass the test
 pub true-shapes : (matrix low high chosen : List ℤ) (n m : ℕ) → LentMatrix matrix n m → length low ≡ matrixSize → length high ≡ matrixSize
     → length chosen ≡ matrixSize → fitShapes (length matrix) n m (length low) (length high) (length chosen) ≡ true
-unfolding fitShapes withinLimits
+unfolding fitShapes withinLimits listsFull
 true-shapes matrix low high chosen n m lent l h c =
     rw (
       true-oneTo 64 n (lent .taxon) (lent .taxa),
@@ -72,7 +73,7 @@ true-shapes matrix low high chosen n m lent l h c =
 
 -- so do lists that are known to have it
 pub true-shape : (matrix : List ℤ) (n m : ℕ) → LentMatrix matrix n m → fitShapes (length matrix) n m matrixSize matrixSize matrixSize ≡ true
-unfolding fitShapes withinLimits
+unfolding fitShapes withinLimits listsFull
 true-shape matrix n m lent =
     rw (
       true-oneTo 64 n (lent .taxon) (lent .taxa),
@@ -89,51 +90,42 @@ not-fitted matrix low high chosen n m tree fit e = record {
   fitted = λ branches lent l h c. absurd (true≢false (sym (true-shapes matrix low high chosen n m lent l h c) ∙ e));
 }
 
--- the mark of a branch is by its fitted length
-mark-is : (tree : List ℕ) (rows : List (List ℤ)) (n m v : ℕ) → ltb 0 (fittedLength (plain .step) tree rows n m v) ≡ marked (plain .step) tree rows n m v
-unfolding marked
-mark-is tree rows n m v = refl
-
--- the fit of a tree from what is written, the marks and the sum
-pub tree-fitted : (matrix : List ℤ) (n m : ℕ) (tree : List ℕ) (low low′ high high′ chosen chosen′ : List ℤ) (lengths : List ℕ)
-    (marks : List Bool) (total : ℕ) → Written matrix n m m tree low low′ high high′ chosen chosen′ lengths → Marks n lengths marks
-    → SumOf n lengths total → TreeFitted matrix n m tree low low′ high high′ chosen chosen′ (record { lengths = lengths; marks = marks; total = total })
-tree-fitted matrix n m tree low low′ high high′ chosen chosen′ lengths marks total written marked-are sum = record {
-  fitted = λ branches lent l h c.
-      (fit branches lent, written .isLow branches lent, written .isHigh branches lent, written .isChosen branches lent);
+-- the fit of a tree from what is written and from its branches
+pub tree-fitted : (matrix : List ℤ) (n m : ℕ) (tree : List ℕ) (low low′ high high′ chosen chosen′ : List ℤ) (branches : List BranchFit)
+    (total : ℕ) (fit : Fit) → Written matrix n m m tree low low′ high high′ chosen chosen′ branches → SumOf n branches total
+    → FitFrom n branches total fit → TreeFitted matrix n m tree low low′ high high′ chosen chosen′ fit
+tree-fitted matrix n m tree low low′ high high′ chosen chosen′ branches total fit written sum from = record {
+  fitted = λ whole lent l h c.
+      (fits whole lent, written .isLow whole lent, written .isHigh whole lent, written .isChosen whole lent);
 }
   where
-    rows : List (List ℤ)
-    rows = rowsOf matrix m n
-
     each : branchingWithin n tree ≡ true → LentMatrix matrix n m → (v : ℕ) → 2 ≤ v → v ≤ 2 * n - 2
-        → getD lengths v 0 ≡ fittedLength (plain .step) tree (rowsOf matrix m n) n m v
-    each = written .lengthsAre
+        → branchAt branches v .length ≡ fittedLength (plain .step) tree (rowsOf matrix m n) n m v
+    each whole lent v l h = ap (λ (b : BranchFit). b .length) (written .are whole lent v l h)
 
     sums : branchingWithin n tree ≡ true → LentMatrix matrix n m
-        → sumOver (λ v. getD lengths v 0) (otherNodes n) ≡ fittedTotal (plain .step) tree (rowsOf matrix m n) n m
-    sums branches lent = unfold otherNodes in
-        sum-same (λ v. getD lengths v 0) (fittedLength (plain .step) tree (rowsOf matrix m n) n m) (numbers 2 (2 * n - 3))
-        (λ v i. let w = numbers-within 2 (2 * n - 3) v i in each branches lent v (w .0) (omega (arith, w .0, w .1)))
+        → sumOver (λ v. branchAt branches v .length) (otherNodes n) ≡ fittedTotal (plain .step) tree (rowsOf matrix m n) n m
+    sums whole lent = unfold otherNodes in
+        sum-same (λ v. branchAt branches v .length) (fittedLength (plain .step) tree (rowsOf matrix m n) n m) (numbers 2 (2 * n - 3))
+        (λ v i. let w = numbers-within 2 (2 * n - 3) v i in each whole lent v (w .0) (omega (arith, w .0, w .1)))
         ∙ lengths-total (plain .step) n m tree (rowsOf matrix m n)
 
-    small : branchingWithin n tree ≡ true → LentMatrix matrix n m → sumOver (λ v. getD lengths v 0) (otherNodes n) < 2 ^ 64
-    small branches lent = unfold otherNodes in
-        let most = sum-most (λ v. getD lengths v 0) 255744 (numbers 2 (2 * n - 3))
+    small : branchingWithin n tree ≡ true → LentMatrix matrix n m → sumOver (λ v. branchAt branches v .length) (otherNodes n) < 2 ^ 64
+    small whole lent = unfold otherNodes in
+        let most = sum-most (λ v. branchAt branches v .length) 255744 (numbers 2 (2 * n - 3))
         (λ v i.
         let w = numbers-within 2 (2 * n - 3) v i in
         let last : v ≤ 2 * n - 2 = omega (arith, w .0, w .1) in
         let wide = lent .characters in
-        omega (arith, each branches lent v (w .0) last, length-most matrix n m tree branches lent v (w .0) last m (omega arith))) in
-        let few = taxa-most n tree branches in
+        omega (arith, each whole lent v (w .0) last, length-most matrix n m tree whole lent v (w .0) last m (omega arith))) in
+        let few = taxa-most n tree whole in
         omega (arith, most, length-numbers 2 (2 * n - 3))
 
-    fit : branchingWithin n tree ≡ true → LentMatrix matrix n m
-        → FitOf (plain .step) tree (rowsOf matrix m n) n m (record { lengths = lengths; marks = marks; total = total })
-    fit branches lent = record {
-      lengths = each branches lent;
-      noLength = written .noLength;
-      marks = λ v l h. marked-are .are v l h ∙ ap (ltb 0) (each branches lent v l h) ∙ mark-is tree (rowsOf matrix m n) n m v;
-      noMark = marked-are .none;
-      total = sum .is (small branches lent) ∙ sums branches lent;
+    fits : branchingWithin n tree ≡ true → LentMatrix matrix n m → FitOf (plain .step) tree (rowsOf matrix m n) n m fit
+    fits whole lent = record {
+      lengths = λ v l h. from .lengths v l h ∙ each whole lent v l h;
+      noLength = from .noLength;
+      marks = λ v l h. from .marks v l h ∙ ap (λ (b : BranchFit). b .mark) (written .are whole lent v l h);
+      noMark = from .noMark;
+      total = from .total ∙ sum .is (small whole lent) ∙ sums whole lent;
     }

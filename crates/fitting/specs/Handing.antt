@@ -43,7 +43,8 @@ unfoldable pub handedStates : List (List ℤ) → ℕ → List ℤ → ℕ → �
 handedStates rows n list v j = cond (leb v n) (character rows j v) (stateAt list v j)
 
 -- what a fit of a tree hands back, by the numbers in the lists and by assignments
-pub record HandedBack (step : ℕ → ℤ → ℤ → ℕ) (tree : List ℕ) (rows : List (List ℤ)) (n m : ℕ) (low high chosen : List ℤ) (fit : Fit) : Type 0 where
+pub record HandedBack (step : ℕ → ℤ → ℤ → ℕ) (tree : List ℕ) (rows : List (List ℤ)) (n m : ℕ) (low high chosen : List ℤ)
+    (fit : Fit) : Type 0 where
   -- a state lies from low to high exactly if the HTU has it in some assignment of least length
   pub ranges : (v j : ℕ) (s : ℤ) → n < v → v ≤ 2 * n - 2 → 1 ≤ j → j ≤ m
       → ((stateAt low v j ≤ℤ s) × (s ≤ℤ stateAt high v j)) ↔ Occurs step tree rows n m v j s
@@ -56,13 +57,17 @@ pub record HandedBack (step : ℕ → ℤ → ℤ → ℕ) (tree : List ℕ) (ro
   -- the lengths handed back add up to it
   pub sums : sumOver (λ v. getD (fit .lengths) v 0) (otherNodes n) ≡ fit .total
 
--- the call answers its questions. If none refuses, the lists hold, in the HTUs' rows and the m columns, lowest, highest and chosen states, and
--- elsewhere what they held; the fit is that of the branching. After a refusal there is no fit, and all lists are as before.
-pub record FitAnswer (codes : List ℤ) (n m : ℕ) (records : List Branch) (low low′ high high′ chosen chosen′ : List ℤ) (r : Fitted) : Type 0 where
+-- the call answers its questions. If none refuses, the lists hold, in the HTUs' rows and the m columns, lowest, highest and chosen
+-- states, and elsewhere what they held; the fit is that of the branching. After a refusal there is no fit, and all lists are as before.
+pub record FitAnswer (codes : List ℤ) (n m : ℕ) (records : List Branch) (low low′ high high′ chosen chosen′ : List ℤ)
+    (r : Fitted) : Type 0 where
   pub says : askedSays (r .asked) ≡ askedSays (askFit codes n m records low high chosen)
-  pub fitted : askFit codes n m records low high chosen ≡ Passed → FitOf (plain .step) (ancestorsOf n records) (rowsOf codes m n) n m (r .fit)
-  pub isLow : askFit codes n m records low high chosen ≡ Passed → low′ ≡ statesWritten Low (ancestorsOf n records) (rowsOf codes m n) n m low
-  pub isHigh : askFit codes n m records low high chosen ≡ Passed → high′ ≡ statesWritten High (ancestorsOf n records) (rowsOf codes m n) n m high
+  pub fitted : askFit codes n m records low high chosen ≡ Passed
+      → FitOf (plain .step) (ancestorsOf n records) (rowsOf codes m n) n m (r .fit)
+  pub isLow : askFit codes n m records low high chosen ≡ Passed
+      → low′ ≡ statesWritten Low (ancestorsOf n records) (rowsOf codes m n) n m low
+  pub isHigh : askFit codes n m records low high chosen ≡ Passed
+      → high′ ≡ statesWritten High (ancestorsOf n records) (rowsOf codes m n) n m high
   pub isChosen : askFit codes n m records low high chosen ≡ Passed
       → chosen′ ≡ statesWritten Chosen (ancestorsOf n records) (rowsOf codes m n) n m chosen
   pub handed : askFit codes n m records low high chosen ≡ Passed
@@ -83,8 +88,8 @@ abbrev pub nodeSays : NodeStates → Outcome States
 nodeSays (Are states) = value states
 nodeSays (NodeStates.Refused refusal) = refused (refusalNumber refusal) 0
 
--- the call for node v in character j answers its questions; the states are those of the branching, and a state lies from low to high exactly
--- if the node, taxon or HTU, has it in some assignment of least length
+-- the call for node v in character j answers its questions; the states are those of the branching, and a state lies from low to high
+-- exactly if the node, taxon or HTU, has it in some assignment of least length
 pub record NodeAnswer (codes : List ℤ) (n m : ℕ) (records : List Branch) (v j : ℕ) (r : NodeStates) : Type 0 where
   pub says : nodeSays r ≡ answered (askNode codes n m records v j) (statesIn (ancestorsOf n records) (rowsOf codes m n) n v j)
   pub ranges : (states : States) → nodeSays r ≡ value states → (s : ℤ)

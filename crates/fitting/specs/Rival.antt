@@ -3,8 +3,9 @@
 use mathlib.Core.Path.{_≡_}
 use mathlib.Core.Logic.{_↔_}
 use mathlib.Core.List.{List}
-use Prim.Native.Nat.{ℕ, _≤_, _<_, _*_, _-_}
+use Prim.Native.Nat.{ℕ, _≤_}
 use lib.IntN.{ℤ}
+use Rattle.matrix.specs.Shape.{lastNode}
 use Rattle.branching.specs.Nodes.{otherNodes}
 use Rattle.lists.specs.Sums.{sumOver}
 use Rattle.fitting.specs.Sets.{In}
@@ -20,6 +21,6 @@ pub record FitIsLeast (step : ℕ → ℤ → ℤ → ℕ) (tree : List ℕ) (ro
   pub lengths : sumOver (fittedLength step tree rows n m) (otherNodes n) ≡ fittedTotal step tree rows n m
   -- every assignment has at least the fitted total
   pub least : (states : ℕ → ℕ → ℤ) → IsAssignment rows n m states → fittedTotal step tree rows n m ≤ total step tree n m states
-  -- a state is in the range of an HTU exactly if the HTU has it in some assignment of least length
-  pub ranges : (v j : ℕ) (s : ℤ) → n < v → v ≤ 2 * n - 2 → 1 ≤ j → j ≤ m →
+  -- a state is in the range of a node, taxon or HTU, exactly if the node has it in some assignment of least length
+  pub ranges : (v j : ℕ) (s : ℤ) → 1 ≤ v → v ≤ lastNode n → 1 ≤ j → j ≤ m →
       In s (range tree rows n v j) ↔ Occurs step tree rows n m v j s

@@ -133,16 +133,16 @@ pub record SeenDown (n : ℕ) (tree : List ℕ) (codes : List ℤ) (parts : List
   pub are : (rows : List (List ℤ)) (j : ℕ) → Codes rows n j codes → branchingWithin n tree ≡ true → PartsAre tree n (character rows j) parts
       → (v : ℕ) → 1 ≤ v → v ≤ lastNode n → SeenIs tree rows n j v (seenAt seen v)
 
+-- the states of an HTU, from its range and its chosen state
+abbrev pub statesWith : Span → ℤ → States
+statesWith range state = record { low = range .low; high = range .high; chosen = state }
+
 -- the states of a node, from its code or from what is kept of its descendants and of itself
 abbrev pub statesFrom : Bool → ℤ → Part → Part → Seen → States
 statesFrom taxon code a b seen =
     cond taxon
     (record { low = code; high = code; chosen = code })
-    (record {
-      low = middle (a .set) (b .set) (seen .outside) .low;
-      high = middle (a .set) (b .set) (seen .outside) .high;
-      chosen = seen .state;
-    })
+    (statesWith (middle (a .set) (b .set) (seen .outside)) (seen .state))
 
 -- the states of node v
 abbrev pub statesAt : List States → ℕ → States

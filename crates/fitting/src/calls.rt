@@ -1,8 +1,10 @@
 // The calls on a lent branching: its fit, the states of one node in one character, and its fitted total.
 use crate::characters::States;
+use crate::planning::nodes_end;
 use crate::totals::total_of;
 use crate::whole::Fit;
 use crate::whole::fit_tree;
+use crate::whole::lists_full;
 use crate::whole::no_fit;
 use crate::whole::states_at;
 use branching::branch::Branch;
@@ -10,37 +12,19 @@ use branching::lent::lent_branching;
 use branching::lent::tree_of;
 use branching::questions::ask_branching;
 use difference::calls::Length;
-use matrix::COLUMNS;
-use matrix::ROWS;
 use matrix::questions::ask_matrix;
 use matrix::questions::one_to;
 use matrix::refusal::Asked;
 use matrix::refusal::Refusal;
 ghost use mathlib.Core.Path.{_≡_};
 ghost use Rattle.difference.specs.Calls.{lengthSays};
-ghost use Rattle.fitting.specs.Calls.{listsFull, totalAnswer};
-ghost use Prim.Native.Nat.{_≤_};
-ghost use Rattle.matrix.specs.Shape.{lastNode};
+ghost use Rattle.fitting.specs.Calls.{totalAnswer};
 ghost use Rattle.fitting.specs.Handing.{FitAnswer, askNode, NodeAnswer};
 
 // What the call for a fit hands back: the answer to its questions, and the fit, which after a refusal is none.
 pub struct Fitted {
     pub asked: Asked,
     pub fit: Fit,
-}
-
-// Whether three lists have the matrix's size.
-pub fn lists_full(low: usize, high: usize, chosen: usize) -> bool
-    ensures { λ r. ⌜ r ≡ listsFull low high chosen ⌝ }
-{
-    let size = ROWS * COLUMNS;
-    if low != size {
-        return false;
-    }
-    if high != size {
-        return false;
-    }
-    chosen == size
 }
 
 // Fits a lent branching, and writes the lowest, the highest and the chosen state of each HTU in each character into three lists of the
@@ -80,17 +64,6 @@ pub enum NodeStates {
     Refused(Refusal),
 }
 
-// The number of the last node of at most 64 taxa.
-fn last_node(n: usize) -> usize
-    requires { ⌜ n ≤ 64 ⌝ }
-    ensures { λ r. ⌜ r ≡ lastNode n ⌝ }
-{
-    if n < 2 {
-        return 1;
-    }
-    2 * n - 2
-}
-
 // The questions of the call for one node in one character: those on the matrix, whether node and character exist, and whether the records
 // are a branching.
 fn ask_node(
@@ -106,7 +79,7 @@ fn ask_node(
     match ask_matrix(matrix, n, m) {
         Asked::Refused(refusal) => Asked::Refused(refusal),
         Asked::Passed => {
-            if !one_to(last_node(n), node) {
+            if !one_to(nodes_end(n) - 1, node) {
                 return Asked::Refused(Refusal::NotThere);
             }
             if !one_to(m, character) {

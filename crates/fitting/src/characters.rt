@@ -18,7 +18,8 @@ ghost use Prim.Native.Nat.{_≤_};
 ghost use lib.ListN.{length};
 ghost use Rattle.matrix.specs.Shape.{matrixSize};
 ghost use Rattle.fitting.specs.Plans.{Planned};
-ghost use Rattle.fitting.specs.Steps.{Column, PlusOf, PartOf, PartsUp, LeastCost, stateOf, outsideFrom, SeenDown, statesFrom, Fits};
+ghost use Rattle.fitting.specs.Steps.{Column, PlusOf, PartOf, PartsUp, LeastCost};
+ghost use Rattle.fitting.specs.Steps.{stateOf, outsideFrom, SeenDown, statesWith, statesFrom, Fits};
 ghost use Rattle.branching.specs.Ancestors.{ancestors};
 
 // What is found of a node from the tips up: its set, and the least cost of its clade.
@@ -171,6 +172,17 @@ fn seen_down(codes: [i32; 127], n: usize, plan: Plan, parts: [Part; 127]) -> [Se
     seen
 }
 
+// The states of an HTU: both ends of its range, and the chosen one.
+fn states_with(range: Span, chosen: i32) -> States
+    ensures { λ r. ⌜ r ≡ statesWith range chosen ⌝ }
+{
+    States {
+        low: range.low,
+        high: range.high,
+        chosen,
+    }
+}
+
 // The states of a node: of a taxon three times its code; of an HTU the middle of the sets of its descendants and of what is outside, and
 // the chosen state.
 fn states_of(taxon: bool, code: i32, a: Part, b: Part, seen: Seen) -> States
@@ -184,11 +196,7 @@ fn states_of(taxon: bool, code: i32, a: Part, b: Part, seen: Seen) -> States
         };
     }
     let range = middle(a.set, b.set, seen.outside);
-    States {
-        low: range.low,
-        high: range.high,
-        chosen: seen.state,
-    }
+    states_with(range, seen.state)
 }
 
 // The fit of one character: the states of each node.

@@ -17,19 +17,24 @@ use matrix::questions::within_limits;
 ghost use mathlib.Core.Path.{_≡_};
 ghost use Prim.Native.Nat.{_≤_};
 ghost use lib.ListN.{length};
-ghost use lib.Dec.{ltb};
 ghost use Rattle.matrix.specs.Shape.{matrixSize};
 ghost use Rattle.branching.specs.Ancestors.{ancestors};
 ghost use Rattle.fitting.specs.Plans.{Planned};
 ghost use Rattle.fitting.specs.Steps.{statesAt};
-ghost use Rattle.fitting.specs.Lists.{withColumn, Lengthened, SumOf, Marks, Written, fitShapes};
-ghost use Rattle.fitting.specs.Calls.{stateIn, noFit, TreeFitted, StatesOf};
+ghost use Rattle.fitting.specs.Lists.{withColumn, marksIn, Longer, Lengthened, SumOf, FitFrom, Written, fitShapes};
+ghost use Rattle.fitting.specs.Calls.{stateIn, noFit, listsFull, TreeFitted, StatesOf};
 
 // The fit of a tree, by node number: the fitted length of each node's branch, and its mark; and the total.
 pub struct Fit {
     pub lengths: [u64; 127],
     pub marks: [bool; 127],
     pub total: u64,
+}
+
+// A branch as far as characters are fitted: its length under the chosen states, and its mark.
+pub struct BranchFit {
+    pub length: u64,
+    pub mark: bool,
 }
 
 // Which of a node's states: the lowest or the highest of its range, or the chosen one.
@@ -64,61 +69,85 @@ fn write_column(out: &mut [i32], n: usize, j: usize, states: [States; 127], whic
     }
 }
 
-// The lengths of the branches with one character more.
-fn add_lengths(mut lengths: [u64; 127], tree: Tree, n: usize, states: [States; 127]) -> [u64; 127]
+// Whether a character marks the branch of a node, by its states and those of its immediate ancestor: the chosen ones differ.
+fn marks(own: States, above: States) -> bool
+    ensures { λ r. ⌜ r ≡ marksIn own above ⌝ }
+{
+    0 < apart(own.chosen, above.chosen)
+}
+
+// A branch with one character more.
+fn lengthened(branch: BranchFit, own: States, above: States) -> BranchFit
+    ensures { λ r. ⌜ Longer own above branch r ⌝ }
+{
+    let length = plus(branch.length, apart(own.chosen, above.chosen));
+    if branch.mark {
+        return BranchFit { length, mark: true };
+    }
+    let mark = marks(own, above);
+    BranchFit { length, mark }
+}
+
+// The branches with one character more.
+fn add_lengths(
+    mut branches: [BranchFit; 127],
+    tree: Tree,
+    n: usize,
+    states: [States; 127],
+) -> [BranchFit; 127]
     requires { ⌜ n ≤ 64 ⌝ }
-    ensures { λ r. ⌜ Lengthened n (ancestors tree) states lengths r ⌝ }
+    ensures { λ r. ⌜ Lengthened n (ancestors tree) states branches r ⌝ }
 {
     let end = nodes_end(n);
     let mut v = 2;
     while v < end {
         let u = place_of(tree.ancestor(v));
-        let own = states[v];
-        let above = states[u];
-        lengths[v] = plus(lengths[v], apart(own.chosen, above.chosen));
+        let before = branches[v];
+        branches[v] = lengthened(before, states[v], states[u]);
         v += 1;
     }
-    lengths
+    branches
 }
 
 // The lengths of the branches together.
-fn sum_lengths(lengths: [u64; 127], n: usize) -> u64
+fn sum_lengths(branches: [BranchFit; 127], n: usize) -> u64
     requires { ⌜ n ≤ 64 ⌝ }
-    ensures { λ r. ⌜ SumOf n lengths r ⌝ }
+    ensures { λ r. ⌜ SumOf n branches r ⌝ }
 {
     let end = nodes_end(n);
     let mut sum = 0;
-    let mut v = 2;
-    while v < end {
-        sum = plus(sum, lengths[v]);
-        v += 1;
+    let mut node = 2;
+    while node < end {
+        let branch = branches[node];
+        sum = plus(sum, branch.length);
+        node += 1;
     }
     sum
 }
 
-// The mark of a branch of this fitted length.
-fn mark(length: u64) -> bool
-    ensures { λ r. ⌜ r ≡ ltb 0 length ⌝ }
-{
-    0 < length
-}
-
-// The mark of each branch.
-fn marks_of(lengths: [u64; 127], n: usize) -> [bool; 127]
+// The fit of these branches, with this total.
+fn fit_of(branches: [BranchFit; 127], n: usize, total: u64) -> Fit
     requires { ⌜ n ≤ 64 ⌝ }
-    ensures { λ r. ⌜ Marks n lengths r ⌝ }
+    ensures { λ r. ⌜ FitFrom n branches total r ⌝ }
 {
     let end = nodes_end(n);
+    let mut lengths = [0; PLACES];
     let mut marks = [false; PLACES];
     let mut v = 2;
     while v < end {
-        marks[v] = mark(lengths[v]);
+        let branch = branches[v];
+        lengths[v] = branch.length;
+        marks[v] = branch.mark;
         v += 1;
     }
-    marks
+    Fit {
+        lengths,
+        marks,
+        total,
+    }
 }
 
-// Fits character after character: writes the states of the HTUs, and gives the lengths of the branches.
+// Fits character after character: writes the states of the HTUs, and gives the branches with their lengths and marks.
 fn fit_columns(
     matrix: &[i32],
     n: usize,
@@ -127,25 +156,29 @@ fn fit_columns(
     low: &mut [i32],
     high: &mut [i32],
     chosen: &mut [i32],
-) -> [u64; 127]
+) -> [BranchFit; 127]
     requires { ⌜ (length (now matrix) ≡ matrixSize) × (1 ≤ n) × (n ≤ 64) × (m ≤ 128) × Planned n (ancestors (plan .tree)) plan ⌝ }
     requires { ⌜ (length (now low) ≡ matrixSize) × (length (now high) ≡ matrixSize) × (length (now chosen) ≡ matrixSize) ⌝ }
     ensures { λ r. ⌜ Written (now (matrix .entry)) n m m (ancestors (plan .tree)) (now (low .entry)) (now (low .exit)) (now (high .entry)) (now (high .exit)) (now (chosen .entry)) (now (chosen .exit)) r ⌝ }
 {
     let tree = plan.tree;
-    let mut lengths = [0; PLACES];
+    let none = BranchFit {
+        length: 0,
+        mark: false,
+    };
+    let mut branches = [none; PLACES];
     let mut j = 1;
     while j <= m {
         let codes = codes_of(matrix, n, j);
         let states = fit_character(codes, n, plan);
-        let longer = add_lengths(lengths, tree, n, states);
-        lengths = longer;
+        let longer = add_lengths(branches, tree, n, states);
+        branches = longer;
         write_column(low, n, j, states, Which::Low);
         write_column(high, n, j, states, Which::High);
         write_column(chosen, n, j, states, Which::Chosen);
         j += 1;
     }
-    lengths
+    branches
 }
 
 // No fit.
@@ -159,17 +192,11 @@ pub(crate) fn no_fit() -> Fit
     }
 }
 
-// Whether a matrix and three lists have the matrix's shape, and n and m are within their limits.
-fn fit_shapes(matrix: usize, n: usize, m: usize, low: usize, high: usize, chosen: usize) -> bool
-    ensures { λ r. ⌜ r ≡ fitShapes matrix n m low high chosen ⌝ }
+// Whether three lists have the matrix's size.
+pub fn lists_full(low: usize, high: usize, chosen: usize) -> bool
+    ensures { λ r. ⌜ r ≡ listsFull low high chosen ⌝ }
 {
-    if !within_limits(n, m) {
-        return false;
-    }
     let size = ROWS * COLUMNS;
-    if matrix != size {
-        return false;
-    }
     if low != size {
         return false;
     }
@@ -177,6 +204,19 @@ fn fit_shapes(matrix: usize, n: usize, m: usize, low: usize, high: usize, chosen
         return false;
     }
     chosen == size
+}
+
+// Whether a matrix and three lists have the matrix's shape, and n and m are within their limits.
+fn fit_shapes(matrix: usize, n: usize, m: usize, low: usize, high: usize, chosen: usize) -> bool
+    ensures { λ r. ⌜ r ≡ fitShapes matrix n m low high chosen ⌝ }
+{
+    if !within_limits(n, m) {
+        return false;
+    }
+    if matrix != ROWS * COLUMNS {
+        return false;
+    }
+    lists_full(low, high, chosen)
 }
 
 // Fits a tree that is a branching, with a lent matrix that no question refuses, and writes the states of its HTUs into three lists of
@@ -196,14 +236,8 @@ pub fn fit_tree(
         return no_fit();
     }
     let plan = plan_of(tree, n);
-    let lengths = fit_columns(matrix, n, m, plan, low, high, chosen);
-    let marks = marks_of(lengths, n);
-    let total = sum_lengths(lengths, n);
-    Fit {
-        lengths,
-        marks,
-        total,
-    }
+    let branches = fit_columns(matrix, n, m, plan, low, high, chosen);
+    fit_of(branches, n, sum_lengths(branches, n))
 }
 
 // The states of node v in character j, of a tree that is a branching, with a lent matrix that no question refuses.

@@ -2,7 +2,9 @@
 use mathlib.Core.Path.{_≡_, refl, sym, ap, _∙_}
 use mathlib.Core.List.{List, [], _∷_, _++_, map, flatMap, append-nil, append-assoc}
 use Prim.Native.Nat.{ℕ, _+_, _*_, _-_, _≤_, _<_}
+use native.Mathlib.Omega.{arith}
 use lib.IntN.{ℤ}
+use Rattle.matrix.specs.Shape.{lastNode}
 use Rattle.matrix.specs.Outcomes.{value}
 use Rattle.matrix_file.specs.Job.{Job}
 use Rattle.matrix_file.specs.Reading.{readAnswer}
@@ -74,6 +76,8 @@ no-rival-in-print file job e =
       branch-lengths = λ v. refl;
       no-states-shorter = fit .least;
       range-exactly = λ v j s a b d f.
-          let exactly = fit .ranges v j s a b d f in
+          let node : 1 ≤ v = omega arith in
+          let last : v ≤ lastNode (job .n) = unfold lastNode in omega arith in
+          let exactly = fit .ranges v j s node last d f in
           (λ between. exactly .0 (record { fromLow = between .0; toHigh = between .1 }), λ o. let inside = exactly .1 o in (inside .fromLow, inside .toHigh));
     }

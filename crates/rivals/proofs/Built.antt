@@ -83,7 +83,12 @@ module _ (codes new : List ℤ) (n m : ℕ) (r : WagnerTree) (done : BuildDone c
       ∙ after-rows difference codes n m (lent .characters) (ours-room codes n m lent) (wagnerIn codes n m) (ours-sound codes n m lent) in
       let first : take (r .count) (r .placements) ≡ wagnerIn codes n m .placements =
       ap (take (r .count)) list ∙ filled-first noPlacement 63 (r .count) (wagnerIn codes n m .placements) count in
-      ap₂ (λ (tree : List ℕ) (all : List (List ℤ)). record { tree = tree; rows = all; placements = take (r .count) (r .placements) }) grown rows
+      ap₂ (λ (tree : List ℕ) (all : List (List ℤ)). record {
+        tree = tree;
+        rows = all;
+        placements = take (r .count)
+            (r .placements);
+      }) grown rows
       ∙ ap (λ (list : List Placement). record { tree = wagnerIn codes n m .tree; rows = wagnerIn codes n m .rows; placements = list }) first
 
   -- each of its placements is least

@@ -51,5 +51,6 @@ no-rival n m rows a =
       whole = branching-iff (wagner difference n rows .tree) n (limits .0) .1 (wagner-branching difference n (limits .0) (limits .1) rows);
       fit = λ tree b. fit-least n m tree rows (limits .0) b;
       lentFit = λ records b.
-          fit-least n m (ancestorsOf n records) rows (limits .0) (and-right (namedInOrder n records) (branching n (ancestorsOf n records)) b);
+          fit-least n m (ancestorsOf n records) rows (limits .0) (and-right (namedInOrder n records) (branching n
+          (ancestorsOf n records)) b);
     }

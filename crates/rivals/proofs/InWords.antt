@@ -1,12 +1,14 @@
 -- The claim about the three rivals, part by part, in document 01's words. Each theorem uses the claim, so that a weaker claim would not
 -- prove it. `matrix` is an accepted matrix: one that a read accepts, or a lent one that passes its questions.
-use mathlib.Core.Path.{_≡_}
+use mathlib.Core.Path.{_≡_, sym, _∙_}
 use mathlib.Core.Logic.{_↔_}
 use mathlib.Core.Bool.{true}
 use mathlib.Core.List.{List, _++_}
-use Prim.Native.Nat.{ℕ, _+_, _*_, _-_, _≤_, _<_}
+use Prim.Native.Nat.{ℕ, _+_, _≤_}
+use native.Mathlib.Omega.{arith}
 use lib.IntN.{ℤ}
 use lib.ListN.{length}
+use Rattle.matrix.specs.Shape.{lastNode}
 use Rattle.matrix.specs.NodeRows.{rowOf, rowsOf}
 use Rattle.matrix.specs.Questions.{askMatrix}
 use Rattle.matrix.specs.declared.refusal.Asked.the-variants.{Passed}
@@ -24,7 +26,7 @@ use Rattle.branching.specs.Placing.{place}
 use Rattle.branching.specs.Rival.{hungLength}
 use Rattle.wagner.specs.Build.{wagner}
 use Rattle.fitting.specs.Sets.{In}
-use Rattle.fitting.specs.Assignments.{IsAssignment, IsLeast, Occurs, total}
+use Rattle.fitting.specs.Assignments.{character, IsAssignment, IsLeast, Occurs, total}
 use Rattle.fitting.specs.Fit.{chosenState, range, fittedTotal}
 use Rattle.rivals.specs.Accepted.{Accepted, fileRead, matrixLent, HandedIn}
 use Rattle.rivals.specs.Demand.{NoRivalDoesBetter, BuildIsLeast}
@@ -88,7 +90,20 @@ module _ (n m : ℕ) (rows : List (List ℤ)) (matrix : Accepted n m rows) where
         → fittedTotal (plain .step) tree rows n m ≤ total (plain .step) tree n m states
     no-states-shorter = claim .fit tree whole .least
 
-    -- a state lies in our range exactly if some least-length choice has it
-    pub range-exactly : (v j : ℕ) (s : ℤ) → n < v → v ≤ 2 * n - 2 → 1 ≤ j → j ≤ m
+    -- a state lies in our range of a node, taxon or HTU, exactly if some least-length choice has it there
+    pub range-exactly : (v j : ℕ) (s : ℤ) → 1 ≤ v → v ≤ lastNode n → 1 ≤ j → j ≤ m
         → In s (range tree rows n v j) ↔ Occurs (plain .step) tree rows n m v j s
     range-exactly = claim .fit tree whole .ranges
+
+    -- so a taxon's range is its code alone
+    pub taxon-range-code : (v j : ℕ) (s : ℤ) → 1 ≤ v → v ≤ n → 1 ≤ j → j ≤ m → In s (range tree rows n v j) ↔ (s ≡ character rows j v)
+    unfolding lastNode
+    taxon-range-code v j s p q r l =
+        let occurs = range-exactly v j s p (omega arith) r l in (
+          λ i. let o = occurs .0 i in sym (o .here) ∙ o .isLeast .assigns .keeps v j p q r l,
+          λ e. occurs .1 (record {
+            states = chosenState tree rows n;
+            isLeast = our-states-least;
+            here = our-states-least .assigns .keeps v j p q r l ∙ sym e;
+          }),
+        )

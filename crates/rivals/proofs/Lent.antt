@@ -107,7 +107,8 @@ module _ (codes : List ℤ) (n m : ℕ) (tree : List ℕ) (b : ℕ) (asked : Pla
       (place difference n tree (rowsOf codes m (n + (taxaPlaced n tree - 2))) b)
   placement-lent places several =
       rw (← rows-behind)
-      (no-rival n m (rowsOf codes m n) (matrixLent codes n m (asked .matrix)) .placement tree _ (handed-in places several) b (asked .unplaced))
+      (no-rival n m (rowsOf codes m n) (matrixLent codes n m (asked .matrix)) .placement tree _ (handed-in places several) b
+      (asked .unplaced))
 
 -- a lent branching that no question refuses: the fit on it is least
 pub fit-lent : (codes : List ℤ) (n m : ℕ) (records : List Branch) → askBranching codes n m records ≡ Passed

@@ -48,5 +48,6 @@ no-rival-read file oldMatrix oldNames newMatrix newNames r header done e =
     let accepting = read-accepting file oldMatrix oldNames newMatrix newNames r header done e in
     let lent = job-lent (accepting .job) (accepting .within) oldMatrix (accepting .full) in
     subst (λ said. NoRivalDoesBetter plain (said .n) (said .m) (rowsOf newMatrix (said .m) (said .n))) (accepting .says)
-    (subst⁻¹ (λ matrix. NoRivalDoesBetter plain (accepting .job .n) (accepting .job .m) (rowsOf matrix (accepting .job .m) (accepting .job .n)))
+    (subst⁻¹ (λ matrix. NoRivalDoesBetter plain (accepting .job .n) (accepting .job .m) (rowsOf matrix (accepting .job .m)
+    (accepting .job .n)))
     (accepting .matrix) (no-rival _ _ _ (matrixLent _ _ _ (matrix-passes _ _ _ .1 lent))))

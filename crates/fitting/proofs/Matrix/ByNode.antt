@@ -137,7 +137,8 @@ module _ (n : ℕ) (tree : List ℕ) (grown : Grown n n tree) (rows : List (List
   pub range-htu : (u a b : ℕ) → Htu n tree u a b → range tree rows n u j ≡ middle (setAt a) (setAt b) (outsideAt u)
   range-htu u a b htu = range-clade n tree rows (cladeOf n tree grown) u j
       ∙ ap (λ values. valueAt (only (code u)) values u) (ranges-downward code (only (code 1)) (cladeOf n tree grown .clade))
-      ∙ value-part n tree grown u a b htu (rangeFrom code) (outsideTo code) (only (code 1)) (only (code u)) (htu-part n tree grown u a b htu)
+      ∙ value-part n tree grown u a b htu (rangeFrom code) (outsideTo code) (only (code 1)) (only (code u))
+      (htu-part n tree grown u a b htu)
       ∙ unfold rangeFrom setOf in
       ap (middle (up code (cladeFrom n tree grown a)) (up code (cladeFrom n tree grown b)))
       (sym (outside-part u a b htu (htu-part n tree grown u a b htu)))

@@ -1,7 +1,7 @@
 -- The third rival, for a whole matrix and a branching of two taxa or more: if each character is fitted,
 -- the chosen states have least length, and the ranges are those of all assignments of least length.
 use mathlib.Core.Path.{_≡_, refl, sym, _∙_, ap, subst}
-use mathlib.Core.Logic.{by-cases}
+use mathlib.Core.Logic.{_↔_, by-cases}
 use mathlib.Core.List.{List, List·Memᴰ}
 use mathlib.Core.Bool.{Bool, true, false, cond}
 use Prim.Native.Nat.{ℕ, _*_, _-_, _≤_, _<_}
@@ -10,29 +10,51 @@ use native.Mathlib.Omega.{arith}
 use native.Mathlib.Decide.{decLe}
 use lib.Dec.{eqb, leb}
 use lib.IntN.{ℤ}
+use lib.Signed.{≤ℤ-refl}
 use borrow.Author.Tests.{eqb-true, eq-eqb, leb-true, le-leb}
 use Rattle.lists.specs.Numbers.{numbers}
 use Rattle.lists.proofs.Numbers.{numbers-within, numbers-among}
+use Rattle.matrix.specs.Shape.{lastNode}
+use Rattle.difference.proofs.Laws.Codes.{≤ℤ-antisym}
 use Rattle.branching.specs.Ancestors.{ancestor}
 use Rattle.branching.specs.Nodes.{otherNodes}
 use Rattle.lists.specs.Sums.{sumOver}
 use Rattle.lists.proofs.Sums.{sum-same, sum-swap, sum-le, sum-tight}
-use Rattle.fitting.specs.Sets.{In}
+use Rattle.fitting.specs.Sets.{In, only}
 use Rattle.fitting.specs.Clades.{Clade}
 use Rattle.fitting.specs.Assignments.{character, branchLength, total, IsAssignment, IsLeast, Occurs}
 use Rattle.fitting.specs.Fit.{chosenState, range, fittedLength, fittedTotal}
 use Rattle.fitting.specs.Rival.{FitIsLeast}
+use Rattle.fitting.proofs.Cases.{either}
 use Rattle.fitting.proofs.Clades.Cost.{Keeps, cost}
 use Rattle.fitting.proofs.Clades.Agree.{Agree, cost-agree}
 use Rattle.fitting.proofs.Clades.Built.{CladeOf, cost-sumClade}
 use Rattle.fitting.proofs.Clades.Taxa.{htu-of, keeps-taxon, keeps-of}
 use Rattle.fitting.proofs.OneCharacter.CharacterFit.{CharacterFit, Attained}
+use Rattle.fitting.proofs.Matrix.OneClade.{range-taxon}
 
 -- the fitted lengths of the branches add up to the fitted total
 pub lengths-total : (step : ℕ → ℤ → ℤ → ℕ) (n m : ℕ) (tree : List ℕ) (rows : List (List ℤ)) →
     sumOver (fittedLength step tree rows n m) (otherNodes n) ≡ fittedTotal step tree rows n m
 unfolding fittedTotal fittedLength total
 lengths-total step n m tree rows = refl
+
+-- where there is an assignment of least length, a taxon has its code, and no other state, in those of least length
+pub taxon-occurs : (step : ℕ → ℤ → ℤ → ℕ) (tree : List ℕ) (rows : List (List ℤ)) (n m : ℕ) (states : ℕ → ℕ → ℤ)
+    → IsLeast step tree rows n m states → (v j : ℕ) (s : ℤ) → 1 ≤ v → v ≤ n → 1 ≤ j → j ≤ m
+    → In s (only (character rows j v)) ↔ Occurs step tree rows n m v j s
+unfolding only
+taxon-occurs step tree rows n m states isLeast v j s p q r l = (
+  λ i. record {
+    states = states;
+    isLeast = isLeast;
+    here = isLeast .assigns .keeps v j p q r l ∙ ≤ℤ-antisym (i .fromLow) (i .toHigh);
+  },
+  λ o.
+      subst (λ (z : ℤ). In z (record { low = character rows j v; high = character rows j v }))
+      (sym (o .isLeast .assigns .keeps v j p q r l) ∙ o .here)
+      (record { fromLow = ≤ℤ-refl (character rows j v); toHigh = ≤ℤ-refl (character rows j v) }),
+)
 
 -- each of the m characters is fitted to the clade of a branching
 abbrev pub EachFitted : (ℕ → ℤ → ℤ → ℕ) → (n m : ℕ) (tree : List ℕ) → List (List ℤ) → CladeOf n tree → Type 0
@@ -115,6 +137,11 @@ module _ (step : ℕ → ℤ → ℤ → ℕ) (n m : ℕ) (tree : List ℕ) (row
         total-cost states,
         sum-le (costOf ours) (costOf states) (numbers 1 m) (cost-least states assignment),
       )
+
+  -- the chosen states are an assignment of least length
+  ours-least : IsLeast step tree rows n m ours
+  unfolding fittedTotal
+  ours-least = record { assigns = fit-assigns; least = fit-least }
 
   -- in an assignment of least length every character has its least cost
   least-each : (states : ℕ → ℕ → ℤ) → IsLeast step tree rows n m states → (j : ℕ) (r : 1 ≤ j) (l : j ≤ m) →
@@ -209,8 +236,10 @@ module _ (step : ℕ → ℤ → ℤ → ℕ) (n m : ℕ) (tree : List ℕ) (row
     assigns = fit-assigns;
     lengths = lengths-total step n m tree rows;
     least = fit-least;
-    ranges = λ v j s p q r l. (
-      λ i. occurs-of v j s p q r l (fits j r l .reached v (htu-of n tree cladeOf v p q) s i),
-      occurs-in v j s p q r l,
-    );
+    ranges = λ v j s p q r l.
+        either v n
+        (λ taxon. rw (range-taxon n tree rows cladeOf v j taxon) (taxon-occurs step tree rows n m ours ours-least v j s p taxon r l))
+        (λ htu.
+        let last : v ≤ 2 * n - 2 = unfold lastNode in omega arith in
+        (λ i. occurs-of v j s htu last r l (fits j r l .reached v (htu-of n tree cladeOf v htu last) s i), occurs-in v j s htu last r l));
   }

@@ -39,7 +39,8 @@ module _ (n : ℕ) (tree : List ℕ) (rows : List (List ℤ)) (cladeOf : CladeOf
       outsideOf tree n (character rows j) v
       ≡ valueAt (only (character rows j 1)) (outsides (character rows j) (only (character rows j 1)) clade) v
   unfolding outsideOf
-  outside-clade v j = rw (cladeOf .below) (unfold flatMap in rw (append-nil (outsides (character rows j) (only (character rows j 1)) clade)))
+  outside-clade v j = rw (cladeOf .below) (unfold flatMap in rw (append-nil (outsides (character rows j) (only
+      (character rows j 1)) clade)))
 
   -- among values of the clade's HTUs a taxon has none
   taxon-absent : {A : Type 0} (otherwise : A) (values : ByNode A) → keys values ≡ htus clade → (v : ℕ) → v ≤ n →

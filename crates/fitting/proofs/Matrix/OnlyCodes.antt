@@ -148,4 +148,5 @@ module _ (P : ℤ → Type 0) where
     range-each = either v n
         (λ l. rw (range-taxon n tree rows cladeOf v j l) (only-each n tree code each v first l))
         (λ l. ranges-each n tree code each (only (code 1)) (only-each n tree code each 1 (omega arith) one-taxon)
-        (cladeOf .clade) (cladeOf .isMade) (v, range tree rows n v j) (range-entry n tree rows cladeOf v j (htu-of n tree cladeOf v l last)))
+        (cladeOf .clade) (cladeOf .isMade) (v, range tree rows n v j) (range-entry n tree rows cladeOf v j
+        (htu-of n tree cladeOf v l last)))

@@ -43,13 +43,15 @@ module _ (n : ℕ) (tree : List ℕ) (rows : List (List ℤ)) (j : ℕ) (codes :
   down-start seen x at is k h l =
       let same : k ≡ 0 = omega arith in
       let own : SeenIs tree rows n j 1 x = record {
-        state = is ∙ codesAre .are 1 (omega arith) (codesAre .taxon) ∙ sym (taxon-state n tree branches rows j 1 (codesAre .taxon) (codesAre .taxon));
+        state = is ∙ codesAre .are 1 (omega arith) (codesAre .taxon) ∙ sym (taxon-state n tree branches rows j 1 (codesAre .taxon)
+            (codesAre .taxon));
         outside = λ over. absurd (omega (arith, codesAre .taxon));
       } in
       rw (same, walk .first, at) own
 
   module _ (below : List Below) (belows : Belows n tree below) (parts : List Part) (partsAre : PartsAre tree n (character rows j) parts)
-      (seen : List Seen) (size : length seen ≡ 127) (i : ℕ) (first : 1 ≤ i) (high : i < lastNode n) (inv : DownTo tree rows n j nodes seen i) where
+      (seen : List Seen) (size : length seen ≡ 127) (i : ℕ) (first : 1 ≤ i) (high : i < lastNode n)
+      (inv : DownTo tree rows n j nodes seen i) where
     -- the codes of the character
     abbrev code : ℕ → ℤ
     code = character rows j
@@ -100,7 +102,8 @@ module _ (n : ℕ) (tree : List ℕ) (rows : List (List ℤ)) (j : ℕ) (codes :
       state-right : stateOf (leb v n) (getD codes v (pos 0)) (partAt parts v .set) (seenAt seen u .state) ≡ chosenState tree rows n v j
       state-right =
           either v n
-          (λ l. rw (le-leb v n l) (codesAre .are v (omega (arith, second)) l ∙ sym (taxon-state n tree branches rows j v (codesAre .taxon) l)))
+          (λ l. rw (le-leb v n l) (codesAre .are v (omega (arith, second)) l
+          ∙ sym (taxon-state n tree branches rows j v (codesAre .taxon) l)))
           (λ l.
           let two = htu-two n tree grown v l last in
           let part : partAt parts v .set ≡ setOf tree n code v = ap (λ (p : Part). p .set) (partsAre v second last) in
@@ -115,7 +118,8 @@ module _ (n : ℕ) (tree : List ℕ) (rows : List (List ℤ)) (j : ℕ) (codes :
       outside-right l (fromRow1 e) =
           let two = htu-two n tree grown v l last in
           rw (eq-eqb u 1 (is-above ∙ e))
-          (ap only (codesAre .are 1 (omega arith) (codesAre .taxon)) ∙ sym (outside-first n tree grown rows j v (two .0) (two .1) (two .2) e))
+          (ap only (codesAre .are 1 (omega arith) (codesAre .taxon)) ∙ sym (outside-first n tree grown rows j v (two .0) (two .1)
+          (two .2) e))
       outside-right l (fromHtu side a b htu e) =
           let htu′ : Htu n tree u a b = subst (λ k. Htu n tree k a b) (sym is-above) htu in
           let lower = htu-two n tree grown v l last in

@@ -26,7 +26,8 @@ use Rattle.fitting.proofs.Matrix.ByNode.{range-htu}
 use Rattle.fitting.proofs.Pass.Standing.{taxa-most, grown-of, last-several, two-kept, taxon-state, taxon-range}
 
 -- the states with a range and a chosen state
-states-with : (tree : List ℕ) (rows : List (List ℤ)) (n v j : ℕ) (a : Span) (s : ℤ) → range tree rows n v j ≡ a → chosenState tree rows n v j ≡ s
+states-with : (tree : List ℕ) (rows : List (List ℤ)) (n v j : ℕ) (a : Span) (s : ℤ) → range tree rows n v j ≡ a
+    → chosenState tree rows n v j ≡ s
     → record { low = a .low; high = a .high; chosen = s } ≡ statesIn tree rows n v j
 unfolding statesIn
 states-with tree rows n v j a s e f =
@@ -41,7 +42,8 @@ module _ (n : ℕ) (tree : List ℕ) (rows : List (List ℤ)) (j : ℕ) (codes :
   code = character rows j
 
   -- a taxon's states are its code
-  taxon-found : v ≤ n → record { low = getD codes v (pos 0); high = getD codes v (pos 0); chosen = getD codes v (pos 0) } ≡ statesIn tree rows n v j
+  taxon-found : v ≤ n → record { low = getD codes v (pos 0); high = getD codes v (pos 0); chosen = getD codes v (pos 0) }
+      ≡ statesIn tree rows n v j
   taxon-found l =
       ap (λ (z : ℤ). record { low = z; high = z; chosen = z }) (codesAre .are v first l)
       ∙ unfold only in
@@ -74,7 +76,8 @@ module _ (n : ℕ) (tree : List ℕ) (rows : List (List ℤ)) (j : ℕ) (codes :
       states-with tree rows n v j (middle (a .set) (b .set) (seen .outside)) (seen .state) is (sym (seenIs .state))
 
   -- the states of every node
-  pub states-found : statesFrom (leb v n) (getD codes v (pos 0)) (partAt parts (belowAt below v .first)) (partAt parts (belowAt below v .second)) seen
+  pub states-found : statesFrom (leb v n) (getD codes v (pos 0)) (partAt parts (belowAt below v .first)) (partAt parts
+      (belowAt below v .second)) seen
       ≡ statesIn tree rows n v j
   unfolding lastNode
   states-found =

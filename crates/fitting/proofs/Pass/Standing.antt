@@ -3,7 +3,7 @@ use mathlib.Core.Path.{_≡_, refl, sym, _∙_, ap, subst}
 use mathlib.Core.Logic.{_≢_, by-cases}
 use mathlib.Core.List.{List, [], _∷_, flatMap, List·Memᴰ, List·Memᴰ·head}
 use mathlib.Core.Bool.{Bool, true, false, cond, and-eq-true-iff}
-use Prim.Native.Nat.{ℕ, _*_, _-_, _≤_, _<_}
+use Prim.Native.Nat.{ℕ, _*_, _-_, _≤_, _<_, max}
 use native.Mathlib.Omega.{arith}
 use native.Mathlib.Decide.{decLe}
 use lib.Dec.{leb, eqb}
@@ -55,6 +55,11 @@ pub last-several : (n : ℕ) → 2 ≤ n → lastNode n ≡ 2 * n - 2
 unfolding lastNode
 last-several n two = omega arith
 
+-- the last node is the one before the end of the nodes
+pub last-end : (n end : ℕ) → end ≡ max 2 (2 * n - 1) → end - 1 ≡ lastNode n
+unfolding lastNode
+last-end n end e = omega arith
+
 -- of the descendants of a node, the first two are kept
 pub two-kept : (n : ℕ) (tree : List ℕ) (below : List Below) → Belows n tree below → (u a b : ℕ) → Htu n tree u a b → u ≤ 126
     → belowAt below u ≡ record { first = a; second = b }
@@ -80,7 +85,8 @@ descendant-behind n tree nodes grown walk side u a b i htu h at =
     (place .0, walk-later n tree nodes walk i (place .0) h (place .1) other (ap (ancestor tree) here ∙ d .from ∙ sym at), place .1, here)
 
 -- a taxon keeps its code under the chosen states, and its range is its code alone
-module _ (n : ℕ) (tree : List ℕ) (branches : branchingWithin n tree ≡ true) (rows : List (List ℤ)) (j v : ℕ) (some : 1 ≤ n) (l : v ≤ n) where
+module _ (n : ℕ) (tree : List ℕ) (branches : branchingWithin n tree ≡ true) (rows : List (List ℤ)) (j v : ℕ) (some : 1 ≤ n)
+    (l : v ≤ n) where
   -- of one taxon there is no HTU
   one-taxon : {A : Type 0} (P : ℕ → A) (x : A) → P 1 ≡ x → (2 ≤ n → ⊥) → P n ≡ x
   one-taxon P x e one = let is : n ≡ 1 = omega arith in rw is e
@@ -112,7 +118,8 @@ sister-on right a b = go (eqb a b) refl
     go false e = refl
 
 -- the one descendant of row 1 is a node below row 1
-pub root-within : (n : ℕ) (tree : List ℕ) (grown : Grown n n tree) → (2 ≤ cladeOf n tree grown .root) × (cladeOf n tree grown .root ≤ 2 * n - 2)
+pub root-within : (n : ℕ) (tree : List ℕ) (grown : Grown n n tree) → (2 ≤ cladeOf n tree grown .root) ×
+    (cladeOf n tree grown .root ≤ 2 * n - 2)
 unfolding otherNodes
 root-within n tree grown =
     let root = cladeOf n tree grown .root in

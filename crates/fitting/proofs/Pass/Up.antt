@@ -68,7 +68,8 @@ module _ (n : ℕ) (tree : List ℕ) (rows : List (List ℤ)) (j : ℕ) (codes :
     taxon-right r a b is l =
         is .tip (le-leb v n l)
         ∙ ap tipPart (codesAre .are v (omega arith) l)
-        ∙ sym (part-of (only (code v)) 0 (partFor tree n code v) (set-taxon n tree grown rows j v second l) (cost-taxon n tree grown rows j v second l))
+        ∙ sym (part-of (only (code v)) 0 (partFor tree n code v) (set-taxon n tree grown rows j v second l)
+        (cost-taxon n tree grown rows j v second l))
 
     -- of a descendant of an HTU what is kept is right
     descendant-right : (side : Side) (a b : ℕ) → Htu n tree v a b → partAt parts (on side a b) ≡ partFor tree n code (on side a b)
@@ -79,7 +80,8 @@ module _ (n : ℕ) (tree : List ℕ) (rows : List (List ℤ)) (j : ℕ) (codes :
         rw here at (inv (place .0) (omega (arith, place .1)) (place .2) below-row1)
 
     -- an HTU
-    htu-right : (r : Part) (a b : ℕ) → Htu n tree v a b → n < v → PartOf (leb v n) (getD codes v (pos 0)) (partAt parts a) (partAt parts b) r
+    htu-right : (r : Part) (a b : ℕ) → Htu n tree v a b → n < v → PartOf (leb v n) (getD codes v (pos 0)) (partAt parts a)
+        (partAt parts b) r
         → r ≡ partFor tree n code v
     htu-right r a b htu l is =
         let x = descendant-right left a b htu in

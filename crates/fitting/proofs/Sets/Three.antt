@@ -33,7 +33,8 @@ module _ (a b c : Span) (nonemptyA : Nonempty a) (nonemptyB : Nonempty b) (nonem
   leastSum-attained =
       omega (
         arith,
-        offset-in-join (nearestMember (c .low) (join a b)) a b nonemptyA nonemptyB (nearestMember-in (c .low) (join a b) (join-nonempty a b)),
+        offset-in-join (nearestMember (c .low) (join a b)) a b nonemptyA nonemptyB (nearestMember-in (c .low) (join a b)
+            (join-nonempty a b)),
         offset-nearestMember (join a b) c (join-nonempty a b) nonemptyC,
       )
 
@@ -51,7 +52,8 @@ module _ (a b c : Span) (nonemptyA : Nonempty a) (nonemptyB : Nonempty b) (nonem
       le-antisymm
       (omega (
         arith,
-        third-to-fourth (inOrder (sixEnds a b c)) (length-inOrder (sixEnds a b c)) (rising-inOrder (sixEnds a b c)) s leastState (i .fromLow)
+        third-to-fourth (inOrder (sixEnds a b c)) (length-inOrder (sixEnds a b c)) (rising-inOrder (sixEnds a b c)) s leastState
+            (i .fromLow)
             (i .toHigh),
         spread-sixEnds s,
         spread-sixEnds leastState,

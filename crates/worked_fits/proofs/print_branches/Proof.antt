@@ -1,5 +1,5 @@
 -- `worked_fits::print_branches` is safe. Assumes nothing.
-use Prim.Native.Nat.{_-_, _≤_}
+use Prim.Native.Nat.{_≤_, _-_}
 use borrow.Author.Needs.{needs}
 use Rattle.worked_fits.proofs.print_branches.Statement.{statement}
 use Rattle.worked_fits.proofs.print_branches.Tie as tie

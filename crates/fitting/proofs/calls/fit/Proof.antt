@@ -73,7 +73,8 @@ returns-2 : tie.Need-returns-2
 returns-2 c =
     let asked = c .before .before .before .before in
     let full = sym (asked .before .before .lists-full .ensures) ∙ not-false _ (asked .before .if1 .left) in
-    refused-answer _ _ _ _ _ _ _ _ _ (asked-of _ _ _ _ _ _ _ _ full (sym (asked .ask-branching .ensures) ∙ c .before .before .refusal .given .1))
+    refused-answer _ _ _ _ _ _ _ _ _ (asked-of _ _ _ _ _ _ _ _ full (sym (asked .ask-branching .ensures)
+    ∙ c .before .before .refusal .given .1))
     (c .no-fit2 .ensures)
 
 same-length : tie.Need-same-length
@@ -93,7 +94,8 @@ returns-3 c =
     let full = sym (asked .before .before .lists-full .ensures) ∙ not-false _ (asked .before .if1 .left) in
     let right = sizes _ _ _ full in
     let passed = sym (asked .ask-branching .ensures) ∙ tree .before .enum-told .given .1 in
-    passed-answer _ _ _ _ _ _ _ _ _ _ _ _ (asked-of _ _ _ _ _ _ _ _ full passed) passed (right .0) (right .1) (right .2) (tree .tree-of .ensures)
+    passed-answer _ _ _ _ _ _ _ _ _ _ _ _ (asked-of _ _ _ _ _ _ _ _ full passed) passed (right .0) (right .1) (right .2)
+    (tree .tree-of .ensures)
     (done .fit-tree .ensures)
 
 pub fit-spec : {M : Type 1} → statement M

@@ -15,12 +15,12 @@ use Rattle.fitting.proofs.characters.codes_of.Tie as tie
 abbrev Inv-loop : tie.InvT-loop
 Inv-loop matrix n j codes₀ v₀ codes v =
     (1 ≤ v)
-    × (v ≤ n + 1)
+    × (v ≤ 127)
     × (length codes ≡ 127)
     × ((u : ℕ) → 1 ≤ u → u < v → getD codes u (pos 0) ≡ getD matrix (rowStart u + (j - 1)) (pos 0))
 
 abbrev μ-loop : tie.MeasureT-loop
-μ-loop matrix n j codes₀ v₀ codes v = n + 1 - v
+μ-loop matrix n j codes₀ v₀ codes v = 127 - v
 
 loop-holds : tie.Need-loop-holds Inv-loop μ-loop
 loop-holds c = (omega arith, omega arith, refl, λ u l h. absurd (omega arith))

@@ -26,7 +26,8 @@ Inv-loop n codes parts seen below states₀ end v₀ states v =
     × (length states ≡ 127)
     × ((u : ℕ) → 1 ≤ u → u < v
     → statesAt states u
-    ≡ statesFrom (leb u n) (getD codes u (pos 0)) (partAt parts (belowAt below u .first)) (partAt parts (belowAt below u .second)) (seenAt seen u))
+    ≡ statesFrom (leb u n) (getD codes u (pos 0)) (partAt parts (belowAt below u .first)) (partAt parts (belowAt below u .second))
+    (seenAt seen u))
 
 abbrev μ-loop : tie.MeasureT-loop
 μ-loop n codes parts seen below states₀ end v₀ states v = end - v
@@ -59,16 +60,32 @@ array-copy-out-states-of : tie.Need-array-copy-out-states-of Inv-loop μ-loop
 array-copy-out-states-of c = search needs
 
 mul-states-of-2 : tie.Need-mul-states-of-2 Inv-loop μ-loop
-mul-states-of-2 c = omega (arith, c .before .before .before .before .before .before .before .before .pre .1 .below .within (c .before .before .before .loop .v) .0)
+mul-states-of-2 c = omega (
+  arith,
+  c .before .before .before .before .before .before .before .before .pre .1 .below .within
+      (c .before .before .before .loop .v) .0,
+)
 
 array-copy-out-states-of-2 : tie.Need-array-copy-out-states-of-2 Inv-loop μ-loop
-array-copy-out-states-of-2 c = omega (arith, c .before .before .before .before .before .before .before .before .pre .1 .below .within (c .before .before .before .loop .v) .0)
+array-copy-out-states-of-2 c = omega (
+  arith,
+  c .before .before .before .before .before .before .before .before .pre .1 .below .within
+      (c .before .before .before .loop .v) .0,
+)
 
 mul-states-of-3 : tie.Need-mul-states-of-3 Inv-loop μ-loop
-mul-states-of-3 c = omega (arith, c .before .before .before .before .before .before .before .before .before .pre .1 .below .within (c .before .before .before .before .loop .v) .1)
+mul-states-of-3 c = omega (
+  arith,
+  c .before .before .before .before .before .before .before .before .before .pre .1 .below .within
+      (c .before .before .before .before .loop .v) .1,
+)
 
 array-copy-out-states-of-3 : tie.Need-array-copy-out-states-of-3 Inv-loop μ-loop
-array-copy-out-states-of-3 c = omega (arith, c .before .before .before .before .before .before .before .before .before .pre .1 .below .within (c .before .before .before .before .loop .v) .1)
+array-copy-out-states-of-3 c = omega (
+  arith,
+  c .before .before .before .before .before .before .before .before .before .pre .1 .below .within
+      (c .before .before .before .before .loop .v) .1,
+)
 
 mul-states-of-4 : tie.Need-mul-states-of-4 Inv-loop μ-loop
 mul-states-of-4 c = search needs
@@ -110,7 +127,8 @@ loop-again c =
       inv .2,
       simp length-set (inv .3),
       filled-next
-          (λ u s. s ≡ statesFrom (leb u n) (getD codes u (pos 0)) (partAt parts (belowAt below u .first)) (partAt parts (belowAt below u .second)) (seenAt seen u))
+          (λ u s. s ≡ statesFrom (leb u n) (getD codes u (pos 0)) (partAt parts (belowAt below u .first)) (partAt parts
+          (belowAt below u .second)) (seenAt seen u))
           (record { low = pos 0; high = pos 0; chosen = pos 0 }) (loop .states) 1 (loop .v) (c .states-of .result) room (inv .4)
           (rw code-is at (c .states-of .ensures)),
     )
@@ -130,7 +148,8 @@ returns c =
           let parts = parts-up .ensures .are rows j codes branches in
           let seen = seen-down .ensures .are rows j codes branches parts v l h in
           inv .4 v l (omega (arith, c .loop-test .left))
-          ∙ states-found n _ rows j (start .args .t1) codes branches (start .args .plan .below) (start .pre .1 .below) (parts-up .result) parts v l h
+          ∙ states-found n _ rows j (start .args .t1) codes branches (start .args .plan .below) (start .pre .1 .below)
+          (parts-up .result) parts v l h
           (seenAt (seen-down .result) v) seen;
     }
 

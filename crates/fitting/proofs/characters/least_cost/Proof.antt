@@ -96,7 +96,8 @@ returns-2 c =
     let z : ℤ = getD (start .args .t1) 1 (pos 0) in
     let here : toZ w32 (ofZ w32 z) ≡ z = toZ-ofZ (sfits-of (c .before .before .before .only-arg .given)) in
     let alone : c .before .before .only .result ≡ only z = rw here at (c .before .before .only .ensures) in
-    several-taxa _ _ _ _ _ _ _ (omega (arith, c .before .before .before .before .before .before .before .if1 .left)) (start .pre .below) (c .before .before .before .before .before .before .parts-up .ensures)
+    several-taxa _ _ _ _ _ _ _ (omega (arith, c .before .before .before .before .before .before .before .if1 .left)) (start .pre .below)
+    (c .before .before .before .before .before .before .parts-up .ensures)
     (rw alone at (c .before .gap .ensures)) (c .plus .ensures)
 
 pub least-cost-spec : {M : Type 1} → statement M

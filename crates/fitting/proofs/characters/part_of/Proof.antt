@@ -17,7 +17,8 @@ only-requires : tie.Need-only-requires
 only-requires c κs = search needs
 
 -- a taxon
-taxon-part : (code : ℤ) (a b : Part) (set : Span) (t : Bool) → t ≡ true → set ≡ only code → PartOf t code a b (record { set = set; cost = 0 })
+taxon-part : (code : ℤ) (a b : Part) (set : Span) (t : Bool) → t ≡ true → set ≡ only code
+    → PartOf t code a b (record { set = set; cost = 0 })
 taxon-part code a b set t e is = record {
   tip = λ h. ap (λ (s : Span). record { set = s; cost = 0 }) is;
   set = λ h. absurd (true≢false (sym e ∙ h));

@@ -113,7 +113,8 @@ loop-again c =
       omega arith,
       simp length-set (inv .1),
       λ tree rows j codes branches walk last belows.
-          up-next (start .args .n) tree rows j (start .args .t1) codes branches (start .args .plan .walk .nodes) walk (start .args .plan .below)
+          up-next (start .args .n) tree rows j (start .args .t1) codes branches (start .args .plan .walk .nodes) walk
+          (start .args .plan .below)
           belows (loop .parts) (inv .1) (loop .i - 1) (omega arith) (c .part-of .result) part (node-most at)
           (rw before at (inv .2 tree rows j codes branches walk last belows)),
     )

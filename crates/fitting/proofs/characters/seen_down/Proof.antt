@@ -5,6 +5,7 @@ use mathlib.Core.List.{List}
 use Prim.Native.Nat.{ℕ, _-_, _≤_}
 use native.Mathlib.Omega.{arith}
 use borrow.Author.Needs.{needs, sfits-of}
+use lib.Dec.{eqb}
 use lib.IntN.{ℤ, pos}
 use lib.ListN.{length, getD, replicate, length-set}
 use mir.Syntax.{w32}
@@ -16,8 +17,9 @@ use Rattle.branching.specs.Walks.{WalkOf, nodeAt}
 use Rattle.branching.specs.Within.{branchingWithin}
 use Rattle.fitting.specs.Assignments.{character}
 use Rattle.fitting.specs.declared.characters.Seen.{Seen}
+use Rattle.fitting.specs.declared.spans.Span.{Span}
 use Rattle.fitting.specs.Plans.{Belows}
-use Rattle.fitting.specs.Steps.{Codes, PartsAre, seenAt}
+use Rattle.fitting.specs.Steps.{Codes, PartsAre, partAt, outsideFrom, seenAt}
 use Rattle.fitting.proofs.Descending.{sister-within}
 use Rattle.fitting.proofs.Pass.Down.{DownTo, down-start, down-next, down-all}
 use Rattle.fitting.proofs.characters.seen_down.Statement.{statement}
@@ -27,7 +29,8 @@ abbrev Inv-loop : tie.InvT-loop
 Inv-loop n codes parts tree walk below row1 seen₀ i₀ seen i =
     (1 ≤ i)
     × (length seen ≡ 127)
-    × ((rows : List (List ℤ)) (j : ℕ) → Codes rows n j codes → branchingWithin n (ancestors tree) ≡ true → WalkOf n (ancestors tree) (walk .nodes)
+    × ((rows : List (List ℤ)) (j : ℕ) → Codes rows n j codes → branchingWithin n (ancestors tree) ≡ true
+    → WalkOf n (ancestors tree) (walk .nodes)
     → walk .count ≡ lastNode n → Belows n (ancestors tree) below → PartsAre (ancestors tree) n (character rows j) parts
     → DownTo (ancestors tree) rows n j (walk .nodes) seen i)
 
@@ -45,8 +48,12 @@ loop-holds c =
     let start = c .before .before .before .before .before in
     let z : ℤ = getD (start .args .t1) 1 (pos 0) in
     let here : toZ w32 (ofZ w32 z) ≡ z = toZ-ofZ (sfits-of (c .before .row1 .given)) in
-    let none : Seen = record { state = toZ w32 (ofZ w32 z); outside = c .only .result } in
-    (omega arith, refl, λ rows j codes branches walk last belows parts. down-start _ _ rows j _ codes branches _ walk (replicate 127 none) none refl here)
+    let none : Seen = record { state = toZ w32 (ofZ w32 z); outside = c .only .result } in (
+      omega arith,
+      refl,
+      λ rows j codes branches walk last belows parts. down-start _ _ rows j _ codes branches _ walk
+          (replicate 127 none) none refl here,
+    )
 
 mul-v : tie.Need-mul-v Inv-loop μ-loop
 mul-v c = search needs
@@ -140,15 +147,20 @@ loop-again c =
     let above : ℤ = seenAt (loop .seen) u .state in
     let above-is : toZ w32 (ofZ w32 above) ≡ above = toZ-ofZ (sfits-of (c .before .before .struct-told .given .0 .1)) in
     let first : ℤ = getD (start .args .t1) 1 (pos 0) in
-    let first-is : toZ w32 (ofZ w32 first) ≡ first = toZ-ofZ (sfits-of (c .before .before .before .before .before .before .before .before .before .before .before .before .before .before .before .row1 .given)) in
+    let first-is : toZ w32 (ofZ w32 first) ≡ first = toZ-ofZ (sfits-of (at .before .before .before .before .row1 .given)) in
     let state = rw (code-is, above-is) at (c .before .state-of .ensures) in
-    let outside = rw (first-is, c .before .before .before .before .before .before .before .sister .ensures) at (c .outside-of .ensures) in
-    let place = rw (c .before .before .before .before .before .before .before .before .before .before .ancestor .ensures) at (c .before .before .before .before .before .before .before .before .before .place-of .ensures) in (
+    let beside : Span = partAt (start .args .t4) (c .before .before .before .before .before .before .before .sister .result) .set in
+    let seen-from : c .outside-of .result ≡ outsideFrom (eqb u 1) first beside (seenAt (loop .seen) u .outside) = rw first-is at
+    (c .outside-of .ensures) in
+    let outside = rw (c .before .before .before .before .before .before .before .sister .ensures) at seen-from in
+    let place = rw (c .before .before .before .before .before .before .before .before .before .before .ancestor .ensures) at
+    (c .before .before .before .before .before .before .before .before .before .place-of .ensures) in (
       omega arith,
       simp length-set (inv .1),
       λ rows j codes branches walk last belows parts.
           rw (toZ-ofZ (sfits-of (c .before .state-of .ok)))
-          (down-next (start .args .n) _ rows j (start .args .t1) codes branches (start .args .plan .walk .nodes) walk (start .args .plan .below)
+          (down-next (start .args .n) _ rows j (start .args .t1) codes branches (start .args .plan .walk .nodes) walk
+          (start .args .plan .below)
           belows (start .args .t4) parts (loop .seen) (inv .1) (loop .i) (inv .0) (omega (arith, at .before .loop-test .taken))
           (inv .2 rows j codes branches walk last belows parts) u place _ _ (node-most at) state outside),
     )

@@ -70,7 +70,8 @@ loop-again c =
       inv .2,
       simp length-set (inv .3),
       rw (c .with-descendant .ensures) (below-more _ (loop .below) (loop .u) _ (inv .3) (inv .0) place (inv .4)),
-      rw (c .with-descendant .ensures) (all-within _ (loop .below) (loop .u) _ (inv .3) (inv .0) place (place .most) (omega arith) (inv .5)),
+      rw (c .with-descendant .ensures) (all-within _ (loop .below) (loop .u) _ (inv .3) (inv .0) place (place .most) (omega arith)
+          (inv .5)),
     )
 
 returns : tie.Need-returns Inv-loop μ-loop

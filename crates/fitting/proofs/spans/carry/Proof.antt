@@ -1,4 +1,5 @@
--- `fitting::spans::carry` meets its contract. The loop's invariant: the places passed and what is still carried make up the list. Assumes nothing.
+-- `fitting::spans::carry` meets its contract. The loop's invariant: the places passed and what is still carried make up the list. Assumes
+-- nothing.
 use mathlib.Core.Path.{_≡_, refl}
 use mathlib.Core.List.{_++_}
 use Prim.Native.Nat.{_+_, _-_, _≤_, _<_}
@@ -17,7 +18,8 @@ use Rattle.fitting.proofs.spans.carry.Tie as tie
 
 abbrev Inv-loop : tie.InvT-loop
 Inv-loop count state sorted₀ on₀ i₀ sorted on i =
-    (i ≤ count) × (length sorted ≡ 6) × (take i sorted ++ carried (toZ w32 on) (drop i (take count sorted)) ≡ carried (toZ w32 state) (take count sorted₀))
+    (i ≤ count) × (length sorted ≡ 6) × (take i sorted ++ carried (toZ w32 on) (drop i (take count sorted)) ≡ carried (toZ w32 state)
+    (take count sorted₀))
 
 abbrev μ-loop : tie.MeasureT-loop
 μ-loop count state sorted₀ on₀ i₀ sorted on i = count - i

@@ -11,7 +11,8 @@ use Rattle.matrix.specs.Questions.{LentMatrix}
 use Rattle.branching.specs.Ancestors.{ancestors}
 use Rattle.branching.specs.Within.{branchingWithin}
 use Rattle.fitting.specs.Steps.{characterLength}
-use Rattle.fitting.proofs.Columns.{column-codes, characters-most, characters-next}
+use Rattle.fitting.proofs.Filling.{sum-next}
+use Rattle.fitting.proofs.Columns.{column-codes, characters-most}
 use Rattle.fitting.proofs.Matrix.LeastCost.{total-characters}
 use Rattle.fitting.proofs.totals.sum_costs.Statement.{statement}
 use Rattle.fitting.proofs.totals.sum_costs.Tie as tie
@@ -65,7 +66,7 @@ loop-again c =
           let so-far = inv .2 branches lent in
           let codes = column-codes matrix n m lent (loop .j) (inv .0) taken _ (c .before .before .codes-of .ensures) in
           let cost = c .before .least-cost .ensures .is rows (loop .j) codes branches in
-          let next = characters-next tree rows n (loop .j) (inv .0) in
+          let next = sum-next (characterLength tree rows n) 1 (loop .j) (inv .0) in
           let most = characters-most matrix n m lent tree branches (loop .j + 1 - 1) (omega arith) in
           let many = lent .characters in
           c .plus .ensures .is (omega arith) ∙ ap₂ _+_ so-far cost ∙ sym next,
@@ -80,7 +81,8 @@ returns c =
       is = λ branches lent.
           let all : loop .j - 1 ≡ start .args .m = omega (arith, c .loop-test .left) in
           rw all at (inv .2 branches lent)
-          ∙ sym (total-characters (ancestors (start .args .plan .tree)) (rowsOf (start .args .matrix .now) (start .args .m) (start .args .n)) (start .args .n) (start .args .m));
+          ∙ sym (total-characters (ancestors (start .args .plan .tree)) (rowsOf (start .args .matrix .now) (start .args .m)
+          (start .args .n)) (start .args .n) (start .args .m));
     }
 
 pub sum-costs-spec : {M : Type 1} → statement M

@@ -12,16 +12,16 @@ use Rattle.fitting.proofs.whole.fit_columns.Statement.{statement}
 use Rattle.fitting.proofs.whole.fit_columns.Tie as tie
 
 abbrev Inv-loop : tie.InvT-loop
-Inv-loop matrix n m plan low₀ high₀ chosen₀ tree lengths₀ j₀ low high chosen lengths j =
+Inv-loop matrix n m plan low₀ high₀ chosen₀ tree branches₀ j₀ low high chosen branches j =
     (1 ≤ j)
     × (j ≤ m + 1)
     × (length low ≡ length low₀)
     × (length high ≡ length high₀)
     × (length chosen ≡ length chosen₀)
-    × Written matrix n m (j - 1) (ancestors (plan .tree)) low₀ low high₀ high chosen₀ chosen lengths
+    × Written matrix n m (j - 1) (ancestors (plan .tree)) low₀ low high₀ high chosen₀ chosen branches
 
 abbrev μ-loop : tie.MeasureT-loop
-μ-loop matrix n m plan low₀ high₀ chosen₀ tree lengths₀ j₀ low high chosen lengths j = m + 1 - j
+μ-loop matrix n m plan low₀ high₀ chosen₀ tree branches₀ j₀ low high chosen branches j = m + 1 - j
 
 loop-holds : tie.Need-loop-holds Inv-loop μ-loop
 loop-holds c = (omega arith, omega arith, refl, refl, refl, start-written _ _ _ _ _ _ _)
@@ -66,8 +66,10 @@ loop-again c =
       ap length low ∙ length-column n j _ (loop .low) ∙ inv .2,
       ap length high ∙ length-column n j _ (loop .high) ∙ inv .3,
       ap length chosen ∙ length-column n j _ (loop .chosen) ∙ inv .4,
-      written-more (start .args .matrix .now) n (start .args .m) j (inv .0) taken (ancestors (start .args .plan .tree)) _ (c .before .before .before .before .before .before .before .before .before .before .before .codes-of .ensures)
-          _ (c .before .before .before .before .before .before .before .before .before .before .fit-character .ensures) _ _ _ _ _ _ _ _ _ _ _ (inv .5) low high chosen (c .before .before .before .before .before .before .before .before .before .add-lengths .ensures),
+      written-more (start .args .matrix .now) n (start .args .m) j (inv .0) taken (ancestors (start .args .plan .tree)) _
+          (c .before .before .before .before .before .before .before .before .before .before .before .codes-of .ensures)
+          _ (c .before .before .before .before .before .before .before .before .before .before .fit-character .ensures) _ _ _ _ _ _ _ _ _ _ _
+          (inv .5) low high chosen (c .before .before .before .before .before .before .before .before .before .add-lengths .ensures),
     )
 
 same-length : tie.Need-same-length Inv-loop μ-loop

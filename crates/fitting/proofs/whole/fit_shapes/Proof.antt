@@ -13,26 +13,27 @@ returns : tie.Need-returns
 unfolding fitShapes
 returns c = rw (sym (c .before .within-limits .ensures) ∙ not-true _ (c .if1 .taken))
 
-mul-size : tie.Need-mul-size
-mul-size c = search needs
+mul-if2 : tie.Need-mul-if2
+mul-if2 c = search needs
 
 returns-2 : tie.Need-returns-2
 unfolding fitShapes
 returns-2 c = rw (sym (c .before .before .within-limits .ensures) ∙ not-false _ (c .before .if1 .left), ne-eqb _ _ (c .if2 .taken))
 
+lists-full-requires : tie.Need-lists-full-requires
+lists-full-requires c κs = search needs
+
 returns-3 : tie.Need-returns-3
 unfolding fitShapes
-returns-3 c = rw (sym (c .before .before .before .within-limits .ensures) ∙ not-false _ (c .before .before .if1 .left), eq-eqb _ _ (c .before .if2 .left), ne-eqb _ _ (c .if3 .taken))
-
-returns-4 : tie.Need-returns-4
-unfolding fitShapes
-returns-4 c = rw (sym (c .before .before .before .before .within-limits .ensures) ∙ not-false _ (c .before .before .before .if1 .left), eq-eqb _ _ (c .before .before .if2 .left), eq-eqb _ _ (c .before .if3 .left), ne-eqb _ _ (c .if4 .taken))
-
-returns-5 : tie.Need-returns-5
-unfolding fitShapes
-returns-5 c = rw (sym (c .before .before .before .before .within-limits .ensures) ∙ not-false _ (c .before .before .before .if1 .left), eq-eqb _ _ (c .before .before .if2 .left), eq-eqb _ _ (c .before .if3 .left), eq-eqb _ _ (c .if4 .left))
+returns-3 c =
+    rw (
+      sym (c .before .before .before .within-limits .ensures) ∙ not-false _ (c .before .before .if1 .left),
+      eq-eqb _ _
+          (c .before .if2 .left),
+    )
+    (c .lists-full .ensures)
 
 pub fit-shapes-spec : {M : Type 1} → statement M
 fit-shapes-spec =
     tie.close
-    (tie.spec within-limits-requires returns mul-size returns-2 returns-3 returns-4 returns-5)
+    (tie.spec within-limits-requires returns mul-if2 returns-2 lists-full-requires returns-3)

@@ -19,7 +19,8 @@ returns c = not-fitted _ _ _ _ _ _ _ _ (sym (c .before .before .fit-shapes .ensu
 
 -- the shapes are right where the test passed
 shaped : (c : tie.Else1) → Shaped (length (c .before .before .args .matrix .now)) (c .before .before .args .n) (c .before .before .args .m)
-    (length (c .before .before .args .low .now)) (length (c .before .before .args .high .now)) (length (c .before .before .args .chosen .now))
+    (length (c .before .before .args .low .now)) (length (c .before .before .args .high .now)) (length
+    (c .before .before .args .chosen .now))
 shaped c = shapes-true _ _ _ _ _ _ (sym (c .before .fit-shapes .ensures) ∙ not-false _ (c .if1 .left))
 
 plan-of-requires : tie.Need-plan-of-requires
@@ -32,11 +33,11 @@ fit-columns-requires c κs =
       (is .isLow, is .isHigh, is .isChosen),
     )
 
-marks-of-requires : tie.Need-marks-of-requires
-marks-of-requires c κs = shaped (c .before .before .before .before .before .before .before .before) .taxa
-
 sum-lengths-requires : tie.Need-sum-lengths-requires
-sum-lengths-requires c κs = shaped (c .before .before .before .before .before .before .before .before .before) .taxa
+sum-lengths-requires c κs = shaped (c .before .before .before .before .before .before .before .before) .taxa
+
+fit-of-requires : tie.Need-fit-of-requires
+fit-of-requires c κs = shaped (c .before .before .before .before .before .before .before .before .before) .taxa
 
 same-length : tie.Need-same-length
 same-length c = search needs
@@ -51,7 +52,7 @@ returns-2 : tie.Need-returns-2
 returns-2 c =
     let columns = c .before .before .before .before .before in
     let written = rw (columns .before .before .before .before .plan-of .ensures .is) at (columns .fit-columns .ensures) in
-    tree-fitted _ _ _ _ _ _ _ _ _ _ _ _ _ written (c .before .marks-of .ensures) (c .sum-lengths .ensures)
+    tree-fitted _ _ _ _ _ _ _ _ _ _ _ _ _ written (c .before .sum-lengths .ensures) (c .fit-of .ensures)
 
 pub fit-tree-spec : {M : Type 1} → statement M
 fit-tree-spec =
@@ -62,8 +63,8 @@ fit-tree-spec =
     returns
     plan-of-requires
     fit-columns-requires
-    marks-of-requires
     sum-lengths-requires
+    fit-of-requires
     same-length
     same-length-2
     same-length-3

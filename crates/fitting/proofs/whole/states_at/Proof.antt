@@ -20,20 +20,27 @@ fit-shapes-requires : tie.Need-fit-shapes-requires
 fit-shapes-requires c κs = search needs
 
 returns : tie.Need-returns
-returns c = record { are = λ branches lent p q l h. absurd (true≢false (sym (true-shape _ _ _ lent) ∙ (sym (c .before .fit-shapes .ensures) ∙ not-true _ (c .if1 .taken)))) }
+returns c = record {
+  are = λ branches lent p q l h. absurd (true≢false (sym (true-shape _ _ _ lent) ∙ (sym (c .before .fit-shapes .ensures)
+      ∙ not-true _ (c .if1 .taken))));
+}
 
 one-to-requires : tie.Need-one-to-requires
 one-to-requires c κs = search needs
 
 returns-2 : tie.Need-returns-2
-returns-2 c = record { are = λ branches lent p q l h. absurd (true≢false (sym (true-oneTo _ _ l h) ∙ (sym (c .before .one-to .ensures) ∙ not-true _ (c .if2 .taken)))) }
+returns-2 c = record {
+  are = λ branches lent p q l h. absurd (true≢false (sym (true-oneTo _ _ l h) ∙ (sym (c .before .one-to .ensures)
+      ∙ not-true _ (c .if2 .taken))));
+}
 
 returns-3 : tie.Need-returns-3
 unfolding lastNode
 returns-3 c = record { are = λ branches lent p q l h. let few = lent .taxa in let far = c .if3 .taken in absurd (omega arith) }
 
 -- the shapes are right where the test passed
-shaped : (c : tie.Else1) → Shaped (length (c .before .before .args .matrix .now)) (c .before .before .args .n) (c .before .before .args .m) matrixSize matrixSize matrixSize
+shaped : (c : tie.Else1) → Shaped (length (c .before .before .args .matrix .now)) (c .before .before .args .n)
+    (c .before .before .args .m) matrixSize matrixSize matrixSize
 shaped c = shapes-true _ _ _ _ _ _ (sym (c .before .fit-shapes .ensures) ∙ not-false _ (c .if1 .left))
 
 plan-of-requires : tie.Need-plan-of-requires

@@ -24,7 +24,8 @@ Inv-loop out₀ n j which states end v₀ out v =
     (n + 1 ≤ v)
     × (v ≤ max (n + 1) end)
     × (length out ≡ length out₀)
-    × (out ≡ stripes columns (rowStart (n + 1) + (j - 1)) (map (λ u. stateIn which (statesAt states u) ∷ []) (numbers (n + 1) (v - (n + 1)))) out₀)
+    × (out ≡ stripes columns (rowStart (n + 1) + (j - 1)) (map (λ u. stateIn which (statesAt states u) ∷ []) (numbers (n + 1) (v -
+    (n + 1)))) out₀)
 
 abbrev μ-loop : tie.MeasureT-loop
 μ-loop out₀ n j which states end v₀ out v = end - v
@@ -85,7 +86,8 @@ loop-again c =
       omega arith,
       simp length-set (inv .2),
       rw (fits, c .state-in .ensures)
-          (column-more (start .args .n) (start .args .j) (loop .v) (λ u. stateIn (start .args .which) (statesAt (start .args .t4) u)) _ (loop .out)
+          (column-more (start .args .n) (start .args .j) (loop .v) (λ u. stateIn (start .args .which) (statesAt (start .args .t4) u)) _
+          (loop .out)
           (inv .0) (inv .3)),
     )
 

@@ -1,9 +1,13 @@
--- `fitting::calls::lists_full` meets its contract: its tests are the definition's. Assumes nothing.
+-- `fitting::whole::lists_full` meets its contract: its tests are the definition's. Assumes nothing.
+use mathlib.Core.Path.{_≡_}
+use mathlib.Core.Bool.{false}
+use lib.Dec.{eqb}
 use borrow.Author.Tests.{eq-eqb, ne-eqb}
+use Rattle.matrix.specs.Shape.{matrixSize}
 use Rattle.fitting.specs.Calls.{listsFull}
 use borrow.Author.Needs.{needs}
-use Rattle.fitting.proofs.calls.lists_full.Statement.{statement}
-use Rattle.fitting.proofs.calls.lists_full.Tie as tie
+use Rattle.fitting.proofs.whole.lists_full.Statement.{statement}
+use Rattle.fitting.proofs.whole.lists_full.Tie as tie
 
 mul-size : tie.Need-mul-size
 mul-size c = search needs
@@ -14,7 +18,9 @@ returns c = rw (ne-eqb _ _ (c .if1 .taken))
 
 returns-2 : tie.Need-returns-2
 unfolding listsFull
-returns-2 c = rw (eq-eqb _ _ (c .before .if1 .left), ne-eqb _ _ (c .if2 .taken))
+returns-2 c =
+    let not-high : eqb (c .before .before .args .high) matrixSize ≡ false = ne-eqb _ _ (c .if2 .taken) in
+    rw (eq-eqb _ _ (c .before .if1 .left), not-high)
 
 returns-3 : tie.Need-returns-3
 unfolding listsFull
