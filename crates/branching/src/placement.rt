@@ -21,6 +21,7 @@ ghost use Rattle.difference.specs.Rows.{difference, medians};
 ghost use Rattle.branching.specs.Ancestors.{ancestors};
 ghost use Rattle.branching.specs.Unasked.{intervalAt, mediansAt, linkedAt, hungAt, UnaskedDone, noPlacement};
 ghost use Rattle.branching.specs.Nearest.{NearestBelow, NearestOf, Leaves};
+ghost use Rattle.branching.specs.Asking.{askPlacement};
 ghost use Rattle.branching.specs.Placed.{PlacementDone};
 
 // The taxon, the lower end of its interval (0: none), the upper end, the new HTU (0: none), the length added.
@@ -195,21 +196,25 @@ impl Tree {
         }
     }
 
+    // The tree as it is, with a placement of zeros.
+    fn unplaced(self) -> Unasked
+        ensures { λ r. ⌜ (r .tree ≡ self) × (r .placement ≡ noPlacement) ⌝ }
+    {
+        Unasked {
+            tree: self,
+            placement: no_placement(),
+        }
+    }
+
     // Taxon b placed on its interval, without the questions of a placement; nothing is done for more than 64 taxa or 128 characters.
     pub fn place_unasked(self, matrix: &mut [i32], n: usize, m: usize, b: usize) -> Unasked
         ensures { λ r. ⌜ UnaskedDone (now (matrix .entry)) (now (matrix .exit)) n m (ancestors self) b r ⌝ }
     {
         if MOST_TAXA < n {
-            return Unasked {
-                tree: self,
-                placement: no_placement(),
-            };
+            return self.unplaced();
         }
         if MOST_CHARACTERS < m {
-            return Unasked {
-                tree: self,
-                placement: no_placement(),
-            };
+            return self.unplaced();
         }
         let nearest = nearest_interval(matrix, n, m, self, b);
         if nearest.lower == 0 {
@@ -218,17 +223,22 @@ impl Tree {
         self.hang_on(matrix, n, m, b, nearest.lower, nearest.added)
     }
 
-    // The placement of taxon b on a tree handed in, with its questions: the tree comes out one taxon larger, and the codes of the new HTU are
-    // written into its row of the matrix. A refused placement hands the tree back unchanged, and writes nothing.
-    pub fn place(self, matrix: &mut [i32], n: usize, m: usize, b: usize) -> Placed
+    // The placement of taxon b after its questions: done where they passed; a refusal hands the tree back unchanged, and writes nothing.
+    fn place_asked(self, asked: Asked, matrix: &mut [i32], n: usize, m: usize, b: usize) -> Placed
+        requires { ⌜ asked ≡ askPlacement (now matrix) n m (ancestors self) b ⌝ }
         ensures { λ r. ⌜ PlacementDone (now (matrix .entry)) (now (matrix .exit)) n m (ancestors self) b r ⌝ }
     {
-        match ask_placement(matrix, n, m, self, b) {
-            Asked::Refused(refusal) => Placed {
-                asked: Asked::Refused(refusal),
-                tree: self,
-                placement: no_placement(),
-            },
+        match asked {
+            Asked::Refused(refusal) => {
+                let kept = self.unplaced();
+                let tree = kept.tree;
+                let placement = kept.placement;
+                Placed {
+                    asked: Asked::Refused(refusal),
+                    tree,
+                    placement,
+                }
+            }
             Asked::Passed => {
                 let done = self.place_unasked(matrix, n, m, b);
                 let tree = done.tree;
@@ -240,5 +250,14 @@ impl Tree {
                 }
             }
         }
+    }
+
+    // The placement of taxon b on a tree handed in, with its questions: the tree comes out one taxon larger, and the codes of the new HTU are
+    // written into its row of the matrix. A refused placement hands the tree back unchanged, and writes nothing.
+    pub fn place(self, matrix: &mut [i32], n: usize, m: usize, b: usize) -> Placed
+        ensures { λ r. ⌜ PlacementDone (now (matrix .entry)) (now (matrix .exit)) n m (ancestors self) b r ⌝ }
+    {
+        let asked = ask_placement(matrix, n, m, self, b);
+        self.place_asked(asked, matrix, n, m, b)
     }
 }

@@ -48,10 +48,12 @@ pub fn ask_placement(matrix: &[i32], n: usize, m: usize, tree: Tree, b: usize) -
     match ask_matrix(matrix, n, m) {
         Asked::Refused(refusal) => Asked::Refused(refusal),
         Asked::Passed => {
-            if !one_to(n, b) {
+            let exists = one_to(n, b);
+            let growing = tree.is_growing(n);
+            if !exists {
                 return Asked::Refused(Refusal::NotThere);
             }
-            if !tree.is_growing(n) {
+            if !growing {
                 return Asked::Refused(Refusal::NotBranching);
             }
             if tree.in_tree(b) {
