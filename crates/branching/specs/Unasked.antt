@@ -7,7 +7,7 @@ use Prim.Native.Nat.{ℕ, zero, suc}
 use lib.Dec.{leb}
 use lib.IntN.{ℤ}
 use Rattle.lists.specs.Least.{leastOf}
-use Rattle.matrix.specs.Shape.{row}
+use Rattle.matrix.specs.Shape.{mostTaxa, mostCharacters, row}
 use Rattle.matrix.specs.NodeRows.{withRow}
 use Rattle.difference.specs.Rows.{difference, medians, intervalDifference}
 use Rattle.branching.specs.declared.placement.Placement.{Placement}
@@ -64,7 +64,7 @@ module _ (codes : List ℤ) (m : ℕ) where
 -- taxon b placed on its interval; nothing is done for more than 64 taxa or more than 128 characters
 unfoldable pub unasked : List ℤ → ℕ → ℕ → List ℕ → ℕ → AfterUnasked
 unasked codes n m tree b =
-    cond (leb n 64 && leb m 128)
+    cond (leb n mostTaxa && leb m mostCharacters)
     (placedAt codes m n tree b (nearestAt codes m n tree b))
     (record { tree = tree; placement = noPlacement; codes = codes })
 

@@ -15,7 +15,7 @@ ghost use mathlib.Core.Path.{_≡_};
 ghost use Prim.Native.Nat.{_+_, _*_, _-_, _≤_};
 ghost use lib.ListN.{length, take};
 ghost use Rattle.lists.specs.Over.{over};
-ghost use Rattle.matrix.specs.Shape.{row};
+ghost use Rattle.matrix.specs.Shape.{mostTaxa, mostCharacters, row};
 ghost use Rattle.matrix.specs.NodeRows.{withRow};
 ghost use Rattle.difference.specs.Rows.{difference, medians};
 ghost use Rattle.branching.specs.Ancestors.{ancestors};
@@ -67,7 +67,7 @@ pub fn no_placement() -> Placement
 
 // The number behind the last node of a tree of n taxa, and 2 for one taxon.
 fn nodes_end(n: usize) -> usize
-    requires { ⌜ n ≤ 64 ⌝ }
+    requires { ⌜ n ≤ mostTaxa ⌝ }
     ensures { λ r. ⌜ r ≡ 2 + (2 * n - 3) ⌝ }
 {
     if n < 2 {
@@ -78,7 +78,7 @@ fn nodes_end(n: usize) -> usize
 
 // The interval difference of taxon b from the interval between c and its immediate ancestor.
 fn from_interval(matrix: &[i32], m: usize, tree: Tree, b: usize, c: usize) -> u64
-    requires { ⌜ m ≤ 128 ⌝ }
+    requires { ⌜ m ≤ mostCharacters ⌝ }
     ensures { λ r. ⌜ r ≡ intervalAt (now (matrix .entry)) m (ancestors tree) b c ⌝ }
 {
     let above = tree.ancestor(c);
@@ -87,7 +87,7 @@ fn from_interval(matrix: &[i32], m: usize, tree: Tree, b: usize, c: usize) -> u6
 
 // Of the nearest interval of those gone through and that of node c, the nearer one: that of c if c is in the tree and nearer.
 fn nearer(best: Nearest, matrix: &[i32], m: usize, tree: Tree, b: usize, c: usize) -> Nearest
-    requires { ⌜ (m ≤ 128) × (2 ≤ c) ⌝ }
+    requires { ⌜ (m ≤ mostCharacters) × (2 ≤ c) ⌝ }
     ensures { λ r. ⌜ (NearestBelow (now (matrix .entry)) m (ancestors tree) b c best → NearestBelow (now (matrix .entry)) m (ancestors tree) b (c + 1) r) ⌝ }
 {
     if !tree.in_tree(c) {
@@ -105,7 +105,7 @@ fn nearer(best: Nearest, matrix: &[i32], m: usize, tree: Tree, b: usize, c: usiz
 
 // The interval of least interval difference, the least node number among equals.
 fn nearest_interval(matrix: &[i32], n: usize, m: usize, tree: Tree, b: usize) -> Nearest
-    requires { ⌜ (n ≤ 64) × (m ≤ 128) ⌝ }
+    requires { ⌜ (n ≤ mostTaxa) × (m ≤ mostCharacters) ⌝ }
     ensures { λ r. ⌜ NearestOf (now (matrix .entry)) n m (ancestors tree) b r ⌝ }
 {
     let end = nodes_end(n);
@@ -139,7 +139,7 @@ fn write_three(out: &mut [i32], b: RowCopy, c: RowCopy, e: RowCopy)
 
 // Writes the median codes of nodes b, c and e into the row of node y. The three rows are copied out before.
 fn write_htu(matrix: &mut [i32], m: usize, b: usize, c: usize, e: usize, y: usize)
-    requires { ⌜ m ≤ 128 ⌝ }
+    requires { ⌜ m ≤ mostCharacters ⌝ }
     ensures { λ _. ⌜ now (matrix .exit) ≡ withRow (now (matrix .entry)) y (mediansAt (now (matrix .entry)) m b c e) ⌝ }
 {
     let b_row = row_copy(matrix, m, b);
@@ -152,7 +152,7 @@ fn write_htu(matrix: &mut [i32], m: usize, b: usize, c: usize, e: usize, y: usiz
 impl Tree {
     // Taxon b linked to row 1.
     fn link_first(self, matrix: &[i32], m: usize, b: usize) -> Unasked
-        requires { ⌜ m ≤ 128 ⌝ }
+        requires { ⌜ m ≤ mostCharacters ⌝ }
         ensures { λ r. ⌜ Leaves (linkedAt (now (matrix .entry)) m (ancestors self) b) (now (matrix .entry)) r ⌝ }
     {
         let added = difference(row(matrix, m, b), row(matrix, m, 1));
@@ -178,7 +178,7 @@ impl Tree {
         c: usize,
         added: u64,
     ) -> Unasked
-        requires { ⌜ (n ≤ 64) × (m ≤ 128) × (added ≡ intervalAt (now matrix) m (ancestors self) b c) ⌝ }
+        requires { ⌜ (n ≤ mostTaxa) × (m ≤ mostCharacters) × (added ≡ intervalAt (now matrix) m (ancestors self) b c) ⌝ }
         ensures { λ r. ⌜ Leaves (hungAt (now (matrix .entry)) m n (ancestors self) b c) (now (matrix .exit)) r ⌝ }
     {
         let upper = self.ancestor(c);

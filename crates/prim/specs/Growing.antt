@@ -6,6 +6,7 @@ use mathlib.Core.Bool.{true, false}
 use mathlib.Core.List.{List, [], _∷_, _++_, List·Memᴰ}
 use Prim.Native.Nat.{ℕ, zero, suc, _+_, _-_, _≤_, max}
 use lib.ListN.{length, getD}
+use Rattle.matrix.specs.Shape.{mostTaxa}
 use Rattle.prim.specs.Answers.{Holds}
 use Rattle.lists.specs.Numbers.{numbers}
 use Rattle.prim.specs.Network.{Link, unplaced, nearestPlaced, distance, link, next}
@@ -50,7 +51,7 @@ pub record Nearer (best : ℕ) (bestKept : Kept) (v : ℕ) (kept : Kept) (r : �
 
 -- r is the taxon to place next
 pub record NextTaxon (taxa : List Kept) (n r : ℕ) : Type 0 where
-  pub among : r ≤ 64
+  pub among : r ≤ mostTaxa
   pub is : (d : ℕ → ℕ → ℕ) (later : List ℕ) → Keeps d n later taxa → next d later (unplaced n later) ≡ placing d later r
 
 -- r is what is kept of taxon u when v has been placed besides: the same if u is itself placed

@@ -10,6 +10,7 @@ use matrix::refusal::Asked;
 ghost use mathlib.Core.Path.{_≡_};
 ghost use Prim.Native.Nat.{_+_, _≤_, _<_, _^_};
 ghost use lib.ListN.{length};
+ghost use Rattle.matrix.specs.Shape.{mostTaxa};
 ghost use Rattle.matrix.specs.Questions.{LentMatrix, askMatrix};
 ghost use Rattle.wagner.specs.Order.{keyOf};
 ghost use Rattle.wagner.specs.Steps.{Begun, nextPlacement, WithPlacement, OneMore, BuiltFrom};
@@ -72,7 +73,7 @@ fn place_next(
     m: usize,
     keys: [u64; 65],
 ) -> Building
-    requires { ⌜ (n ≤ 64) × (building .count < 63) × (building .length + nextPlacement (now matrix) n m (keyOf keys) building .placement .added < 2 ^ 64) ⌝ }
+    requires { ⌜ (n ≤ mostTaxa) × (building .count < 63) × (building .length + nextPlacement (now matrix) n m (keyOf keys) building .placement .added < 2 ^ 64) ⌝ }
     ensures { λ r. ⌜ OneMore (now (matrix .entry)) (now (matrix .exit)) n m (keyOf keys) building r ⌝ }
 {
     let tree = building.tree;
