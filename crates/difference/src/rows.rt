@@ -1,6 +1,7 @@
 // Difference, medians and interval difference of rows of any length.
 use crate::codes::apart;
 use crate::codes::median;
+use matrix::MOST_CHARACTERS;
 use matrix::rows::least;
 ghost use mathlib.Core.Path.{_≡_};
 ghost use lib.ListN.{take};
@@ -13,7 +14,7 @@ ghost use Rattle.difference.specs.Rows.{medians, intervalDifference};
 pub fn difference(xs: &[i32], ys: &[i32]) -> u64
     ensures { λ r. ⌜ DifferenceOf (now (xs .entry)) (now (ys .entry)) r ⌝ }
 {
-    let count = least(128, least(xs.len(), ys.len()));
+    let count = least(MOST_CHARACTERS, least(xs.len(), ys.len()));
     let mut sum = 0;
     let mut j = 0;
     while j < count {
