@@ -10,7 +10,8 @@ use Rattle.branching.specs.declared.placement.Unasked.{Unasked}
 use Rattle.branching.specs.declared.tree.Tree.{Tree}
 use Rattle.branching.specs.Ancestors.{ancestors}
 use Rattle.branching.specs.Asking.{askPlacement}
-use Rattle.branching.specs.Unasked.{noPlacement, UnaskedDone}
+use Rattle.branching.specs.Placing.{noPlacement}
+use Rattle.branching.specs.Unasked.{UnaskedDone}
 use Rattle.branching.specs.Placed.{placementSays, PlacementDone}
 use Rattle.branching.proofs.Passed.{placement-asked}
 use Rattle.branching.proofs.Unasked.{unasked-placed}
@@ -20,9 +21,11 @@ module _ (codes : List ℤ) (n m : ℕ) (tree : Tree) (b : ℕ) where
   pub hands-refusal : (refusal : Refusal) (kept : Unasked) → askPlacement codes n m (ancestors tree) b ≡ Refused refusal
       → kept .tree ≡ tree
       → kept .placement ≡ noPlacement
-      → PlacementDone codes codes n m (ancestors tree) b (record { asked = Refused refusal; tree = kept .tree; placement = kept .placement })
+      → PlacementDone codes codes n m (ancestors tree) b
+      (record { asked = Refused refusal; tree = kept .tree; placement = kept .placement })
   unfolding placementSays
-  hands-refusal refusal kept told same none = record { says = rw told; tree = rw told (ap ancestors same); placement = rw told none; matrix = rw told }
+  hands-refusal refusal kept told same none =
+      record { says = rw told; tree = rw told (ap ancestors same); placement = rw told none; matrix = rw told }
 
   -- where the questions pass, the placement is the one by the rows of the tree's nodes
   pub hands-placement : (new : List ℤ) (done : Unasked) → askPlacement codes n m (ancestors tree) b ≡ Passed

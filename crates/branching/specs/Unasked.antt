@@ -1,5 +1,6 @@
--- A placement without its questions, by the rows of a lent matrix: what it does with every matrix, tree and number. On a tree that the
--- questions let pass it is the placement of `Placing.antt` (`proofs/Unasked.antt`).
+-- For the layer `place_unasked` and the private contracts alone: a reader has to believe `Placing.antt`, and not this file, which is proved to
+-- be that placement on every tree that the questions let pass (`proofs/Unasked.antt` `unasked-placed`). What a placement without its
+-- questions does with every matrix, tree and number, by the rows of a lent matrix.
 use mathlib.Core.Path.{_≡_}
 use mathlib.Core.List.{List}
 use mathlib.Core.Bool.{cond, _&&_}
@@ -15,10 +16,7 @@ use Rattle.branching.specs.declared.placement.Unasked.{Unasked}
 use Rattle.branching.specs.Ancestors.{ancestors, ancestor}
 use Rattle.branching.specs.Nodes.{nodesIn, otherNodes}
 use Rattle.branching.specs.Hanging.{linked, hung, nextHtu}
-
--- a placement of zeros
-abbrev pub noPlacement : Placement
-noPlacement = record { taxon = 0; lower = 0; upper = 0; htu = 0; added = 0 }
+pub use Rattle.branching.specs.Placing.{noPlacement}
 
 -- what a placement leaves: the tree, what was done, and the codes of the matrix
 pub record AfterUnasked : Type 0 where

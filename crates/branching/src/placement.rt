@@ -19,7 +19,8 @@ ghost use Rattle.matrix.specs.Shape.{mostTaxa, mostCharacters, row};
 ghost use Rattle.matrix.specs.NodeRows.{withRow};
 ghost use Rattle.difference.specs.Rows.{difference, medians};
 ghost use Rattle.branching.specs.Ancestors.{ancestors};
-ghost use Rattle.branching.specs.Unasked.{intervalAt, mediansAt, linkedAt, hungAt, UnaskedDone, noPlacement};
+ghost use Rattle.branching.specs.Unasked.{intervalAt, mediansAt, linkedAt, hungAt, UnaskedDone};
+ghost use Rattle.branching.specs.Placing.{noPlacement};
 ghost use Rattle.branching.specs.Nearest.{NearestBelow, NearestOf, Leaves};
 ghost use Rattle.branching.specs.Asking.{askPlacement};
 ghost use Rattle.branching.specs.Placed.{PlacementDone};
@@ -88,7 +89,8 @@ fn from_interval(matrix: &[i32], m: usize, tree: Tree, b: usize, c: usize) -> u6
 // Of the nearest interval of those gone through and that of node c, the nearer one: that of c if c is in the tree and nearer.
 fn nearer(best: Nearest, matrix: &[i32], m: usize, tree: Tree, b: usize, c: usize) -> Nearest
     requires { ⌜ (m ≤ mostCharacters) × (2 ≤ c) ⌝ }
-    ensures { λ r. ⌜ (NearestBelow (now (matrix .entry)) m (ancestors tree) b c best → NearestBelow (now (matrix .entry)) m (ancestors tree) b (c + 1) r) ⌝ }
+    ensures { λ r. ⌜ (NearestBelow (now (matrix .entry)) m (ancestors tree) b c best
+        → NearestBelow (now (matrix .entry)) m (ancestors tree) b (c + 1) r) ⌝ }
 {
     if !tree.in_tree(c) {
         return best;
@@ -121,7 +123,8 @@ fn nearest_interval(matrix: &[i32], n: usize, m: usize, tree: Tree, b: usize) ->
 // Writes the medians of three rows over the front of a list.
 fn write_three(out: &mut [i32], b: RowCopy, c: RowCopy, e: RowCopy)
     requires { ⌜ (b .count ≤ length (b .codes)) × (c .count ≤ length (c .codes)) × (e .count ≤ length (e .codes)) ⌝ }
-    ensures { λ _. ⌜ now (out .exit) ≡ over 0 (medians (take (b .count) (b .codes)) (take (c .count) (c .codes)) (take (e .count) (e .codes))) (now (out .entry)) ⌝ }
+    ensures { λ _. ⌜ now (out .exit) ≡ over 0
+        (medians (take (b .count) (b .codes)) (take (c .count) (c .codes)) (take (e .count) (e .codes))) (now (out .entry)) ⌝ }
 {
     let b_codes = b.codes;
     let b_count = b.count;
@@ -252,8 +255,8 @@ impl Tree {
         }
     }
 
-    // The placement of taxon b on a tree handed in, with its questions: the tree comes out one taxon larger, and the codes of the new HTU are
-    // written into its row of the matrix. A refused placement hands the tree back unchanged, and writes nothing.
+    // The placement of taxon b on a tree handed in, with its questions: the tree comes out one taxon larger, and the codes of the new HTU
+    // are written into its row of the matrix. A refused placement hands the tree back unchanged, and writes nothing.
     pub fn place(self, matrix: &mut [i32], n: usize, m: usize, b: usize) -> Placed
         ensures { λ r. ⌜ PlacementDone (now (matrix .entry)) (now (matrix .exit)) n m (ancestors self) b r ⌝ }
     {
