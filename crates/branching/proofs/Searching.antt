@@ -42,7 +42,8 @@ nearest-start codes m tree b =
     record { lower = sym (scan-start (intervalAt codes m tree b) (inTree tree) 2); added = λ some. absurd (some refl) }
 
 -- from the nearest interval of those below c to that of those below c + 1
-module _ (codes : List ℤ) (m : ℕ) (tree : List ℕ) (b c : ℕ) (low : 2 ≤ c) (best : Nearest) (below : NearestBelow codes m tree b c best) where
+module _ (codes : List ℤ) (m : ℕ) (tree : List ℕ) (b c : ℕ) (low : 2 ≤ c) (best : Nearest)
+    (below : NearestBelow codes m tree b c best) where
   -- the interval difference by which it is searched
   abbrev key : ℕ → ℕ
   key v = intervalAt codes m tree b v

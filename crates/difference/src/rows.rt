@@ -26,7 +26,8 @@ pub fn difference(xs: &[i32], ys: &[i32]) -> u64
 
 // The interval difference of b from the interval between c and d, over their first 128 characters.
 pub fn interval_difference(b: &[i32], c: &[i32], d: &[i32]) -> u64
-    ensures { λ r. ⌜ r ≡ intervalDifference (take mostCharacters (now (b .entry))) (take mostCharacters (now (c .entry))) (take mostCharacters (now (d .entry))) ⌝ }
+    ensures { λ r. ⌜ r ≡ intervalDifference (take mostCharacters (now (b .entry))) (take mostCharacters (now (c .entry)))
+        (take mostCharacters (now (d .entry))) ⌝ }
 {
     let ends = difference(b, c) + difference(b, d);
     let across = difference(c, d);

@@ -152,7 +152,8 @@ module _ {A : Type 0} where
   keep-twice p q r (u ∷ us) h =
       go (q u) (p u) (r u) refl (h u (List·Memᴰ·head refl)) (keep-twice p q r us (λ v m. h v (List·Memᴰ·tail m)))
     where
-      go : (a b c : Bool) → p u ≡ b → c ≡ (a && b) → keep p (keep q us) ≡ keep r us → keep p (one-more a u (keep q us)) ≡ one-more c u (keep r us)
+      go : (a b c : Bool) → p u ≡ b → c ≡ (a && b) → keep p (keep q us) ≡ keep r us
+          → keep p (one-more a u (keep q us)) ≡ one-more c u (keep r us)
       go true true c pu e rest =
           ap (λ (t : Bool). one-more t u (keep p (keep q us))) pu
           ∙ ap (λ (list : List A). u ∷ list) rest

@@ -40,8 +40,8 @@ module _ (d : ℕ → ℕ → ℕ) where
   placing later zero = []
   placing later (suc v) = link d later (suc v) ∷ []
 
--- r is the taxon to place next of those up to v, if `best` is that of those before v, for a scan by any key and test that agree with what is
--- kept of the two
+-- r is the taxon to place next of those up to v, if `best` is that of those before v, for a scan by any key and test that agree with what
+-- is kept of the two
 pub record Nearer (best : ℕ) (bestKept : Kept) (v : ℕ) (kept : Kept) (r : ℕ) : Type 0 where
   pub among : r ≤ max best v
   pub is : (key : ℕ → ℕ) (test : ℕ → Bool) → key best ≡ bestKept .distance → key v ≡ kept .distance → test v ≡ not (kept .placed)

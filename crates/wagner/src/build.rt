@@ -73,7 +73,8 @@ fn place_next(
     m: usize,
     keys: [u64; 65],
 ) -> Building
-    requires { ⌜ (n ≤ mostTaxa) × (building .count < 63) × (building .length + nextPlacement (now matrix) n m (keyOf keys) building .placement .added < 2 ^ 64) ⌝ }
+    requires { ⌜ (n ≤ mostTaxa) × (building .count < 63)
+        × (building .length + nextPlacement (now matrix) n m (keyOf keys) building .placement .added < 2 ^ 64) ⌝ }
     ensures { λ r. ⌜ OneMore (now (matrix .entry)) (now (matrix .exit)) n m (keyOf keys) building r ⌝ }
 {
     let tree = building.tree;

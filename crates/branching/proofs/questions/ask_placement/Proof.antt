@@ -64,7 +64,8 @@ returns-3 c =
 htus-right-requires : tie.Need-htus-right-requires
 htus-right-requires c κs =
     let found = c .before .before .before .before in
-    matrix-passes _ _ _ .0 (sym (found .before .before .before .before .ask-matrix .ensures) ∙ found .before .before .enum-told .given .1) .taxa
+    matrix-passes _ _ _ .0
+    (sym (found .before .before .before .before .ask-matrix .ensures) ∙ found .before .before .enum-told .given .1) .taxa
 
 returns-4 : tie.Need-returns-4
 unfolding askPlacement

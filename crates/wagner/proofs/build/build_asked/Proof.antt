@@ -1,5 +1,5 @@
--- `wagner::build::build_asked` meets its contract: the tree is built where the questions pass, and is row 1 alone where they refuse. Assumes
--- nothing.
+-- `wagner::build::build_asked` meets its contract: the tree is built where the questions pass, and is row 1 alone where they refuse.
+-- Assumes nothing.
 use Rattle.matrix.proofs.Passing.{matrix-passes}
 use Rattle.wagner.proofs.Stepping.{build-refused, build-passed}
 use mathlib.Core.Path.{sym, _∙_}

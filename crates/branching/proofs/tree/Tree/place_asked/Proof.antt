@@ -21,7 +21,8 @@ returns : tie.Need-returns
 returns c =
     let kept = c .before .before in
     let told = kept .before .before in
-    hands-refusal _ _ _ _ _ _ _ (sym (told .before .before .pre) ∙ told .asked .given .1) (kept .unplaced .ensures .0) (kept .unplaced .ensures .1)
+    hands-refusal _ _ _ _ _ _ _ (sym (told .before .before .pre) ∙ told .asked .given .1) (kept .unplaced .ensures .0)
+    (kept .unplaced .ensures .1)
 
 same-length : tie.Need-same-length
 same-length c = search needs

@@ -36,8 +36,12 @@ returns-3 c =
 
 hang-on-requires : tie.Need-hang-on-requires
 hang-on-requires c κs =
-    let found = c .before .before .before in
-    (found .before .before .before .if1 .left, found .before .before .if2 .left, found .nearest-interval .ensures .added (c .before .if3 .left))
+    let found = c .before .before .before in (
+      found .before .before .before .if1 .left,
+      found .before .before .if2 .left,
+      found .nearest-interval .ensures .added
+          (c .before .if3 .left),
+    )
 
 same-length-2 : tie.Need-same-length-2
 same-length-2 c = search needs
