@@ -1,13 +1,20 @@
 """Makes the stored output of a test program again, from the program of other authorship in reference/.
 
-    write(crate)    writes CRATE/stdout: what CRATE/driver/main.rs prints, linked with the reference and with driver.rs, as its module `cases`
+    write(crate)    writes CRATE/stdout: what CRATE/driver/main.rs prints, linked with the reference; driver.rs is its module `cases`
 
 The reference is copied into a temporary folder and built there, offline, so that nothing is left in the repository.
 """
 import os, shutil, subprocess, tempfile
 HERE = os.path.dirname(os.path.abspath(__file__))
 REFERENCE = os.path.join(HERE, '..', '..', 'reference')
-MANIFEST = '[package]\nname = "driver"\nversion = "0.1.0"\nedition = "2021"\n\n[dependencies]\nwagner-reference = { path = "../reference" }\n'
+MANIFEST = """[package]
+name = "driver"
+version = "0.1.0"
+edition = "2021"
+
+[dependencies]
+wagner-reference = { path = "../reference" }
+"""
 
 
 def write(crate):

@@ -1,6 +1,6 @@
--- For the layer `place_unasked` and the private contracts alone: a reader has to believe `Placing.antt`, and not this file, which is proved to
--- be that placement on every tree that the questions let pass (`proofs/Unasked.antt` `unasked-placed`). What a placement without its
--- questions does with every matrix, tree and number, by the rows of a lent matrix.
+-- For the layer `place_unasked` and private contracts alone: a reader has to believe `Placing.antt`, and not this file. What a placement
+-- without its questions does with every matrix, tree and number, by the rows of a lent matrix; on every tree that the questions let pass it
+-- is the placement of `Placing.antt` (`proofs/Unasked.antt` `unasked-placed`).
 use mathlib.Core.Path.{_≡_}
 use mathlib.Core.List.{List}
 use mathlib.Core.Bool.{cond, _&&_}
