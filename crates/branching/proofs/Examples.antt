@@ -3,6 +3,7 @@ use mathlib.Core.Path.{_≡_, refl}
 use mathlib.Core.List.{List, [], _∷_}
 use mathlib.Core.Bool.{Bool, true, false}
 use Prim.Native.Nat.{ℕ}
+use lib.ListN.{replicate}
 use Rattle.lists.specs.Numbers.{numbers}
 use Rattle.matrix.specs.Shape.{lastNode}
 use Rattle.lists.specs.Tests.{every, sameNumbers}
@@ -21,70 +22,32 @@ unfolding numbers lastNode ancestor descendants hasAncestor inTree keep nodesIn 
     branchesRead ancestorsOf sameNumbers namedInOrder lentBranching
 growing tree = growingTree 4 tree
 
--- row 1 alone
-row-one-alone : growing (0 ∷ 0 ∷ 0 ∷ 0 ∷ 0 ∷ 0 ∷ 0 ∷ 0 ∷ []) ≡ true
+-- growing trees of four taxa: row 1 alone; a link to row 1; three taxa with one HTU; all four with two HTUs
+growing-trees : growing (0 ∷ 0 ∷ 0 ∷ 0 ∷ 0 ∷ 0 ∷ 0 ∷ 0 ∷ [])
+    ∷ growing (0 ∷ 0 ∷ 0 ∷ 0 ∷ 1 ∷ 0 ∷ 0 ∷ 0 ∷ [])
+    ∷ growing (0 ∷ 0 ∷ 5 ∷ 0 ∷ 5 ∷ 1 ∷ 0 ∷ 0 ∷ [])
+    ∷ growing (0 ∷ 0 ∷ 6 ∷ 6 ∷ 5 ∷ 1 ∷ 5 ∷ 0 ∷ [])
+    ∷ []
+    ≡ true ∷ true ∷ true ∷ true ∷ []
 unfolding growing
-row-one-alone = refl
+growing-trees = refl
 
--- a link to row 1
-two-taxa : growing (0 ∷ 0 ∷ 0 ∷ 0 ∷ 1 ∷ 0 ∷ 0 ∷ 0 ∷ []) ≡ true
+-- none: node 1 has two descendants; the HTU of three taxa is node 6 instead of node 5; a taxon has a descendant; going up from node 3 runs
+-- in a ring; node 1 has an ancestor; a number beyond the nodes has one; place 0, that of no node, holds a number; a node is its own
+-- ancestor; an ancestor is no node
+other-trees : growing (0 ∷ 0 ∷ 1 ∷ 0 ∷ 1 ∷ 0 ∷ 0 ∷ 0 ∷ [])
+    ∷ growing (0 ∷ 0 ∷ 6 ∷ 0 ∷ 6 ∷ 0 ∷ 1 ∷ 0 ∷ [])
+    ∷ growing (0 ∷ 0 ∷ 1 ∷ 0 ∷ 2 ∷ 0 ∷ 0 ∷ 0 ∷ [])
+    ∷ growing (0 ∷ 0 ∷ 1 ∷ 6 ∷ 5 ∷ 6 ∷ 5 ∷ 0 ∷ [])
+    ∷ growing (0 ∷ 2 ∷ 1 ∷ 0 ∷ 0 ∷ 0 ∷ 0 ∷ 0 ∷ [])
+    ∷ growing (0 ∷ 0 ∷ 1 ∷ 0 ∷ 0 ∷ 0 ∷ 0 ∷ 1 ∷ [])
+    ∷ growing (1 ∷ 0 ∷ 1 ∷ 0 ∷ 0 ∷ 0 ∷ 0 ∷ 0 ∷ [])
+    ∷ growing (0 ∷ 0 ∷ 1 ∷ 3 ∷ 0 ∷ 0 ∷ 0 ∷ 0 ∷ [])
+    ∷ growing (0 ∷ 0 ∷ 1000000000000000000 ∷ 0 ∷ 1 ∷ 0 ∷ 0 ∷ 0 ∷ [])
+    ∷ []
+    ≡ replicate 9 false
 unfolding growing
-two-taxa = refl
-
--- three taxa with one HTU
-three-taxa : growing (0 ∷ 0 ∷ 5 ∷ 0 ∷ 5 ∷ 1 ∷ 0 ∷ 0 ∷ []) ≡ true
-unfolding growing
-three-taxa = refl
-
--- all four with two HTUs
-four-taxa : growing (0 ∷ 0 ∷ 6 ∷ 6 ∷ 5 ∷ 1 ∷ 5 ∷ 0 ∷ []) ≡ true
-unfolding growing
-four-taxa = refl
-
--- wrong: node 1 has two descendants
-two-below-node-one : growing (0 ∷ 0 ∷ 1 ∷ 0 ∷ 1 ∷ 0 ∷ 0 ∷ 0 ∷ []) ≡ false
-unfolding growing
-two-below-node-one = refl
-
--- wrong: the HTU of three taxa is node 6 instead of node 5
-wrong-htu : growing (0 ∷ 0 ∷ 6 ∷ 0 ∷ 6 ∷ 0 ∷ 1 ∷ 0 ∷ []) ≡ false
-unfolding growing
-wrong-htu = refl
-
--- wrong: a taxon has a descendant
-taxon-above : growing (0 ∷ 0 ∷ 1 ∷ 0 ∷ 2 ∷ 0 ∷ 0 ∷ 0 ∷ []) ≡ false
-unfolding growing
-taxon-above = refl
-
--- wrong: going up from node 3 runs in a ring
-ring : growing (0 ∷ 0 ∷ 1 ∷ 6 ∷ 5 ∷ 6 ∷ 5 ∷ 0 ∷ []) ≡ false
-unfolding growing
-ring = refl
-
--- wrong: node 1 has an ancestor
-root-below : growing (0 ∷ 2 ∷ 1 ∷ 0 ∷ 0 ∷ 0 ∷ 0 ∷ 0 ∷ []) ≡ false
-unfolding growing
-root-below = refl
-
--- wrong: a number beyond the nodes has one
-beyond : growing (0 ∷ 0 ∷ 1 ∷ 0 ∷ 0 ∷ 0 ∷ 0 ∷ 1 ∷ []) ≡ false
-unfolding growing
-beyond = refl
-
--- wrong: place 0, that of no node, holds a number
-place-zero : growing (1 ∷ 0 ∷ 1 ∷ 0 ∷ 0 ∷ 0 ∷ 0 ∷ 0 ∷ []) ≡ false
-unfolding growing
-place-zero = refl
-
--- wrong: a node is its own ancestor
-own-ancestor : growing (0 ∷ 0 ∷ 1 ∷ 3 ∷ 0 ∷ 0 ∷ 0 ∷ 0 ∷ []) ≡ false
-unfolding growing
-own-ancestor = refl
-
--- wrong: an ancestor is no node
-far-ancestor : growing (0 ∷ 0 ∷ 1000000000000000000 ∷ 0 ∷ 1 ∷ 0 ∷ 0 ∷ 0 ∷ []) ≡ false
-unfolding growing
-far-ancestor = refl
+other-trees = refl
 
 -- a branch record whose length is not read
 branch : ℕ → ℕ → Branch
@@ -95,17 +58,12 @@ lent : List Branch → Bool
 unfolding growing branch
 lent records = lentBranching 3 records
 
--- the first three records are read, and the others not
-lent-three : lent (branch 2 4 ∷ branch 3 4 ∷ branch 4 1 ∷ branch 9 9 ∷ []) ≡ true
+-- the first three records are read, and the others not; records that do not stand by node number, and a growing tree in which one taxon is
+-- not placed, are no branching
+lent-three : lent (branch 2 4 ∷ branch 3 4 ∷ branch 4 1 ∷ branch 9 9 ∷ [])
+    ∷ lent (branch 3 4 ∷ branch 2 4 ∷ branch 4 1 ∷ [])
+    ∷ lent (branch 2 1 ∷ branch 3 0 ∷ branch 4 0 ∷ [])
+    ∷ []
+    ≡ true ∷ false ∷ false ∷ []
 unfolding lent
 lent-three = refl
-
--- wrong: the records do not stand by node number
-out-of-order : lent (branch 3 4 ∷ branch 2 4 ∷ branch 4 1 ∷ []) ≡ false
-unfolding lent
-out-of-order = refl
-
--- wrong: a growing tree in which one taxon is not placed
-not-all : lent (branch 2 1 ∷ branch 3 0 ∷ branch 4 0 ∷ []) ≡ false
-unfolding lent
-not-all = refl

@@ -27,7 +27,8 @@ use Rattle.branching.specs.Ancestors.{ancestor}
 use Rattle.branching.specs.Growing.{rowOneAlone, grown, growingTree, branching}
 use Rattle.branching.specs.Facts.{Branching}
 use Rattle.branching.specs.Within.{branchingWithin}
-use Rattle.branching.specs.Branches.{branchOf, branchRecords, withRecords, branchesRead, ancestorsOf, placesOf, namedInOrder, lentBranching}
+use Rattle.branching.specs.Branches.{branchOf, branchRecords, withRecords, branchesRead}
+use Rattle.branching.specs.Branches.{ancestorsOf, placesOf, namedInOrder, lentBranching}
 use Rattle.branching.proofs.Test.{alone-iff, branching-iff}
 use Rattle.branching.proofs.Whole.{growing-same}
 use Rattle.branching.proofs.Places.{same-test}
@@ -115,7 +116,8 @@ module _ (records : List Branch) (size : length records ≡ 125) where
 
   module _ (n : ℕ) (most : n ≤ 64) where
     -- the record at i and those behind it
-    named-step : (i : ℕ) → i < 2 * n - 3 → namedFrom records n i ≡ (eqb (getD records i noBranch .node) (i + 2) && namedFrom records n (i + 1))
+    named-step : (i : ℕ) → i < 2 * n - 3
+        → namedFrom records n i ≡ (eqb (getD records i noBranch .node) (i + 2) && namedFrom records n (i + 1))
     unfolding sameNumbers numbers
     named-step i h =
         let f : Branch → ℕ = λ (branch : Branch). branch .node in
@@ -212,7 +214,8 @@ pub lent-places : (n : ℕ) (records : List Branch) → n ≤ 64
 unfolding lentBranching
 lent-places n records most =
     ap (λ (t : Bool). namedInOrder n records && t)
-    (sym (branching-plain n (placesOf n records) most ∙ branching-same n (placesOf n records) (ancestorsOf n records) (places-ancestors n records)))
+    (sym (branching-plain n (placesOf n records) most
+    ∙ branching-same n (placesOf n records) (ancestorsOf n records) (places-ancestors n records)))
 
 -- the records of a branching written over a list of 125
 module _ (d : ℕ → ℕ → ℕ) (n : ℕ) (tree : List ℕ) (old : List Branch) (size : length old ≡ 125) (most : n ≤ 64) where
@@ -256,4 +259,6 @@ module _ (d : ℕ → ℕ → ℕ) (n : ℕ) (tree : List ℕ) (old : List Branc
         ext-getD 0 (placesOf n (withRecords d n tree old)) tree (all ∙ sym places) (λ v h. same v)
       where
         same : (v : ℕ) → ancestor (placesOf n (withRecords d n tree old)) v ≡ ancestor tree v
-        same v = places-ancestors n (withRecords d n tree old) v ∙ ap (λ (t : List ℕ). ancestor t v) ancestors-written ∙ sym (records-same d n tree b v)
+        same v =
+            places-ancestors n (withRecords d n tree old) v ∙ ap (λ (t : List ℕ). ancestor t v) ancestors-written
+            ∙ sym (records-same d n tree b v)

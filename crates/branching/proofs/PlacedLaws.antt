@@ -1,4 +1,5 @@
--- The placement that is handed back, in the terms of the call: which codes of the matrix it writes, and that it is not refused by the next one.
+-- The placement that is handed back, in the terms of the call: which codes of the matrix it writes, and that it is not refused by the
+-- next one.
 use mathlib.Core.Path.{_≡_, sym, ap, _∙_}
 use mathlib.Core.Bool.{true, false, false≢true}
 use mathlib.Core.List.{List}
@@ -21,7 +22,8 @@ use Rattle.branching.specs.Placed.{lastRow, placeIn, matrixPlaced, place
 use Rattle.branching.proofs.Test.{alone-iff}
 use Rattle.branching.proofs.Passed.{placement-asked}
 use Rattle.branching.proofs.Unasked.{written-first}
-use Rattle.branching.proofs.Standing.{Standing, asked-standing, standing-passes, placed-size, placed-else, placed-standing, placed-medians}
+use Rattle.branching.proofs.Standing.{Standing, asked-standing, standing-passes}
+use Rattle.branching.proofs.Standing.{placed-size, placed-else, placed-standing, placed-medians}
 
 -- a placement that passed its questions, on a tree with 127 places
 module _ (codes : List ℤ) (n m : ℕ) (tree : List ℕ) (b : ℕ) (pass : askPlacement codes n m tree b ≡ Passed) (places : length tree ≡ 127)
@@ -52,7 +54,8 @@ module _ (codes : List ℤ) (n m : ℕ) (tree : List ℕ) (b : ℕ) (pass : askP
         ≡ medianRow (rowsOf codes m (lastRow n tree)) b (placeIn codes n m tree b .placement .lower)
         (ancestor tree (placeIn codes n m tree b .placement .lower))
     htu-medians several-taxa =
-        ap (row (matrixPlaced codes n m tree b) m) (htu-next several-taxa) ∙ go (stands .growing) (placed-medians codes n m (taxaPlaced n tree) tree stands b unplaced)
+        ap (row (matrixPlaced codes n m tree b) m) (htu-next several-taxa)
+        ∙ go (stands .growing) (placed-medians codes n m (taxaPlaced n tree) tree stands b unplaced)
       where
         go : {k : ℕ} {A : Type 0} → GrowingTree n tree k → (Grown n k tree → A) → A
         go (alone none) f = absurd (false≢true (sym several-taxa ∙ alone-iff tree .1 none))

@@ -12,7 +12,7 @@ use Rattle.lists.specs.Over.{over}
 use Rattle.lists.specs.Least.{leastOf, scanned}
 use Rattle.lists.specs.Filters.{keep}
 use Rattle.lists.specs.Numbers.{numbers}
-use Rattle.lists.proofs.Least.{scan-start, scan-fails, scan-first, scan-less, scan-stays}
+use Rattle.lists.proofs.Least.{scan-start, step-fails, step-first, step-less, step-stays}
 use Rattle.lists.proofs.Over.{over-lent, over-least}
 use Rattle.matrix.specs.Shape.{row, rowStart}
 use Rattle.matrix.specs.NodeRows.{withRow}
@@ -42,48 +42,38 @@ nearest-start codes m tree b =
     record { lower = sym (scan-start (intervalAt codes m tree b) (inTree tree) 2); added = λ some. absurd (some refl) }
 
 -- from the nearest interval of those below c to that of those below c + 1
-module _ (codes : List ℤ) (m : ℕ) (tree : List ℕ) (b c : ℕ) (low : 2 ≤ c) (best : Nearest) (below : NearestBelow codes m tree b c best) where
+module _ (codes : List ℤ) (m : ℕ) (tree : List ℕ) (b c : ℕ) (low : 2 ≤ c) (best : Nearest)
+    (below : NearestBelow codes m tree b c best) where
   -- the interval difference by which it is searched
   abbrev key : ℕ → ℕ
   key v = intervalAt codes m tree b v
 
   -- a node that is not in the tree is passed over
   pub nearer-out : inTree tree c ≡ false → NearestBelow codes m tree b (c + 1) best
-  nearer-out out = record { lower = below .lower ∙ sym (scan-fails key (inTree tree) 2 c low out); added = below .added }
+  nearer-out out =
+      record { lower = step-fails key (inTree tree) 2 c (best .lower) low (below .lower) out; added = below .added }
 
   module _ (inside : inTree tree c ≡ true) (added : ℕ) (is : added ≡ intervalAt codes m tree b c) where
     -- the first interval is taken
     pub nearer-first : best .lower ≡ 0 → NearestBelow codes m tree b (c + 1) (record { lower = c; added = added })
     nearer-first none =
         record {
-          lower = sym (scan-first key (inTree tree) 2 c low inside (omega arith) (sym (below .lower) ∙ none));
+          lower = step-first key (inTree tree) 2 c (best .lower) low (below .lower) inside (omega arith) none;
           added = λ some. is;
         }
 
     module _ (some : best .lower ≢ 0) where
-      -- an interval is found
-      found : scanned key (inTree tree) 2 c ≢ 0
-      found e = some (below .lower ∙ e)
-
-      -- its interval difference
-      found-key : key (scanned key (inTree tree) 2 c) ≡ best .added
-      found-key = ap key (sym (below .lower)) ∙ sym (below .added some)
-
       -- a nearer one is taken
       pub nearer-moves : added < best .added → NearestBelow codes m tree b (c + 1) (record { lower = c; added = added })
       nearer-moves less =
-          record {
-            lower = sym (scan-less key (inTree tree) 2 c low inside found (rw (found-key, sym is) less));
-            added = λ some. is;
-          }
+          let nearer : key c < key (best .lower) = rw (sym is, sym (below .added some)) less in
+          record { lower = step-less key (inTree tree) 2 c (best .lower) low (below .lower) inside some nearer; added = λ some. is }
 
       -- one that is not nearer is passed over
       pub nearer-stays : best .added ≤ added → NearestBelow codes m tree b (c + 1) best
       nearer-stays more =
-          record {
-            lower = below .lower ∙ sym (scan-stays key (inTree tree) 2 c low inside found (rw (found-key, sym is) more));
-            added = below .added;
-          }
+          let farther : key (best .lower) ≤ key c = rw (sym is, sym (below .added some)) more in
+          record { lower = step-stays key (inTree tree) 2 c (best .lower) low (below .lower) inside some farther; added = below .added }
 
 -- all nodes gone through, it is the nearest interval
 pub nearest-end : (codes : List ℤ) (n m : ℕ) (tree : List ℕ) (b c : ℕ) (r : Nearest) → c ≡ 2 + (2 * n - 3) → NearestBelow codes m tree b c r

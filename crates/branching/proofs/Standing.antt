@@ -59,7 +59,8 @@ asked-standing codes n m tree b asked places =
       places = places;
       known = λ v low high.
           let mem = numbers-among (n + 1) (taxaPlaced n tree - 2) v (omega arith) (omega arith) in
-          or-cases (leb v n) (allInRange (row codes m v)) (every-iff (htuInRange codes n m) (numbers (n + 1) (taxaPlaced n tree - 2)) .0 (asked .htus) v mem)
+          or-cases (leb v n) (allInRange (row codes m v))
+          (every-iff (htuInRange codes n m) (numbers (n + 1) (taxaPlaced n tree - 2)) .0 (asked .htus) v mem)
           (λ e. absurd (omega (arith, leb-true v n e))) (λ e. e);
     }
 
@@ -131,7 +132,8 @@ module _ (codes : List ℤ) (n m k : ℕ) (tree : List ℕ) (s : Standing codes 
     pub data Step : Type 0 where
       first : k ≡ 1 → placeIn codes n m tree b .rows ≡ rows → matrixPlaced codes n m tree b ≡ codes → Step
       later : 2 ≤ k → (r : List ℤ) → length r ≡ m → allInRange r ≡ true
-          → placeIn codes n m tree b .rows ≡ rows ++ (r ∷ []) → matrixPlaced codes n m tree b ≡ withRow codes (suc (lastRow n tree)) r → Step
+          → placeIn codes n m tree b .rows ≡ rows ++ (r ∷ []) → matrixPlaced codes n m tree b ≡ withRow codes (suc (lastRow n tree)) r
+          → Step
 
     -- a link to row 1
     step-first : ((v : ℕ) → ancestor tree v ≡ 0) → k ≡ 1 → Step
@@ -197,7 +199,8 @@ module _ (codes : List ℤ) (n m k : ℕ) (tree : List ℕ) (s : Standing codes 
     unfolding placeIn linkFirst nodeDifference
     link-most none =
         rw (place-first difference n tree rows b none)
-        (rows-most b 1 (omega (arith, u .other)) (omega (arith, u .taxon, last-is)) (omega arith) (omega (arith, s .matrix .taxon, last-is)))
+        (rows-most b 1 (omega (arith, u .other)) (omega (arith, u .taxon, last-is)) (omega arith)
+        (omega (arith, s .matrix .taxon, last-is)))
 
     -- and the length that a hanging adds
     hanging-most : Grown n k tree → placeIn codes n m tree b .placement .added ≤ 255744
@@ -256,7 +259,8 @@ module _ (codes : List ℤ) (n m k : ℕ) (tree : List ℕ) (s : Standing codes 
         go (first one same kept) = ap (λ (all : List ℤ). row all m v) kept
         go (later two r long known more written) =
             ap (λ (all : List ℤ). row all m v) written
-            ∙ withRow-other codes (suc (lastRow n tree)) r (omega (arith, s .matrix .characters)) m v (s .matrix .characters) low (omega arith)
+            ∙ withRow-other codes (suc (lastRow n tree)) r (omega (arith, s .matrix .characters)) m v (s .matrix .characters) low
+            (omega arith)
             (λ e. omega arith)
 
     -- there is room for the row
@@ -278,7 +282,8 @@ module _ (codes : List ℤ) (n m k : ℕ) (tree : List ℕ) (s : Standing codes 
         go (later two r long known more written) =
             let last : lastRow n (placeIn codes n m tree b .tree) ≡ lastRow n tree + 1 = omega (arith, placed-last, last-is) in
             ap₂ (λ (all : List ℤ) (count : ℕ). rowsOf all m count) (written ∙ sym (one-row codes (suc (lastRow n tree)) r)) last
-            ∙ withRows-rows codes m (lastRow n tree) (r ∷ []) (only r long) (s .matrix .characters) (omega (arith, row-fits some-left, s .matrix .full, s .matrix .taxa, last-is, some-left))
+            ∙ withRows-rows codes m (lastRow n tree) (r ∷ []) (only r long) (s .matrix .characters)
+            (omega (arith, row-fits some-left, s .matrix .full, s .matrix .taxa, last-is, some-left))
             ∙ sym more
           where
             only : (r : List ℤ) → length r ≡ m → (i : ℕ) → i < length (r ∷ []) → length (getD (r ∷ []) i []) ≡ m

@@ -156,7 +156,8 @@ module _ (codes : List ℤ) (n m : ℕ) (most : n ≤ 64) (narrow : m ≤ 128) (
     -- row 1 alone has no interval
     none-at : nearestAt codes m n tree b ≡ 0
     unfolding nearestAt
-    none-at = leastOf-none (intervalAt codes m tree b) (nodesIn tree (otherNodes n)) (λ v mem. omega (arith, node-nodesIn tree n v mem, none v))
+    none-at =
+        leastOf-none (intervalAt codes m tree b) (nodesIn tree (otherNodes n)) (λ v mem. omega (arith, node-nodesIn tree n v mem, none v))
 
     -- the taxon is linked to row 1, and nothing is written
     linked-placed : AsPlaced codes n m tree b (unasked codes n m tree b)

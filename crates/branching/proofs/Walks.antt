@@ -146,7 +146,8 @@ module _ (last count : ℕ) (tree nodes : List ℕ) (placed : List Bool) (most :
     one-less =
         let before = length-keep (λ u. not (stands placed u)) (numbers 2 (last - 1)) in
         let after = length-keep (λ u. not (stands (set placed v true) u)) (numbers 2 (last - 1)) in
-        let gone : counted (not (stands (set placed v true) v)) ≡ 0 = ap (λ (b : Bool). counted (not b)) (stands-new placed v (omega arith)) in
+        let gone : counted (not (stands (set placed v true) v)) ≡ 0 =
+        ap (λ (b : Bool). counted (not b)) (stands-new placed v (omega arith)) in
         let there : counted (not (stands placed v)) ≡ 1 = ap (λ (b : Bool). counted (not b)) free in
         let change =
         sum-changed
@@ -241,7 +242,8 @@ all-found last tree nodes placed w v l h =
         omega (arith, mem-length (mem-keep (λ u. not (stands placed u)) (numbers 2 (last - 1)) v m (ap not f)))
 
 -- a walk that has grown to its last node is a walk over the branching
-pub walked-all : (n : ℕ) (tree nodes : List ℕ) (placed : List Bool) → Walked (lastNode n) (lastNode n) tree nodes placed → WalkOf n tree nodes
+pub walked-all : (n : ℕ) (tree nodes : List ℕ) (placed : List Bool) → Walked (lastNode n) (lastNode n) tree nodes placed
+    → WalkOf n tree nodes
 walked-all n tree nodes placed w = record {
   first = w .first;
   within = w .within;

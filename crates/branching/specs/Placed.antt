@@ -11,8 +11,7 @@ use Rattle.branching.specs.declared.placement.Placed.{Placed}
 use Rattle.branching.specs.Ancestors.{ancestors}
 use Rattle.branching.specs.Nodes.{taxaPlaced}
 use Rattle.branching.specs.Asking.{askPlacement}
-use Rattle.branching.specs.Placing.{AfterPlacing, place}
-use Rattle.branching.specs.Unasked.{noPlacement}
+use Rattle.branching.specs.Placing.{AfterPlacing, noPlacement, place}
 
 -- the last node that has a row: the n taxa, and behind them the HTUs of a growing tree with k of them placed, the last of which is n+k-2
 unfoldable pub lastRow : ℕ → List ℕ → ℕ
@@ -30,8 +29,8 @@ matrixPlaced codes n m tree b = withRows codes (suc (lastRow n tree)) (drop (las
 unfoldable pub placementSays : List ℤ → ℕ → ℕ → List ℕ → ℕ → Outcome (Unit {0})
 placementSays codes n m tree b = askedSays (askPlacement codes n m tree b)
 
--- the answer: what the questions say, the tree one taxon larger, what was done, and the matrix with the HTU's row; on a refusal the tree and
--- the matrix are as before, and the placement is one of zeros
+-- the answer: what the questions say, the tree one taxon larger, what was done, and the matrix with the HTU's row; on a refusal the tree
+-- and the matrix are as before, and the placement is one of zeros
 pub record PlacementDone (codes new : List ℤ) (n m : ℕ) (before : List ℕ) (b : ℕ) (r : Placed) : Type 0 where
   pub says : askedSays (r .asked) ≡ placementSays codes n m before b
   pub tree : ancestors (r .tree) ≡ afterwards (placementSays codes n m before b) (placeIn codes n m before b .tree) before

@@ -17,6 +17,10 @@ pub record AfterPlacing : Type 0 where
   pub rows : List (List ℤ)
   pub placement : Placement
 
+-- a placement of zeros
+abbrev pub noPlacement : Placement
+noPlacement = record { taxon = 0; lower = 0; upper = 0; htu = 0; added = 0 }
+
 -- the median row of three nodes
 unfoldable pub medianRow : List (List ℤ) → ℕ → ℕ → ℕ → List ℤ
 medianRow rows b c e = medians (rowOf rows b) (rowOf rows c) (rowOf rows e)

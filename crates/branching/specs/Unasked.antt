@@ -1,5 +1,6 @@
--- A placement without its questions, by the rows of a lent matrix: what it does with every matrix, tree and number. On a tree that the
--- questions let pass it is the placement of `Placing.antt` (`proofs/Unasked.antt`).
+-- For the layer `place_unasked` and private contracts alone: a reader has to believe `Placing.antt`, and not this file. What a placement
+-- without its questions does with every matrix, tree and number, by the rows of a lent matrix; on every tree that the questions let pass it
+-- is the placement of `Placing.antt` (`proofs/Unasked.antt` `unasked-placed`).
 use mathlib.Core.Path.{_≡_}
 use mathlib.Core.List.{List}
 use mathlib.Core.Bool.{cond, _&&_}
@@ -7,7 +8,7 @@ use Prim.Native.Nat.{ℕ, zero, suc}
 use lib.Dec.{leb}
 use lib.IntN.{ℤ}
 use Rattle.lists.specs.Least.{leastOf}
-use Rattle.matrix.specs.Shape.{row}
+use Rattle.matrix.specs.Shape.{mostTaxa, mostCharacters, row}
 use Rattle.matrix.specs.NodeRows.{withRow}
 use Rattle.difference.specs.Rows.{difference, medians, intervalDifference}
 use Rattle.branching.specs.declared.placement.Placement.{Placement}
@@ -15,10 +16,7 @@ use Rattle.branching.specs.declared.placement.Unasked.{Unasked}
 use Rattle.branching.specs.Ancestors.{ancestors, ancestor}
 use Rattle.branching.specs.Nodes.{nodesIn, otherNodes}
 use Rattle.branching.specs.Hanging.{linked, hung, nextHtu}
-
--- a placement of zeros
-abbrev pub noPlacement : Placement
-noPlacement = record { taxon = 0; lower = 0; upper = 0; htu = 0; added = 0 }
+pub use Rattle.branching.specs.Placing.{noPlacement}
 
 -- what a placement leaves: the tree, what was done, and the codes of the matrix
 pub record AfterUnasked : Type 0 where
@@ -64,7 +62,7 @@ module _ (codes : List ℤ) (m : ℕ) where
 -- taxon b placed on its interval; nothing is done for more than 64 taxa or more than 128 characters
 unfoldable pub unasked : List ℤ → ℕ → ℕ → List ℕ → ℕ → AfterUnasked
 unasked codes n m tree b =
-    cond (leb n 64 && leb m 128)
+    cond (leb n mostTaxa && leb m mostCharacters)
     (placedAt codes m n tree b (nearestAt codes m n tree b))
     (record { tree = tree; placement = noPlacement; codes = codes })
 

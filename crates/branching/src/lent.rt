@@ -4,6 +4,7 @@ use crate::tree::Tree;
 use matrix::MOST_TAXA;
 ghost use mathlib.Core.Path.{_≡_};
 ghost use Prim.Native.Nat.{_*_, _-_, _≤_, min};
+ghost use Rattle.matrix.specs.Shape.{mostTaxa};
 ghost use Rattle.branching.specs.Ancestors.{ancestors};
 ghost use Rattle.branching.specs.Branches.{lengthsBy, branchOf, withRecords, placesOf, namedInOrder, lentBranching};
 
@@ -67,7 +68,7 @@ pub fn tree_of(records: [Branch; 125], n: usize) -> Tree
 
 // Whether the first 2n-3 records name nodes 2 to 2n-2 in order.
 fn named_in_order(records: [Branch; 125], n: usize) -> bool
-    requires { ⌜ n ≤ 64 ⌝ }
+    requires { ⌜ n ≤ mostTaxa ⌝ }
     ensures { λ r. ⌜ r ≡ namedInOrder n records ⌝ }
 {
     let count = record_count(n);

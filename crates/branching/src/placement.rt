@@ -15,12 +15,14 @@ ghost use mathlib.Core.Path.{_≡_};
 ghost use Prim.Native.Nat.{_+_, _*_, _-_, _≤_};
 ghost use lib.ListN.{length, take};
 ghost use Rattle.lists.specs.Over.{over};
-ghost use Rattle.matrix.specs.Shape.{row};
+ghost use Rattle.matrix.specs.Shape.{mostTaxa, mostCharacters, row};
 ghost use Rattle.matrix.specs.NodeRows.{withRow};
 ghost use Rattle.difference.specs.Rows.{difference, medians};
 ghost use Rattle.branching.specs.Ancestors.{ancestors};
-ghost use Rattle.branching.specs.Unasked.{intervalAt, mediansAt, linkedAt, hungAt, UnaskedDone, noPlacement};
+ghost use Rattle.branching.specs.Unasked.{intervalAt, mediansAt, linkedAt, hungAt, UnaskedDone};
+ghost use Rattle.branching.specs.Placing.{noPlacement};
 ghost use Rattle.branching.specs.Nearest.{NearestBelow, NearestOf, Leaves};
+ghost use Rattle.branching.specs.Asking.{askPlacement};
 ghost use Rattle.branching.specs.Placed.{PlacementDone};
 
 // The taxon, the lower end of its interval (0: none), the upper end, the new HTU (0: none), the length added.
@@ -66,7 +68,7 @@ pub fn no_placement() -> Placement
 
 // The number behind the last node of a tree of n taxa, and 2 for one taxon.
 fn nodes_end(n: usize) -> usize
-    requires { ⌜ n ≤ 64 ⌝ }
+    requires { ⌜ n ≤ mostTaxa ⌝ }
     ensures { λ r. ⌜ r ≡ 2 + (2 * n - 3) ⌝ }
 {
     if n < 2 {
@@ -77,7 +79,7 @@ fn nodes_end(n: usize) -> usize
 
 // The interval difference of taxon b from the interval between c and its immediate ancestor.
 fn from_interval(matrix: &[i32], m: usize, tree: Tree, b: usize, c: usize) -> u64
-    requires { ⌜ m ≤ 128 ⌝ }
+    requires { ⌜ m ≤ mostCharacters ⌝ }
     ensures { λ r. ⌜ r ≡ intervalAt (now (matrix .entry)) m (ancestors tree) b c ⌝ }
 {
     let above = tree.ancestor(c);
@@ -86,8 +88,9 @@ fn from_interval(matrix: &[i32], m: usize, tree: Tree, b: usize, c: usize) -> u6
 
 // Of the nearest interval of those gone through and that of node c, the nearer one: that of c if c is in the tree and nearer.
 fn nearer(best: Nearest, matrix: &[i32], m: usize, tree: Tree, b: usize, c: usize) -> Nearest
-    requires { ⌜ (m ≤ 128) × (2 ≤ c) ⌝ }
-    ensures { λ r. ⌜ (NearestBelow (now (matrix .entry)) m (ancestors tree) b c best → NearestBelow (now (matrix .entry)) m (ancestors tree) b (c + 1) r) ⌝ }
+    requires { ⌜ (m ≤ mostCharacters) × (2 ≤ c) ⌝ }
+    ensures { λ r. ⌜ (NearestBelow (now (matrix .entry)) m (ancestors tree) b c best
+        → NearestBelow (now (matrix .entry)) m (ancestors tree) b (c + 1) r) ⌝ }
 {
     if !tree.in_tree(c) {
         return best;
@@ -104,7 +107,7 @@ fn nearer(best: Nearest, matrix: &[i32], m: usize, tree: Tree, b: usize, c: usiz
 
 // The interval of least interval difference, the least node number among equals.
 fn nearest_interval(matrix: &[i32], n: usize, m: usize, tree: Tree, b: usize) -> Nearest
-    requires { ⌜ (n ≤ 64) × (m ≤ 128) ⌝ }
+    requires { ⌜ (n ≤ mostTaxa) × (m ≤ mostCharacters) ⌝ }
     ensures { λ r. ⌜ NearestOf (now (matrix .entry)) n m (ancestors tree) b r ⌝ }
 {
     let end = nodes_end(n);
@@ -120,7 +123,8 @@ fn nearest_interval(matrix: &[i32], n: usize, m: usize, tree: Tree, b: usize) ->
 // Writes the medians of three rows over the front of a list.
 fn write_three(out: &mut [i32], b: RowCopy, c: RowCopy, e: RowCopy)
     requires { ⌜ (b .count ≤ length (b .codes)) × (c .count ≤ length (c .codes)) × (e .count ≤ length (e .codes)) ⌝ }
-    ensures { λ _. ⌜ now (out .exit) ≡ over 0 (medians (take (b .count) (b .codes)) (take (c .count) (c .codes)) (take (e .count) (e .codes))) (now (out .entry)) ⌝ }
+    ensures { λ _. ⌜ now (out .exit) ≡ over 0
+        (medians (take (b .count) (b .codes)) (take (c .count) (c .codes)) (take (e .count) (e .codes))) (now (out .entry)) ⌝ }
 {
     let b_codes = b.codes;
     let b_count = b.count;
@@ -138,7 +142,7 @@ fn write_three(out: &mut [i32], b: RowCopy, c: RowCopy, e: RowCopy)
 
 // Writes the median codes of nodes b, c and e into the row of node y. The three rows are copied out before.
 fn write_htu(matrix: &mut [i32], m: usize, b: usize, c: usize, e: usize, y: usize)
-    requires { ⌜ m ≤ 128 ⌝ }
+    requires { ⌜ m ≤ mostCharacters ⌝ }
     ensures { λ _. ⌜ now (matrix .exit) ≡ withRow (now (matrix .entry)) y (mediansAt (now (matrix .entry)) m b c e) ⌝ }
 {
     let b_row = row_copy(matrix, m, b);
@@ -151,7 +155,7 @@ fn write_htu(matrix: &mut [i32], m: usize, b: usize, c: usize, e: usize, y: usiz
 impl Tree {
     // Taxon b linked to row 1.
     fn link_first(self, matrix: &[i32], m: usize, b: usize) -> Unasked
-        requires { ⌜ m ≤ 128 ⌝ }
+        requires { ⌜ m ≤ mostCharacters ⌝ }
         ensures { λ r. ⌜ Leaves (linkedAt (now (matrix .entry)) m (ancestors self) b) (now (matrix .entry)) r ⌝ }
     {
         let added = difference(row(matrix, m, b), row(matrix, m, 1));
@@ -177,7 +181,7 @@ impl Tree {
         c: usize,
         added: u64,
     ) -> Unasked
-        requires { ⌜ (n ≤ 64) × (m ≤ 128) × (added ≡ intervalAt (now matrix) m (ancestors self) b c) ⌝ }
+        requires { ⌜ (n ≤ mostTaxa) × (m ≤ mostCharacters) × (added ≡ intervalAt (now matrix) m (ancestors self) b c) ⌝ }
         ensures { λ r. ⌜ Leaves (hungAt (now (matrix .entry)) m n (ancestors self) b c) (now (matrix .exit)) r ⌝ }
     {
         let upper = self.ancestor(c);
@@ -195,21 +199,25 @@ impl Tree {
         }
     }
 
+    // The tree as it is, with a placement of zeros.
+    fn unplaced(self) -> Unasked
+        ensures { λ r. ⌜ (r .tree ≡ self) × (r .placement ≡ noPlacement) ⌝ }
+    {
+        Unasked {
+            tree: self,
+            placement: no_placement(),
+        }
+    }
+
     // Taxon b placed on its interval, without the questions of a placement; nothing is done for more than 64 taxa or 128 characters.
     pub fn place_unasked(self, matrix: &mut [i32], n: usize, m: usize, b: usize) -> Unasked
         ensures { λ r. ⌜ UnaskedDone (now (matrix .entry)) (now (matrix .exit)) n m (ancestors self) b r ⌝ }
     {
         if MOST_TAXA < n {
-            return Unasked {
-                tree: self,
-                placement: no_placement(),
-            };
+            return self.unplaced();
         }
         if MOST_CHARACTERS < m {
-            return Unasked {
-                tree: self,
-                placement: no_placement(),
-            };
+            return self.unplaced();
         }
         let nearest = nearest_interval(matrix, n, m, self, b);
         if nearest.lower == 0 {
@@ -218,17 +226,22 @@ impl Tree {
         self.hang_on(matrix, n, m, b, nearest.lower, nearest.added)
     }
 
-    // The placement of taxon b on a tree handed in, with its questions: the tree comes out one taxon larger, and the codes of the new HTU are
-    // written into its row of the matrix. A refused placement hands the tree back unchanged, and writes nothing.
-    pub fn place(self, matrix: &mut [i32], n: usize, m: usize, b: usize) -> Placed
+    // The placement of taxon b after its questions: done where they passed; a refusal hands the tree back unchanged, and writes nothing.
+    fn place_asked(self, asked: Asked, matrix: &mut [i32], n: usize, m: usize, b: usize) -> Placed
+        requires { ⌜ asked ≡ askPlacement (now matrix) n m (ancestors self) b ⌝ }
         ensures { λ r. ⌜ PlacementDone (now (matrix .entry)) (now (matrix .exit)) n m (ancestors self) b r ⌝ }
     {
-        match ask_placement(matrix, n, m, self, b) {
-            Asked::Refused(refusal) => Placed {
-                asked: Asked::Refused(refusal),
-                tree: self,
-                placement: no_placement(),
-            },
+        match asked {
+            Asked::Refused(refusal) => {
+                let kept = self.unplaced();
+                let tree = kept.tree;
+                let placement = kept.placement;
+                Placed {
+                    asked: Asked::Refused(refusal),
+                    tree,
+                    placement,
+                }
+            }
             Asked::Passed => {
                 let done = self.place_unasked(matrix, n, m, b);
                 let tree = done.tree;
@@ -240,5 +253,14 @@ impl Tree {
                 }
             }
         }
+    }
+
+    // The placement of taxon b on a tree handed in, with its questions: the tree comes out one taxon larger, and the codes of the new HTU
+    // are written into its row of the matrix. A refused placement hands the tree back unchanged, and writes nothing.
+    pub fn place(self, matrix: &mut [i32], n: usize, m: usize, b: usize) -> Placed
+        ensures { λ r. ⌜ PlacementDone (now (matrix .entry)) (now (matrix .exit)) n m (ancestors self) b r ⌝ }
+    {
+        let asked = ask_placement(matrix, n, m, self, b);
+        self.place_asked(asked, matrix, n, m, b)
     }
 }

@@ -10,13 +10,14 @@ use matrix::refusal::Asked;
 use matrix::refusal::Refusal;
 ghost use mathlib.Core.Path.{_≡_};
 ghost use Prim.Native.Nat.{_+_, _-_, _≤_};
+ghost use Rattle.matrix.specs.Shape.{mostTaxa};
 ghost use Rattle.matrix.specs.Questions.{htusInRange};
 ghost use Rattle.branching.specs.Ancestors.{ancestors};
 ghost use Rattle.branching.specs.Asking.{htusOf, askPlacement, askBranching, askRecords};
 
 // The number behind the last HTU of a growing tree of n taxa, k of them placed.
 fn htus_end(n: usize, k: usize) -> usize
-    requires { ⌜ (n ≤ 64) × (k ≤ n) ⌝ }
+    requires { ⌜ (n ≤ mostTaxa) × (k ≤ n) ⌝ }
     ensures { λ r. ⌜ r ≡ n + 1 + (k - 2) ⌝ }
 {
     if k < 2 {
@@ -27,7 +28,7 @@ fn htus_end(n: usize, k: usize) -> usize
 
 // Whether the rows of the HTUs of a growing tree of n taxa have codes from -999 to 999.
 fn htus_right(matrix: &[i32], n: usize, m: usize, tree: Tree) -> bool
-    requires { ⌜ n ≤ 64 ⌝ }
+    requires { ⌜ n ≤ mostTaxa ⌝ }
     ensures { λ r. ⌜ r ≡ htusInRange (now (matrix .entry)) n m (htusOf n (ancestors tree)) ⌝ }
 {
     let end = htus_end(n, tree.taxa_placed(n));
@@ -49,10 +50,12 @@ pub fn ask_placement(matrix: &[i32], n: usize, m: usize, tree: Tree, b: usize) -
     match ask_matrix(matrix, n, m) {
         Asked::Refused(refusal) => Asked::Refused(refusal),
         Asked::Passed => {
-            if !one_to(n, b) {
+            let exists = one_to(n, b);
+            let growing = tree.is_growing(n);
+            if !exists {
                 return Asked::Refused(Refusal::NotThere);
             }
-            if !tree.is_growing(n) {
+            if !growing {
                 return Asked::Refused(Refusal::NotBranching);
             }
             if tree.in_tree(b) {

@@ -3,6 +3,7 @@ use matrix::MOST_TAXA;
 ghost use mathlib.Core.Path.{_≡_};
 ghost use Prim.Native.Nat.{_≤_, min};
 ghost use lib.ListN.{set};
+ghost use Rattle.matrix.specs.Shape.{mostTaxa};
 ghost use Rattle.branching.specs.Ancestors.{ancestors, ancestor};
 ghost use Rattle.branching.specs.Nodes.{inTree, taxaPlaced};
 ghost use Rattle.branching.specs.Growing.{descendantCount, descendantsWanted, climbs, rowOneAlone, grown};
@@ -107,7 +108,7 @@ impl Tree {
 
     // Of how many nodes node v is the immediate ancestor.
     fn descendant_count(self, n: usize, v: usize) -> usize
-        requires { ⌜ (2 ≤ n) × (n ≤ 64) ⌝ }
+        requires { ⌜ (2 ≤ n) × (n ≤ mostTaxa) ⌝ }
         ensures { λ r. ⌜ r ≡ descendantCount n (ancestors self) v ⌝ }
     {
         let end = 2 * n - 1;
@@ -140,7 +141,7 @@ impl Tree {
 
     // Whether node v, which has an ancestor, is right.
     fn node_right(self, n: usize, v: usize) -> bool
-        requires { ⌜ (2 ≤ n) × (n ≤ 64) ⌝ }
+        requires { ⌜ (2 ≤ n) × (n ≤ mostTaxa) ⌝ }
         ensures { λ r. ⌜ r ≡ nodeRight n (ancestors self) v ⌝ }
     {
         if !self.in_tree(self.ancestor(v)) {
@@ -154,7 +155,7 @@ impl Tree {
 
     // Whether place v of a tree of k taxa is right.
     fn place_right(self, n: usize, k: usize, v: usize) -> bool
-        requires { ⌜ (2 ≤ n) × (n ≤ 64) × (2 ≤ k) × (k ≤ n) ⌝ }
+        requires { ⌜ (2 ≤ n) × (n ≤ mostTaxa) × (2 ≤ k) × (k ≤ n) ⌝ }
         ensures { λ r. ⌜ r ≡ placeRight n k (ancestors self) v ⌝ }
     {
         let last = n + k - 2;
@@ -172,7 +173,7 @@ impl Tree {
 
     // Whether the tree is one of k taxa, the number placed.
     fn is_grown(self, n: usize, k: usize) -> bool
-        requires { ⌜ (n ≤ 64) × (k ≡ taxaPlaced n (ancestors self)) ⌝ }
+        requires { ⌜ (n ≤ mostTaxa) × (k ≡ taxaPlaced n (ancestors self)) ⌝ }
         ensures { λ r. ⌜ r ≡ grown n k (ancestors self) ⌝ }
     {
         if k < 2 {

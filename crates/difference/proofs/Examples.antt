@@ -1,16 +1,28 @@
 -- Computed: which question of a call on a matrix of two taxa and one character refuses, and that the earlier one does where two would.
 use mathlib.Core.Path.{_≡_, refl}
-use mathlib.Core.List.{List}
+use mathlib.Core.List.{List, [], _∷_}
 use Prim.Native.Nat.{ℕ}
 use lib.IntN.{ℤ, pos, negsuc}
 use lib.ListN.{replicate, set}
 use Rattle.lists.specs.Numbers.{numbers}
 use Rattle.lists.specs.Tests.{every}
 use Rattle.matrix.specs.Shape.{matrixSize, row, inRange, lastNode}
+use Rattle.matrix.specs.declared.refusal.Refusal.the-variants.{BeyondLimits, CodeRange, ListSize, NotThere}
 use Rattle.matrix.specs.Outcomes.{Outcome, value, refused, askedSays}
 use Rattle.matrix.specs.Questions.{oneTo, withinLimits, allInRange, rowsInRange, askMatrix, nodesExist, htuInRange, htusInRange, askNodes}
 use Rattle.difference.specs.Rows.{apart, difference, intervalBy}
-use Rattle.difference.specs.Calls.{differenceAnswer, intervalAnswer, askMedians}
+use Rattle.difference.specs.Calls.{lengthSays, differenceAnswer, intervalAnswer, askMedians}
+use Rattle.difference.specs.declared.calls.Length.the-variants.{Is, Refused}
+
+-- what a length handed back says: the length; or the number of the refusal, with line 0
+length-says : lengthSays (Is 7)
+    ∷ lengthSays (Refused ListSize)
+    ∷ lengthSays (Refused BeyondLimits)
+    ∷ lengthSays (Refused CodeRange)
+    ∷ lengthSays (Refused NotThere)
+    ∷ []
+    ≡ value 7 ∷ refused 12 0 ∷ refused 4 0 ∷ refused 10 0 ∷ refused 13 0 ∷ []
+length-says = refl
 
 -- a matrix of zeros
 abbrev zeros : List ℤ

@@ -4,9 +4,10 @@ use mathlib.Core.List.{List}
 use Prim.Native.Nat.{ℕ, _*_, _≤_, _^_}
 use lib.IntN.{ℤ}
 use lib.ListN.{take}
+use Rattle.matrix.specs.Shape.{mostCharacters}
 use Rattle.difference.specs.Rows.{difference}
 
 -- r is the difference of two rows of 32-bit codes, over their first 128 characters, each of which adds at most 2 ^ 32
 pub record DifferenceOf (xs ys : List ℤ) (r : ℕ) : Type 0 where
-  pub is : r ≡ difference (take 128 xs) (take 128 ys)
-  pub most : r ≤ 128 * 2 ^ 32
+  pub is : r ≡ difference (take mostCharacters xs) (take mostCharacters ys)
+  pub most : r ≤ mostCharacters * 2 ^ 32

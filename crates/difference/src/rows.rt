@@ -1,9 +1,11 @@
 // Difference, medians and interval difference of rows of any length.
 use crate::codes::apart;
 use crate::codes::median;
+use matrix::MOST_CHARACTERS;
 use matrix::rows::least;
 ghost use mathlib.Core.Path.{_≡_};
 ghost use lib.ListN.{take};
+ghost use Rattle.matrix.specs.Shape.{mostCharacters};
 ghost use Rattle.difference.specs.Answers.{DifferenceOf};
 ghost use Rattle.lists.specs.Over.{over};
 ghost use Rattle.difference.specs.Rows.{medians, intervalDifference};
@@ -12,7 +14,7 @@ ghost use Rattle.difference.specs.Rows.{medians, intervalDifference};
 pub fn difference(xs: &[i32], ys: &[i32]) -> u64
     ensures { λ r. ⌜ DifferenceOf (now (xs .entry)) (now (ys .entry)) r ⌝ }
 {
-    let count = least(128, least(xs.len(), ys.len()));
+    let count = least(MOST_CHARACTERS, least(xs.len(), ys.len()));
     let mut sum = 0;
     let mut j = 0;
     while j < count {
@@ -24,7 +26,8 @@ pub fn difference(xs: &[i32], ys: &[i32]) -> u64
 
 // The interval difference of b from the interval between c and d, over their first 128 characters.
 pub fn interval_difference(b: &[i32], c: &[i32], d: &[i32]) -> u64
-    ensures { λ r. ⌜ r ≡ intervalDifference (take 128 (now (b .entry))) (take 128 (now (c .entry))) (take 128 (now (d .entry))) ⌝ }
+    ensures { λ r. ⌜ r ≡ intervalDifference (take mostCharacters (now (b .entry))) (take mostCharacters (now (c .entry)))
+        (take mostCharacters (now (d .entry))) ⌝ }
 {
     let ends = difference(b, c) + difference(b, d);
     let across = difference(c, d);

@@ -52,6 +52,12 @@ module _ {A : Type 0} where
   length-mem [] h = absurd (omega arith)
   length-mem (v ∷ vs) h = (v, List·Memᴰ·head refl)
 
+  -- tests that agree on a list keep the same of it
+  pub keep-congr : (p q : A → Bool) (vs : List A) → ((v : A) → List·Memᴰ v vs → p v ≡ q v) → keep p vs ≡ keep q vs
+  unfolding keep
+  keep-congr p q [] h = refl
+  keep-congr p q (u ∷ us) h = rw (h u (List·Memᴰ·head refl), keep-congr p q us (λ v m. h v (List·Memᴰ·tail m)))
+
   -- what is kept by a test and by its opposite is all
   pub keep-split : (test : A → Bool) (vs : List A) → length (keep test vs) + length (keep (λ v. not (test v)) vs) ≡ length vs
   unfolding keep one-more
@@ -146,7 +152,8 @@ module _ {A : Type 0} where
   keep-twice p q r (u ∷ us) h =
       go (q u) (p u) (r u) refl (h u (List·Memᴰ·head refl)) (keep-twice p q r us (λ v m. h v (List·Memᴰ·tail m)))
     where
-      go : (a b c : Bool) → p u ≡ b → c ≡ (a && b) → keep p (keep q us) ≡ keep r us → keep p (one-more a u (keep q us)) ≡ one-more c u (keep r us)
+      go : (a b c : Bool) → p u ≡ b → c ≡ (a && b) → keep p (keep q us) ≡ keep r us
+          → keep p (one-more a u (keep q us)) ≡ one-more c u (keep r us)
       go true true c pu e rest =
           ap (λ (t : Bool). one-more t u (keep p (keep q us))) pu
           ∙ ap (λ (list : List A). u ∷ list) rest

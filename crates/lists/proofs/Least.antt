@@ -292,3 +292,22 @@ module _ (key : ℕ → ℕ) (test : ℕ → Bool) (first : ℕ) where
         -- otherwise the one chosen so far stays
         pub scan-stays : key (scanned key test first v) ≤ key v → scanned key test first (v + 1) ≡ scanned key test first v
         scan-stays h = compared ∙ ap (λ (t : Bool). cond t v (scanned key test first v)) (le-ltb (key v) (key (scanned key test first v)) h)
+
+  -- one step of a scan, from what is chosen of the numbers before v to what is chosen of those up to v
+  module _ (v best : ℕ) (low : first ≤ v) (is : best ≡ scanned key test first v) where
+    -- a number that fails the test is passed over
+    pub step-fails : test v ≡ false → best ≡ scanned key test first (v + 1)
+    step-fails fails = is ∙ sym (scan-fails v low fails)
+
+    module _ (passes : test v ≡ true) where
+      -- the first one that passes is chosen
+      pub step-first : 1 ≤ first → best ≡ 0 → v ≡ scanned key test first (v + 1)
+      step-first positive none = sym (scan-first v low passes positive (sym is ∙ none))
+
+      -- one of lesser key is chosen
+      pub step-less : best ≢ 0 → key v < key best → v ≡ scanned key test first (v + 1)
+      step-less some less = sym (scan-less v low passes (λ z. some (is ∙ z)) (rw (← is) less))
+
+      -- otherwise the one chosen so far stays
+      pub step-stays : best ≢ 0 → key best ≤ key v → best ≡ scanned key test first (v + 1)
+      step-stays some more = is ∙ sym (scan-stays v low passes (λ z. some (is ∙ z)) (rw (← is) more))

@@ -120,7 +120,8 @@ module _ {A : Type 0} where
       written = omega (arith, length-take i xs)
 
   -- only as much is written as the list has room for
-  pub over-part : (place k : ℕ) (xs old : List A) → min (length old - place) (length xs) ≤ k → over place (take k xs) old ≡ over place xs old
+  pub over-part : (place k : ℕ) (xs old : List A) → min (length old - place) (length xs) ≤ k
+      → over place (take k xs) old ≡ over place xs old
   unfolding over
   over-part zero zero [] old h = refl
   over-part zero (suc k) [] old h = refl

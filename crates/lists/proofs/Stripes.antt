@@ -111,7 +111,8 @@ over-one place x old =
     sym (rw (over-nothing place old, here) at (over-snoc place [] old x))
 
 -- an item written before the place from which a list is written over
-over-set : {A : Type 0} (place : ℕ) (xs old : List A) (a : ℕ) (x : A) → a < place → set (over place xs old) a x ≡ over place xs (set old a x)
+over-set : {A : Type 0} (place : ℕ) (xs old : List A) (a : ℕ) (x : A) → a < place
+    → set (over place xs old) a x ≡ over place xs (set old a x)
 unfolding over
 over-set zero xs old a x h = absurd (omega arith)
 over-set (suc place) xs [] a x h = refl
@@ -130,7 +131,8 @@ stripes-set width place (item ∷ items) old a x h =
 -- single items written at a fixed width, for consecutive numbers: a column
 module _ {A : Type 0} (width place : ℕ) (f : ℕ → A) (first : ℕ) (old : List A) where
   -- one more is written into its own place
-  pub column-next : (count : ℕ) → set (stripes width place (map (λ v. f v ∷ []) (numbers first count)) old) (place + count * width) (f (first + count))
+  pub column-next : (count : ℕ)
+      → set (stripes width place (map (λ v. f v ∷ []) (numbers first count)) old) (place + count * width) (f (first + count))
       ≡ stripes width place (map (λ v. f v ∷ []) (numbers first (suc count))) old
   column-next count =
       let items : ℕ → List A = λ v. f v ∷ [] in

@@ -115,7 +115,8 @@ module _ (codes : List ℤ) (m count : ℕ) (rows : List (List ℤ)) (each : (i 
 
   -- a code behind the codes of such a row, or in a row behind them all, stays
   pub withRows-else : (k j : ℕ) → j < columns → (k < length rows → m ≤ j)
-      → getD (withRows codes (suc count) rows) (rowStart (suc (count + k)) + j) (pos 0) ≡ getD codes (rowStart (suc (count + k)) + j) (pos 0)
+      → getD (withRows codes (suc count) rows) (rowStart (suc (count + k)) + j) (pos 0) ≡ getD codes (rowStart (suc (count + k)) + j)
+      (pos 0)
   unfolding withRows
   withRows-else k j h behind =
       let place : rowStart (suc (count + k)) + j ≡ rowStart (suc count) + k * columns + j = omega arith in
@@ -133,7 +134,8 @@ module _ (codes : List ℤ) (m count : ℕ) (rows : List (List ℤ)) (each : (i 
       → rowsOf (withRows codes (suc count) rows) m (count + length rows) ≡ rowsOf codes m count ++ rows
   withRows-rows room =
       ext-getD [] (rowsOf new m all) (rowsOf codes m count ++ rows)
-      (length-rowsOf new m all ∙ sym (length-append (rowsOf codes m count) rows ∙ ap (λ (k : ℕ). k + length rows) (length-rowsOf codes m count)))
+      (length-rowsOf new m all
+      ∙ sym (length-append (rowsOf codes m count) rows ∙ ap (λ (k : ℕ). k + length rows) (length-rowsOf codes m count)))
       (λ i h. at i (omega (arith, length-rowsOf new m all)))
     where
       all : ℕ

@@ -52,7 +52,8 @@ rowsInRange-at codes m n e v low high =
     rw place at (every-at (λ u. allInRange (row codes m u)) (numbers 1 n) e (v - 1) 0 (rw length-numbers (omega arith)))
 
 -- each of rows 1 to n in range: so are they all
-pub rowsInRange-from : (codes : List ℤ) (m n : ℕ) → ((v : ℕ) → 1 ≤ v → v ≤ n → allInRange (row codes m v) ≡ true) → rowsInRange codes m n ≡ true
+pub rowsInRange-from : (codes : List ℤ) (m n : ℕ) → ((v : ℕ) → 1 ≤ v → v ≤ n → allInRange (row codes m v) ≡ true)
+    → rowsInRange codes m n ≡ true
 unfolding rowsInRange
 rowsInRange-from codes m n h = every-from (λ u. allInRange (row codes m u)) 0 (numbers 1 n) each
   where

@@ -9,7 +9,7 @@ use lib.ListN.{length}
 use Rattle.lists.specs.Numbers.{numbers}
 use Rattle.lists.specs.Tests.{every}
 use Rattle.matrix.specs.Outcomes.{ask, andThen}
-use Rattle.matrix.specs.Shape.{matrixSize, row, inRange, lastNode}
+use Rattle.matrix.specs.Shape.{mostTaxa, mostCharacters, matrixSize, row, inRange, lastNode}
 use Rattle.matrix.specs.declared.refusal.Refusal.the-variants.{BeyondLimits, CodeRange, ListSize, NotThere}
 use Rattle.matrix.specs.declared.refusal.Asked.{Asked}
 use Rattle.matrix.specs.declared.refusal.Asked.the-variants.{Passed}
@@ -20,7 +20,7 @@ oneTo last item = leb 1 item && leb item last
 
 -- n is 1 to 64 and m is 1 to 128
 unfoldable pub withinLimits : ℕ → ℕ → Bool
-withinLimits n m = oneTo 64 n && oneTo 128 m
+withinLimits n m = oneTo mostTaxa n && oneTo mostCharacters m
 
 -- all codes of a row are from -999 to 999
 unfoldable pub allInRange : List ℤ → Bool
@@ -40,9 +40,9 @@ askMatrix codes n m =
 pub record LentMatrix (codes : List ℤ) (n m : ℕ) : Type 0 where
   pub full : length codes ≡ matrixSize
   pub taxon : 1 ≤ n
-  pub taxa : n ≤ 64
+  pub taxa : n ≤ mostTaxa
   pub character : 1 ≤ m
-  pub characters : m ≤ 128
+  pub characters : m ≤ mostCharacters
   pub known : (v : ℕ) → 1 ≤ v → v ≤ n → allInRange (row codes m v) ≡ true
 
 -- every node of a list is one of 1 to the last node

@@ -7,6 +7,14 @@ use lib.Dec.{leb}
 use lib.IntN.{ℤ, natAbs}
 use lib.ListN.{take, drop}
 
+-- a matrix has at most 64 taxa
+abbrev pub mostTaxa : ℕ
+mostTaxa = 64
+
+-- and at most 128 characters
+abbrev pub mostCharacters : ℕ
+mostCharacters = 128
+
 -- a row has 128 codes
 abbrev pub columns : ℕ
 columns = 128

@@ -9,7 +9,7 @@ use crate::refusal::Asked;
 use crate::refusal::Refusal;
 use crate::rows::row;
 ghost use mathlib.Core.Path.{_≡_};
-ghost use Rattle.matrix.specs.Shape.{row, inRange, lastNode};
+ghost use Rattle.matrix.specs.Shape.{mostTaxa, row, inRange, lastNode};
 ghost use Rattle.matrix.specs.Questions.{withinLimits, oneTo, allInRange, rowsInRange, askMatrix};
 ghost use Rattle.matrix.specs.Questions.{nodesExist, htuInRange, htusInRange, askNodes};
 ghost use Prim.Native.Nat.{_≤_};
@@ -81,7 +81,7 @@ pub fn ask_matrix(matrix: &[i32], n: usize, m: usize) -> Asked
 
 // The last node: 2n-2, and for n = 1 node 1.
 fn last_node(n: usize) -> usize
-    requires { ⌜ n ≤ 64 ⌝ }
+    requires { ⌜ n ≤ mostTaxa ⌝ }
     ensures { λ r. ⌜ r ≡ lastNode n ⌝ }
 {
     if n < 2 {
@@ -92,7 +92,7 @@ fn last_node(n: usize) -> usize
 
 // Whether every node of a list exists.
 fn nodes_exist(n: usize, nodes: &[usize]) -> bool
-    requires { ⌜ n ≤ 64 ⌝ }
+    requires { ⌜ n ≤ mostTaxa ⌝ }
     ensures { λ r. ⌜ r ≡ nodesExist n (now (nodes .entry)) ⌝ }
 {
     let last = last_node(n);

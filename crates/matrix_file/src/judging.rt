@@ -27,6 +27,7 @@ use matrix::refusal::Refusal;
 ghost use mathlib.Core.Path.{_≡_};
 ghost use Prim.Native.Nat.{_≤_};
 ghost use lib.ListN.{length};
+ghost use Rattle.matrix.specs.Shape.{mostTaxa};
 ghost use Rattle.matrix.specs.Outcomes.{ask};
 ghost use Rattle.matrix_file.specs.Job.{nameForm, differsFromAll};
 ghost use Rattle.matrix_file.specs.Lines.{linesOf, fieldsOf};
@@ -108,7 +109,7 @@ fn ask_row(line: &[u8], header: Header, rows: &[u8], starts: &[usize], count: us
 
 // For each row in turn: is there another line, ended by a line feed? Its own questions. Row 1 stands in line `first`.
 fn ask_rows(rows: &[u8], header: Header, first: usize) -> RowsAnswer
-    requires { ⌜ (header .n ≤ 64) × (1 ≤ header .m) × (first ≤ 64) ⌝ }
+    requires { ⌜ (header .n ≤ mostTaxa) × (1 ≤ header .m) × (first ≤ mostTaxa) ⌝ }
     ensures { λ r. ⌜ RowsAsked (now (rows .entry)) header first r ⌝ }
 {
     let n = header.n;
@@ -156,7 +157,7 @@ fn ask_end(rest: &[u8]) -> Asked
 
 // The questions put to what stands behind the header: the rows, and then the end of the file.
 fn ask_behind(rows: &[u8], header: Header) -> Read
-    requires { ⌜ (header .n ≤ 64) × (1 ≤ header .m) ⌝ }
+    requires { ⌜ (header .n ≤ mostTaxa) × (1 ≤ header .m) ⌝ }
     ensures { λ r. ⌜ readSays r ≡ withHeader (askBehind header (linesOf (now (rows .entry)))) ⌝ }
 {
     match ask_rows(rows, header, HEADER_LINES + 1) {

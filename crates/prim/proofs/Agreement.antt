@@ -23,7 +23,8 @@ module _ (d d′ : ℕ → ℕ → ℕ) (n : ℕ) (agree : (x y : ℕ) → IsTax
     unfolding distance nearestPlaced
     distance-agrees v t =
         rw (nearest-agrees v t)
-        (agree v (nearestPlaced d′ later v) t (placed-taxon n later all (omega arith) (nearestPlaced d′ later v) (firstLeast-mem (d′ v) 1 later)))
+        (agree v (nearestPlaced d′ later v) t
+        (placed-taxon n later all (omega arith) (nearestPlaced d′ later v) (firstLeast-mem (d′ v) 1 later)))
 
     -- so is the next link
     next-agrees : (us : List ℕ) → ((v : ℕ) → List·Memᴰ v us → IsTaxon n v) → next d later us ≡ next d′ later us

@@ -1,19 +1,21 @@
 -- Laws of the choice of the next taxon, from what is kept of the taxa.
 use mathlib.Core.Path.{_≡_, refl, sym, ap, _∙_}
-use mathlib.Core.Bool.{true, false, false≢true}
-use mathlib.Core.List.{List, [], _∷_, _++_, List·Memᴰ}
+use mathlib.Core.Bool.{true, false, not}
+use mathlib.Core.List.{List, [], _∷_, List·Memᴰ}
 use mathlib.Core.Logic.{_≢_}
-use Prim.Native.Nat.{ℕ, zero, suc, _+_, _-_, _≤_, _<_, max}
+use Prim.Native.Nat.{ℕ, zero, suc, _+_, _-_, _≤_, _<_}
 use native.Mathlib.Omega.{arith}
-use Rattle.lists.specs.Least.{firstLeast}
+use Rattle.lists.specs.Tests.{among}
+use Rattle.lists.specs.Filters.{keep, without}
+use Rattle.lists.specs.Least.{firstLeast, leastOf, scanned}
 use Rattle.lists.specs.Numbers.{numbers}
-use Rattle.lists.proofs.Least.{firstLeast-mem}
-use Rattle.lists.proofs.Numbers.{numbers-snoc, mem-numbers}
+use Rattle.lists.proofs.Keep.{keep-congr}
+use Rattle.lists.proofs.Least.{firstLeast-mem, leastOf-congr, step-fails, step-first, step-less, step-stays}
+use Rattle.lists.proofs.Numbers.{numbers-within}
 use Rattle.prim.specs.Network.{Link, unplaced, distance, link, next}
-use Rattle.prim.specs.Growing.{keptAt, unplacedBelow, Keeps, placing, NextBelow, Nearer}
+use Rattle.prim.specs.Growing.{keptDistance, keptUnplaced, Keeps, placing, Nearer, NextTaxon}
 use Rattle.prim.specs.declared.network.Kept.{Kept}
-use Rattle.prim.proofs.Unplaced.{decideMem, mem-unplaced, of-without, without-snoc-among, without-snoc-not-among}
-use Rattle.prim.proofs.Placing.{next-first, next-less, next-stays}
+use Rattle.prim.proofs.Unplaced.{decideMem, mem-among, not-among, mem-unplaced}
 
 module _ (d : ℕ → ℕ → ℕ) (later : List ℕ) where
   -- where no taxon is the next one, there is none
@@ -35,82 +37,41 @@ module _ (d : ℕ → ℕ → ℕ) (later : List ℕ) where
   placing-taxon zero h = absurd (h refl)
   placing-taxon (suc v) h = refl
 
--- the taxa below v + 1 are those below v, and v
-below-next : (v : ℕ) → 2 ≤ v → numbers 2 (v + 1 - 2) ≡ numbers 2 (v - 2) ++ (v ∷ [])
-below-next v h =
-    let one : v + 1 - 2 ≡ suc (v - 2) = omega arith in
-    let last : 2 + (v - 2) ≡ v = omega arith in
-    rw one (numbers-snoc 2 (v - 2) ∙ ap (λ (w : ℕ). numbers 2 (v - 2) ++ (w ∷ [])) last)
+module _ (d : ℕ → ℕ → ℕ) (later : List ℕ) where
+  -- the next link of taxa from 2 on places the first of the least distance
+  next-least : (us : List ℕ) → ((u : ℕ) → List·Memᴰ u us → 2 ≤ u) → next d later us ≡ placing d later (leastOf (distance d later) us)
+  unfolding next leastOf
+  next-least [] low = refl
+  next-least (u ∷ us) low =
+      let some : firstLeast (distance d later) u us ≢ 0 = λ z. absurd (omega (arith, low _ (firstLeast-mem (distance d later) u us))) in
+      sym (placing-taxon d later (firstLeast (distance d later) u us) some)
 
 module _ (d : ℕ → ℕ → ℕ) (n : ℕ) (later : List ℕ) (taxa : List Kept) (keeps : Keeps d n later taxa) where
-  -- a taxon that is kept as placed is placed
-  kept-placed : (v : ℕ) → 2 ≤ v → v ≤ n → keptAt taxa v .placed ≡ true → List·Memᴰ v later
-  kept-placed v low high e = at (decideMem v later)
+  -- a taxon of 2 to n is kept as unplaced exactly if it is
+  kept-test : (v : ℕ) → List·Memᴰ v (numbers 2 (n - 1)) → keptUnplaced taxa v ≡ not (among v later)
+  kept-test v m = at (decideMem v later)
     where
-      at : Dec (List·Memᴰ v later) → List·Memᴰ v later
-      at (yes m) = m
+      at : Dec (List·Memᴰ v later) → keptUnplaced taxa v ≡ not (among v later)
+      at (yes k) = rw (keeps .placed v k, mem-among v later k)
       at (no out) =
-          let same = keeps .unplaced v (mem-unplaced n later v .1 (low, high, out)) in
-          absurd (false≢true (sym (ap (λ (k : Kept). k .placed) same) ∙ e))
+          let w = numbers-within 2 (n - 1) v m in
+          let same = keeps .unplaced v (mem-unplaced n later v .1 (w .0, omega arith, out)) in
+          rw (ap (λ (k : Kept). k .placed) same, not-among v later out)
 
-  -- a taxon that is kept as unplaced is not placed
-  kept-unplaced : (v : ℕ) → keptAt taxa v .placed ≡ false → ¬ List·Memᴰ v later
-  kept-unplaced v e m = false≢true (sym e ∙ keeps .placed v m)
-
-  module _ (best v : ℕ) (low : 2 ≤ v) (high : v ≤ n) (so-far : NextBelow d later v best) where
-    -- a placed taxon is passed over
-    next-passed : keptAt taxa v .placed ≡ true → NextBelow d later (v + 1) best
-    next-passed e =
-        rw (below-next v low, without-snoc-among later (numbers 2 (v - 2)) v (kept-placed v low high e)) so-far
-
-    module _ (free : keptAt taxa v .placed ≡ false) where
-      -- v is not placed
-      out : ¬ List·Memᴰ v later
-      out = kept-unplaced v free
-
-      -- how far v is, as it is kept
-      kept-distance : keptAt taxa v .distance ≡ distance d later v
-      kept-distance = ap (λ (k : Kept). k .distance) (keeps .unplaced v (mem-unplaced n later v .1 (low, high, out)))
-
-      -- it is the last of the unplaced taxa below v + 1
-      one-more : unplacedBelow (v + 1) later ≡ unplacedBelow v later ++ (v ∷ [])
-      one-more = rw (below-next v low, without-snoc-not-among later (numbers 2 (v - 2)) v out)
-
-      -- the first unplaced taxon is taken
-      next-taken : best ≡ 0 → NextBelow d later (v + 1) v
-      next-taken e =
-          let none = next-none d later (unplacedBelow v later) (so-far ∙ ap (placing d later) e) in
-          rw (one-more, none) (next-first d later v ∙ sym (placing-taxon d later v (λ z. absurd (omega arith))))
-
-      module _ (some : best ≢ 0) where
-        -- a next taxon was found
-        found : next d later (unplacedBelow v later) ≡ link d later best ∷ []
-        found = so-far ∙ placing-taxon d later best some
-
-        -- how far that one is, as it is kept
-        best-distance : keptAt taxa best .distance ≡ distance d later best
-        best-distance =
-            let m = of-without later (numbers 2 (v - 2)) best (next-mem d later (unplacedBelow v later) best found) in
-            let within = mem-numbers 2 (v - 2) best .0 (m .0) in
-            ap (λ (k : Kept). k .distance) (keeps .unplaced best (mem-unplaced n later best .1 (omega arith, omega arith, m .1)))
-
-        -- a nearer taxon is taken
-        next-moves : keptAt taxa v .distance < keptAt taxa best .distance → NextBelow d later (v + 1) v
-        unfolding link
-        next-moves h =
-            let nearer : distance d later v < distance d later best = rw (kept-distance, best-distance) at h in
-            rw one-more
-            (next-less d later (unplacedBelow v later) v (link d later best) found nearer
-            ∙ sym (placing-taxon d later v (λ z. absurd (omega arith))))
-
-        -- one that is not nearer is passed over
-        next-keeps : keptAt taxa best .distance ≤ keptAt taxa v .distance → NextBelow d later (v + 1) best
-        unfolding link
-        next-keeps h =
-            let farther : distance d later best ≤ distance d later v = rw (kept-distance, best-distance) at h in
-            rw one-more
-            (next-stays d later (unplacedBelow v later) v (link d later best) found farther
-            ∙ sym (placing-taxon d later best some))
+  -- a scan by what is kept finds the taxon to place next
+  pub next-kept : (r : ℕ) → NextTaxon taxa n r → next d later (unplaced n later) ≡ placing d later r
+  unfolding unplaced without scanned
+  next-kept r found =
+      let count : 2 + (n - 1) - 2 ≡ n - 1 = omega arith in
+      let us = unplaced n later in
+      let known : (v : ℕ) → List·Memᴰ v us → keptDistance taxa v ≡ distance d later v =
+      λ v m. ap (λ (k : Kept). k .distance) (keeps .unplaced v m) in
+      next-least d later us (λ u m. mem-unplaced n later u .0 m .0)
+      ∙ ap (placing d later)
+      (sym (found .is
+      ∙ ap (λ (k : ℕ). leastOf (keptDistance taxa) (keep (keptUnplaced taxa) (numbers 2 k))) count
+      ∙ ap (leastOf (keptDistance taxa)) (keep-congr (keptUnplaced taxa) (λ v. not (among v later)) (numbers 2 (n - 1)) kept-test)
+      ∙ leastOf-congr (keptDistance taxa) (distance d later) us known))
 
 -- the taxon to place next of those gone through and taxon v, from what is kept of the two
 module _ (best : ℕ) (bestKept : Kept) (v : ℕ) (kept : Kept) where
@@ -118,8 +79,7 @@ module _ (best : ℕ) (bestKept : Kept) (v : ℕ) (kept : Kept) where
   pub nearer-placed : kept .placed ≡ true → Nearer best bestKept v kept best
   nearer-placed e = record {
     among = omega arith;
-    is = λ d n later taxa keeps b k low high so-far.
-        next-passed d n later taxa keeps best v low high so-far (ap (λ (q : Kept). q .placed) k ∙ e);
+    is = λ key test b k t low so-far. step-fails key test 2 v best low so-far (t ∙ ap not e);
   }
 
   module _ (free : kept .placed ≡ false) where
@@ -127,28 +87,26 @@ module _ (best : ℕ) (bestKept : Kept) (v : ℕ) (kept : Kept) where
     pub nearer-first : best ≡ 0 → Nearer best bestKept v kept v
     nearer-first none = record {
       among = omega arith;
-      is = λ d n later taxa keeps b k low high so-far.
-          next-taken d n later taxa keeps best v low high so-far (ap (λ (q : Kept). q .placed) k ∙ free) none;
+      is = λ key test b k t low so-far. step-first key test 2 v best low so-far (t ∙ ap not free) (omega arith) none;
     }
 
     -- it is taken if it is nearer to the network
     pub nearer-moves : best ≢ 0 → kept .distance < bestKept .distance → Nearer best bestKept v kept v
     nearer-moves some h = record {
       among = omega arith;
-      is = λ d n later taxa keeps b k low high so-far.
-          next-moves d n later taxa keeps best v low high so-far (ap (λ (q : Kept). q .placed) k ∙ free) some (rw (b, k) h);
+      is = λ key test b k t low so-far. step-less key test 2 v best low so-far (t ∙ ap not free) some (rw (b, k) h);
     }
 
     -- otherwise it is passed over
     pub nearer-stays : best ≢ 0 → bestKept .distance ≤ kept .distance → Nearer best bestKept v kept best
     nearer-stays some h = record {
       among = omega arith;
-      is = λ d n later taxa keeps b k low high so-far.
-          next-keeps d n later taxa keeps best v low high so-far (ap (λ (q : Kept). q .placed) k ∙ free) some (rw (b, k) h);
+      is = λ key test b k t low so-far. step-stays key test 2 v best low so-far (t ∙ ap not free) some (rw (b, k) h);
     }
 
--- at the end of the taxa, the one to place next of those gone through is the one to place next
-pub next-of-all : (d : ℕ → ℕ → ℕ) (n : ℕ) (later : List ℕ) (v best : ℕ) → n < v → v ≤ max (n + 1) 2 → NextBelow d later v best
-    → next d later (unplaced n later) ≡ placing d later best
-unfolding unplaced
-next-of-all d n later v best past within e = let same : v - 2 ≡ n - 1 = omega arith in rw same at e
+-- all taxa gone through, the one found is the taxon to place next
+pub next-end : (taxa : List Kept) (n v r : ℕ) → n < v → 2 ≤ v → v ≤ 2 + (n - 1) → r ≤ 64
+    → r ≡ scanned (keptDistance taxa) (keptUnplaced taxa) 2 v → NextTaxon taxa n r
+next-end taxa n v r past low high among is =
+    let end : v ≡ 2 + (n - 1) = omega arith in
+    record { among = among; is = is ∙ ap (scanned (keptDistance taxa) (keptUnplaced taxa) 2) end }

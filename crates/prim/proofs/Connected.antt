@@ -89,7 +89,8 @@ module _ (d : ℕ → ℕ → ℕ) (n : ℕ) where
   network-between l m = network-connected .between (l .taxon) (l .joined) (mem-ends (network d n) l m)
 
   -- the total is at most n-1 times a bound of the differences of taxa
-  pub network-total-le : (bound : ℕ) → ((x y : ℕ) → IsTaxon n x → IsTaxon n y → d x y ≤ bound) → networkLength (network d n) ≤ (n - 1) * bound
+  pub network-total-le : (bound : ℕ) → ((x y : ℕ) → IsTaxon n x → IsTaxon n y → d x y ≤ bound)
+      → networkLength (network d n) ≤ (n - 1) * bound
   unfolding networkLength
   network-total-le bound within = rw (network-length d n) at (sum-most (λ (l : Link). l .length) bound (network d n) each)
     where

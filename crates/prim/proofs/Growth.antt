@@ -14,7 +14,7 @@ use Rattle.prim.specs.declared.answer.Network.{Network}
 use Rattle.prim.specs.declared.network.Kept.{Kept}
 use Rattle.prim.proofs.Unplaced.{mem-unplaced, length-unplaced, length-unplaced-next}
 use Rattle.prim.proofs.Placing.{distance-least, grow-next}
-use Rattle.prim.proofs.Choosing.{next-none, next-mem, placing-taxon}
+use Rattle.prim.proofs.Choosing.{next-none, next-mem, next-kept, placing-taxon}
 use Rattle.prim.proofs.Holding.{networkLength-snoc, taxa-snoc, length-snoc}
 
 -- a network that has grown to `placed` taxa: the links that it holds are the first ones of the Prim Network, what is kept fits them,
@@ -83,7 +83,7 @@ module _ (d : ℕ → ℕ → ℕ) (n : ℕ) (few : n ≤ 64) (near : (v : ℕ) 
       some : v ≢ 0
       unfolding later
       some e =
-          let none = next-none d later (unplaced n later) (found .is d later (g .keeps) ∙ ap (placing d later) e) in
+          let none = next-none d later (unplaced n later) (next-kept d n later kept (g .keeps) v found ∙ ap (placing d later) e) in
           let left : length (unplaced n later) ≡ n - placed = g .left in
           let z : length (unplaced n later) ≡ 0 = ap length none in
           absurd (omega arith)
@@ -91,7 +91,7 @@ module _ (d : ℕ → ℕ → ℕ) (n : ℕ) (few : n ≤ 64) (near : (v : ℕ) 
       -- its link is the next one
       is-next : next d later (unplaced n later) ≡ link d later v ∷ []
       unfolding later
-      is-next = found .is d later (g .keeps) ∙ placing-taxon d later v some
+      is-next = next-kept d n later kept (g .keeps) v found ∙ placing-taxon d later v some
 
       -- it is unplaced
       fresh : List·Memᴰ v (unplaced n later)

@@ -17,7 +17,8 @@ use Rattle.prim.specs.declared.answer.Answer.{Answer}
 use Rattle.prim.proofs.Shortest.{shortest}
 
 -- two taxa of a lent matrix differ by at most 255744
-pub taxa-most : (codes : List ℤ) (n m x y : ℕ) → LentMatrix codes n m → IsTaxon n x → IsTaxon n y → nodeDifference difference (row codes m) x y ≤ 255744
+pub taxa-most : (codes : List ℤ) (n m x y : ℕ) → LentMatrix codes n m → IsTaxon n x → IsTaxon n y
+    → nodeDifference difference (row codes m) x y ≤ 255744
 unfolding nodeDifference
 taxa-most codes n m x y lent tx ty =
     let narrow : m ≤ 128 = lent .characters in

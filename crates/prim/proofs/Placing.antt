@@ -4,13 +4,13 @@ use mathlib.Core.List.{List, [], _∷_, _++_, append-nil}
 use mathlib.Core.List.{List·Memᴰ, List·Memᴰ·head, List·Memᴰ·not-nil, List·Memᴰ·cases-cons}
 use mathlib.Core.List.{Memᴰ·append-left, Memᴰ·append-right, Memᴰ·cast}
 use mathlib.Core.Logic.{_⊎_, inl, inr, _↔_}
-use Prim.Native.Nat.{ℕ, zero, suc, _-_, _≤_, _<_}
+use Prim.Native.Nat.{ℕ, zero, suc, _-_, _≤_}
 use native.Mathlib.Nat.{le-trans}
 use native.Mathlib.Omega.{arith}
 use lib.ListN.{length}
 use lib.Seq.{append-snoc}
 use Rattle.lists.specs.Least.{firstLeast}
-use Rattle.lists.proofs.Least.{firstLeast-mem, firstLeast-least, firstLeast-snoc-less, firstLeast-snoc-stays}
+use Rattle.lists.proofs.Least.{firstLeast-mem, firstLeast-least}
 use Rattle.prim.specs.Network.{Link, taxa, unplaced, nearestPlaced, distance, link, next, grow, network}
 use Rattle.prim.proofs.Unplaced.{decideMem, mem-unplaced, length-unplaced, length-unplaced-next}
 
@@ -51,33 +51,6 @@ module _ (d : ℕ → ℕ → ℕ) where
             length = refl;
             least = λ w x mw mx. le-trans (firstLeast-least (distance d later) u us w (rw e at mw)) (distance-least later w x mx);
           })
-
-  -- a single taxon is the next one
-  pub next-first : (later : List ℕ) (v : ℕ) → next d later (v ∷ []) ≡ link d later v ∷ []
-  unfolding next firstLeast
-  next-first later v = refl
-
-  -- of the taxa gone through so far and one more, the next link places that one if it is nearer to the network
-  pub next-less : (later us : List ℕ) (v : ℕ) (l : Link)
-      → next d later us ≡ l ∷ []
-      → distance d later v < l .length
-      → next d later (us ++ (v ∷ [])) ≡ link d later v ∷ []
-  unfolding next link
-  next-less later [] v l e h = next-first later v
-  next-less later (u ∷ us) v l e h =
-      let same : link d later (firstLeast (distance d later) u us) ≡ l = cc in
-      rw (firstLeast-snoc-less (distance d later) u us v (rw (← (ap (λ (k : Link). k .length) same)) at h))
-
-  -- otherwise it is the same as before
-  pub next-stays : (later us : List ℕ) (v : ℕ) (l : Link)
-      → next d later us ≡ l ∷ []
-      → l .length ≤ distance d later v
-      → next d later (us ++ (v ∷ [])) ≡ l ∷ []
-  unfolding next link
-  next-stays later [] v l e h = absurd (let z : _≡_ {A = ℕ} 0 1 = cc in omega arith)
-  next-stays later (u ∷ us) v l e h =
-      let same : link d later (firstLeast (distance d later) u us) ≡ l = cc in
-      rw (firstLeast-snoc-stays (distance d later) u us v (rw (← (ap (λ (k : Link). k .length) same)) at h)) e
 
   -- when all taxa are placed no link follows
   pub grow-done : (n count : ℕ) (later : List ℕ) → unplaced n later ≡ [] → grow d n count later ≡ []

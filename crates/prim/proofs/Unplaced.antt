@@ -1,8 +1,8 @@
 -- Laws of the unplaced taxa: which they are, and that placing one of them leaves one fewer.
 use mathlib.Core.Path.{_≡_, refl, sym, ap, _∙_}
-use mathlib.Core.Bool.{Bool, true, false, cond, _||_, false≢true, not}
-use mathlib.Core.List.{List, [], _∷_, _++_, append-nil}
-use mathlib.Core.List.{List·Memᴰ, List·Memᴰ·head, List·Memᴰ·tail, List·Memᴰ·not-nil, List·Memᴰ·cases-cons, List·Memᴰ·append-cases}
+use mathlib.Core.Bool.{Bool, true, false, _||_, false≢true, not}
+use mathlib.Core.List.{List, [], _∷_, _++_}
+use mathlib.Core.List.{List·Memᴰ, List·Memᴰ·head, List·Memᴰ·tail, List·Memᴰ·cases-cons, List·Memᴰ·append-cases}
 use mathlib.Core.List.{List·Memᴰ·eq-of-singleton, Memᴰ·append-left, Memᴰ·append-right, Memᴰ·cast}
 use mathlib.Core.Logic.{_⊎_, inl, inr, _↔_, _≢_}
 use Prim.Native.Nat.{ℕ, zero, suc, _+_, _-_, _≤_, _<_}
@@ -15,6 +15,8 @@ use Rattle.lists.specs.Filters.{keep, without}
 use Rattle.lists.specs.Numbers.{numbers}
 use Rattle.lists.proofs.Numbers.{mem-numbers, length-numbers}
 use Rattle.lists.specs.Tests.{among}
+use Rattle.lists.proofs.Keep.{keep-mem, mem-keep}
+use borrow.Author.Tests.{not-true}
 use Rattle.prim.specs.Network.{unplaced}
 use Rattle.prim.specs.Rival.{IsTaxon}
 
@@ -68,34 +70,6 @@ pub without-not-among : (others : List ℕ) (x : ℕ) (xs : List ℕ) → ¬ Lis
 unfolding without keep
 without-not-among others x xs out = rw (not-among x others out)
 
--- two lists one after the other are gone through one after the other
-without-append : (others xs ys : List ℕ) → without others (xs ++ ys) ≡ without others xs ++ without others ys
-unfolding without keep
-without-append others [] ys = refl
-without-append others (x ∷ xs) ys = at (without-append others xs ys) (among x others)
-  where
-    at : without others (xs ++ ys) ≡ without others xs ++ without others ys
-        → (b : Bool)
-        → cond (not b) (x ∷ without others (xs ++ ys)) (without others (xs ++ ys))
-        ≡ cond (not b) (x ∷ without others xs) (without others xs) ++ without others ys
-    at later true = later
-    at later false = ap {B = List ℕ} (λ (l : List ℕ). x ∷ l) later
-
--- one more taxon at the end is left out if it is among the others
-pub without-snoc-among : (others xs : List ℕ) (x : ℕ) → List·Memᴰ x others → without others (xs ++ (x ∷ [])) ≡ without others xs
-unfolding without keep
-without-snoc-among others xs x m =
-    without-append others xs (x ∷ [])
-    ∙ ap (λ (l : List ℕ). without others xs ++ l) (without-among others x [] m)
-    ∙ append-nil (without others xs)
-
--- and is kept at the end if it is not
-pub without-snoc-not-among : (others xs : List ℕ) (x : ℕ) → ¬ List·Memᴰ x others
-    → without others (xs ++ (x ∷ [])) ≡ without others xs ++ (x ∷ [])
-unfolding without keep
-without-snoc-not-among others xs x out =
-    without-append others xs (x ∷ []) ∙ ap (λ (l : List ℕ). without others xs ++ l) (without-not-among others x [] out)
-
 -- nothing is left out where there are no others
 pub without-nothing : (xs : List ℕ) → without [] xs ≡ xs
 unfolding without keep among
@@ -104,33 +78,15 @@ without-nothing (x ∷ xs) = ap {B = List ℕ} (λ (l : List ℕ). x ∷ l) (wit
 
 -- what is left of a list is in it, and not among the others
 pub of-without : (others xs : List ℕ) (v : ℕ) → List·Memᴰ v (without others xs) → List·Memᴰ v xs × ¬ List·Memᴰ v others
-unfolding without keep
-of-without others [] v m = absurd (List·Memᴰ·not-nil m)
-of-without others (x ∷ xs) v m = at (λ k. of-without others xs v k) (decideMem x others)
-  where
-    behind : List·Memᴰ v xs × ¬ List·Memᴰ v others → List·Memᴰ v (x ∷ xs) × ¬ List·Memᴰ v others
-    behind h = (List·Memᴰ·tail (h .0), h .1)
-
-    here : (List·Memᴰ v (without others xs) → List·Memᴰ v xs × ¬ List·Memᴰ v others) → ¬ List·Memᴰ x others
-        → (v ≡ x) ⊎ List·Memᴰ v (without others xs) → List·Memᴰ v (x ∷ xs) × ¬ List·Memᴰ v others
-    here later out (inl e) = (List·Memᴰ·head e, λ k. out (Memᴰ·cast (sym e) k))
-    here later out (inr k) = behind (later k)
-
-    at : (List·Memᴰ v (without others xs) → List·Memᴰ v xs × ¬ List·Memᴰ v others) → Dec (List·Memᴰ x others)
-        → List·Memᴰ v (x ∷ xs) × ¬ List·Memᴰ v others
-    at later (yes k) = behind (later (rw (without-among others x xs k) at m))
-    at later (no out) = here later out (List·Memᴰ·cases-cons (rw (without-not-among others x xs out) at m))
+unfolding without
+of-without others xs v m =
+    let k = keep-mem (λ u. not (among u others)) xs v m in
+    (k .0, among-false v others (not-true _ (k .1)))
 
 -- a taxon of the list that is not among the others is left
 pub mem-without : (others xs : List ℕ) (v : ℕ) → List·Memᴰ v xs → ¬ List·Memᴰ v others → List·Memᴰ v (without others xs)
-unfolding without keep
-mem-without others xs v (List·Memᴰ·head {x = x} {xs = ys} e) out =
-    rw (without-not-among others x ys (λ k. out (Memᴰ·cast e k))) (List·Memᴰ·head e)
-mem-without others xs v (List·Memᴰ·tail {x = x} {xs = ys} m) out = at (mem-without others ys v m out) (decideMem x others)
-  where
-    at : List·Memᴰ v (without others ys) → Dec (List·Memᴰ x others) → List·Memᴰ v (without others (x ∷ ys))
-    at later (yes k) = rw (without-among others x ys k) later
-    at later (no o) = rw (without-not-among others x ys o) (List·Memᴰ·tail later)
+unfolding without
+mem-without others xs v m out = mem-keep (λ u. not (among u others)) xs v m (ap not (not-among v others out))
 
 -- a taxon is unplaced exactly if it is one of 2 to n and not among those placed
 pub mem-unplaced : (n : ℕ) (later : List ℕ) (v : ℕ) → List·Memᴰ v (unplaced n later) ↔ ((2 ≤ v) × (v ≤ n) × ¬ List·Memᴰ v later)

@@ -2,14 +2,14 @@
 -- What is kept of the taxa while the Prim Network grows, over any difference d of two taxa, and what the functions that grow it promise.
 -- `later` is the list of the taxa placed after row 1.
 use mathlib.Core.Path.{_≡_}
-use mathlib.Core.Bool.{true, false}
+use mathlib.Core.Bool.{Bool, true, false, not}
 use mathlib.Core.List.{List, [], _∷_, _++_, List·Memᴰ}
 use Prim.Native.Nat.{ℕ, zero, suc, _+_, _-_, _≤_, max}
 use lib.ListN.{length, getD}
+use Rattle.matrix.specs.Shape.{mostTaxa}
 use Rattle.prim.specs.Answers.{Holds}
-use Rattle.lists.specs.Numbers.{numbers}
-use Rattle.prim.specs.Network.{Link, unplaced, nearestPlaced, distance, link, next}
-use Rattle.lists.specs.Filters.{without}
+use Rattle.lists.specs.Least.{scanned}
+use Rattle.prim.specs.Network.{Link, unplaced, nearestPlaced, distance, link}
 use Rattle.prim.specs.declared.answer.Network.{Network}
 use Rattle.prim.specs.declared.network.Kept.{Kept}
 
@@ -17,9 +17,12 @@ use Rattle.prim.specs.declared.network.Kept.{Kept}
 abbrev pub keptAt : List Kept → ℕ → Kept
 keptAt taxa v = getD taxa v (record { placed = false; nearest = 0; distance = 0 })
 
--- the unplaced taxa below v, by rising row
-abbrev pub unplacedBelow : ℕ → List ℕ → List ℕ
-unplacedBelow v later = without later (numbers 2 (v - 2))
+-- how far taxon v is from the network, and whether it is unplaced, as it is kept
+abbrev pub keptDistance : List Kept → ℕ → ℕ
+keptDistance taxa v = keptAt taxa v .distance
+
+abbrev pub keptUnplaced : List Kept → ℕ → Bool
+keptUnplaced taxa v = not (keptAt taxa v .placed)
 
 module _ (d : ℕ → ℕ → ℕ) where
   -- what is kept of an unplaced taxon v: the placed taxon nearest to it, and how far that is
@@ -37,21 +40,17 @@ module _ (d : ℕ → ℕ → ℕ) where
   placing later zero = []
   placing later (suc v) = link d later (suc v) ∷ []
 
-  -- of the unplaced taxa below v, the next link places `best`; there is none if `best` is 0
-  abbrev pub NextBelow : List ℕ → ℕ → ℕ → Type 0
-  NextBelow later v best = next d later (unplacedBelow v later) ≡ placing later best
-
--- of `best`, the taxon to place next of those below v, and v itself, r is the one to place next
+-- r is the taxon to place next of those up to v, if `best` is that of those before v, for a scan by any key and test that agree with what
+-- is kept of the two
 pub record Nearer (best : ℕ) (bestKept : Kept) (v : ℕ) (kept : Kept) (r : ℕ) : Type 0 where
   pub among : r ≤ max best v
-  pub is : (d : ℕ → ℕ → ℕ) (n : ℕ) (later : List ℕ) (taxa : List Kept) → Keeps d n later taxa
-      → keptAt taxa best ≡ bestKept → keptAt taxa v ≡ kept → 2 ≤ v → v ≤ n
-      → NextBelow d later v best → NextBelow d later (v + 1) r
+  pub is : (key : ℕ → ℕ) (test : ℕ → Bool) → key best ≡ bestKept .distance → key v ≡ kept .distance → test v ≡ not (kept .placed)
+      → 2 ≤ v → best ≡ scanned key test 2 v → r ≡ scanned key test 2 (v + 1)
 
--- r is the taxon to place next
+-- r is the taxon to place next of 2 to n
 pub record NextTaxon (taxa : List Kept) (n r : ℕ) : Type 0 where
-  pub among : r ≤ 64
-  pub is : (d : ℕ → ℕ → ℕ) (later : List ℕ) → Keeps d n later taxa → next d later (unplaced n later) ≡ placing d later r
+  pub among : r ≤ mostTaxa
+  pub is : r ≡ scanned (keptDistance taxa) (keptUnplaced taxa) 2 (2 + (n - 1))
 
 -- r is what is kept of taxon u when v has been placed besides: the same if u is itself placed
 pub record Compared (d : ℕ → ℕ → ℕ) (u v : ℕ) (kept r : Kept) : Type 0 where

@@ -11,7 +11,7 @@ ghost use mathlib.Core.Path.{_≡_};
 ghost use mathlib.Core.List.{[]};
 ghost use Prim.Native.Nat.{_+_, _≤_, _<_, _^_};
 ghost use lib.ListN.{length};
-ghost use Rattle.matrix.specs.Shape.{row};
+ghost use Rattle.matrix.specs.Shape.{mostTaxa, mostCharacters, row};
 ghost use Rattle.difference.specs.Rows.{nodeDifference, difference};
 ghost use Rattle.matrix.specs.Questions.{LentMatrix};
 ghost use Rattle.prim.specs.Network.{network};
@@ -27,7 +27,7 @@ struct Kept {
 
 // The difference of taxa x and y.
 fn between(matrix: &[i32], m: usize, x: usize, y: usize) -> u64
-    requires { ⌜ m ≤ 128 ⌝ }
+    requires { ⌜ m ≤ mostCharacters ⌝ }
     ensures { λ r. ⌜ r ≡ nodeDifference difference (row (now (matrix .entry)) m) x y ⌝ }
 {
     difference(row(matrix, m, x), row(matrix, m, y))
@@ -35,7 +35,7 @@ fn between(matrix: &[i32], m: usize, x: usize, y: usize) -> u64
 
 // Before the first taxon is placed, each is nearest to row 1.
 fn start(matrix: &[i32], n: usize, m: usize) -> [Kept; 65]
-    requires { ⌜ (n ≤ 64) × (m ≤ 128) ⌝ }
+    requires { ⌜ (n ≤ mostTaxa) × (m ≤ mostCharacters) ⌝ }
     ensures { λ r. ⌜ Keeps (nodeDifference difference (row (now (matrix .entry)) m)) n [] r ⌝ }
 {
     let none = Kept {
@@ -75,7 +75,7 @@ fn nearer(best: usize, best_kept: Kept, v: usize, kept: Kept) -> usize
 
 // The unplaced taxon nearest to the network, the lowest row among equals.
 fn next_taxon(taxa: [Kept; 65], n: usize) -> usize
-    requires { ⌜ n ≤ 64 ⌝ }
+    requires { ⌜ n ≤ mostTaxa ⌝ }
     ensures { λ r. ⌜ NextTaxon taxa n r ⌝ }
 {
     let mut best = 0;
@@ -89,7 +89,7 @@ fn next_taxon(taxa: [Kept; 65], n: usize) -> usize
 
 // What is kept of taxon u when taxon v has been placed: an unplaced taxon is compared with it, and its link moves only if v is nearer.
 fn compared(kept: Kept, matrix: &[i32], m: usize, u: usize, v: usize) -> Kept
-    requires { ⌜ m ≤ 128 ⌝ }
+    requires { ⌜ m ≤ mostCharacters ⌝ }
     ensures { λ r. ⌜ Compared (nodeDifference difference (row (now (matrix .entry)) m)) u v kept r ⌝ }
 {
     if kept.placed {
@@ -108,7 +108,7 @@ fn compared(kept: Kept, matrix: &[i32], m: usize, u: usize, v: usize) -> Kept
 
 // Places taxon v, and compares each taxon that is still unplaced with it.
 fn place(mut taxa: [Kept; 65], matrix: &[i32], n: usize, m: usize, v: usize) -> [Kept; 65]
-    requires { ⌜ (length taxa ≡ 65) × (n ≤ 64) × (m ≤ 128) × (v ≤ 64) ⌝ }
+    requires { ⌜ (length taxa ≡ 65) × (n ≤ mostTaxa) × (m ≤ mostCharacters) × (v ≤ mostTaxa) ⌝ }
     ensures { λ r. ⌜ Places (nodeDifference difference (row (now (matrix .entry)) m)) n taxa v r ⌝ }
 {
     taxa[v] = Kept {

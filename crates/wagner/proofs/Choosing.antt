@@ -12,7 +12,7 @@ use lib.ListN.{length, set}
 use Rattle.lists.specs.Filters.{keep}
 use Rattle.lists.specs.Least.{leastOf, scanned}
 use Rattle.lists.specs.Numbers.{numbers}
-use Rattle.lists.proofs.Least.{leastOf-congr, scan-start, scan-fails, scan-first, scan-less, scan-stays}
+use Rattle.lists.proofs.Least.{leastOf-congr, scan-start, step-fails, step-first, step-less, step-stays}
 use Rattle.lists.proofs.Keep.{keep-mem}
 use Rattle.lists.proofs.Numbers.{numbers-within}
 use Rattle.matrix.specs.Shape.{row}
@@ -39,8 +39,7 @@ module _ (key : ℕ → ℕ) (tree : List ℕ) (best v : ℕ) (within : best ≤
   -- a placed taxon is passed over
   pub sooner-placed : inTree tree v ≡ true → Sooner key tree best v best
   unfolding unplacedTest
-  sooner-placed placed =
-      record { among = within; is = λ e. e ∙ sym (scan-fails key (unplacedTest tree) 1 v low (ap not placed)) }
+  sooner-placed placed = record { among = within; is = λ e. step-fails key (unplacedTest tree) 1 v best low e (ap not placed) }
 
   module _ (out : inTree tree v ≡ false) where
     -- v is not placed
@@ -50,24 +49,15 @@ module _ (key : ℕ → ℕ) (tree : List ℕ) (best v : ℕ) (within : best ≤
 
     -- the first one is taken
     pub sooner-first : best ≡ 0 → Sooner key tree best v v
-    sooner-first none =
-        record { among = high; is = λ e. sym (scan-first key (unplacedTest tree) 1 v low free (omega arith) (sym e ∙ none)) }
+    sooner-first none = record { among = high; is = λ e. step-first key (unplacedTest tree) 1 v best low e free (omega arith) none }
 
     -- one of lesser key is taken
     pub sooner-moves : best ≢ 0 → key v < key best → Sooner key tree best v v
-    sooner-moves some less =
-        record {
-          among = high;
-          is = λ e. sym (scan-less key (unplacedTest tree) 1 v low free (λ z. some (e ∙ z)) (rw (← e) less));
-        }
+    sooner-moves some less = record { among = high; is = λ e. step-less key (unplacedTest tree) 1 v best low e free some less }
 
     -- otherwise it is passed over
     pub sooner-stays : best ≢ 0 → key best ≤ key v → Sooner key tree best v best
-    sooner-stays some more =
-        record {
-          among = within;
-          is = λ e. e ∙ sym (scan-stays key (unplacedTest tree) 1 v low free (λ z. some (e ∙ z)) (rw (← e) more));
-        }
+    sooner-stays some more = record { among = within; is = λ e. step-stays key (unplacedTest tree) 1 v best low e free some more }
 
 -- before the first taxon there is none
 pub sooner-start : (key : ℕ → ℕ) (tree : List ℕ) → 0 ≡ scanned key (unplacedTest tree) 1 1

@@ -86,7 +86,8 @@ records-agree d d′ n tree old size same =
             ap {B = Branch} (λ (l : ℕ). record { node = v; ancestor = ancestor tree v; length = l }) (same v low h high)
 
 -- the lengths by node number give the lengths under the codes
-pub lengths-records : (codes : List ℤ) (n m : ℕ) (tree lengths : List ℕ) (old : List Branch) → length old ≡ 125 → LengthsOf codes m tree lengths
+pub lengths-records : (codes : List ℤ) (n m : ℕ) (tree lengths : List ℕ) (old : List Branch) → length old ≡ 125
+    → LengthsOf codes m tree lengths
     → withRecords (lengthsBy lengths) n tree old ≡ withRecords (lengthIn codes m) n tree old
 unfolding lengthsBy
 lengths-records codes n m tree lengths old size of =

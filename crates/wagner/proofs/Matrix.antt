@@ -88,7 +88,8 @@ module _ (d : List ℤ → List ℤ → ℕ) (codes : List ℤ) (n m : ℕ) (wid
       (λ taxon. before-htus taxon)
       (λ behind. behind-taxa (v - suc n) (omega arith))
     where
-      before-htus : v ≤ n → getD (withRows codes (suc n) (drop n (built .rows))) (rowStart v + j) (pos 0) ≡ getD codes (rowStart v + j) (pos 0)
+      before-htus : v ≤ n
+          → getD (withRows codes (suc n) (drop n (built .rows))) (rowStart v + j) (pos 0) ≡ getD codes (rowStart v + j) (pos 0)
       before-htus taxon =
           unfold withRows in stripes-before columns (pos 0) (rowStart (suc n)) (drop n (built .rows)) codes (rowStart v + j) (omega arith)
 

@@ -55,7 +55,8 @@ taxaOf placements = map (λ (p : Placement). p .taxon) placements
 -- if all taxa are placed, none is left
 none-left : (n : ℕ) (tree : List ℕ) → taxaPlaced n tree ≡ n → nodesOut tree (numbers 1 n) ≡ []
 unfolding taxaPlaced nodesIn nodesOut
-none-left n tree all = go (keep (λ v. not (inTree tree v)) (numbers 1 n)) (omega (arith, keep-split (inTree tree) (numbers 1 n), length-numbers 1 n))
+none-left n tree all =
+    go (keep (λ v. not (inTree tree v)) (numbers 1 n)) (omega (arith, keep-split (inTree tree) (numbers 1 n), length-numbers 1 n))
   where
     go : (us : List ℕ) → length us ≡ 0 → us ≡ []
     go [] e = refl
@@ -99,7 +100,8 @@ module _ (n m : ℕ) (taxa : 1 ≤ n) (key : ℕ → ℕ) where
       let next : b ≡ leastOf key (nodesOut tree (numbers 1 n)) = chosen tree rows keys in
       let mem : List·Memᴰ b (nodesOut tree (numbers 1 n)) =
       unfold byAdvancement in leastOf-mem (advancement difference rows) (nodesOut tree (numbers 1 n)) (some .0) (some .1) in
-      let rest = order-on count (suc k) (placed .tree) (placed .rows) after (omega arith) (keys-kept rows (placed .rows) (g .full) kept keys) in
+      let rest =
+      order-on count (suc k) (placed .tree) (placed .rows) after (omega arith) (keys-kept rows (placed .rows) (g .full) kept keys) in
       let left = one-less n tree (placed .tree) b (place-in difference n tree rows b (g .room) u (g .growing))
       (place-only difference n tree rows b (g .room) u (g .growing)) in
       let behind : InOrder key (without (b ∷ []) (nodesOut tree (numbers 1 n)))
@@ -118,7 +120,8 @@ module _ (n m : ℕ) (taxa : 1 ≤ n) (key : ℕ → ℕ) where
           left-mem : (tree : List ℕ) (v : ℕ) → List·Memᴰ v (nodesOut tree (numbers 1 n)) → List·Memᴰ v (numbers 1 n)
           left-mem tree v mem = unfold nodesOut in keep-mem (λ u. not (inTree tree u)) (numbers 1 n) v mem .0
 
-      keys-kept : (rows later : List (List ℤ)) → length rows ≡ n + (k - 2) → ((v : ℕ) → 1 ≤ v → v ≤ length rows → rowOf later v ≡ rowOf rows v)
+      keys-kept : (rows later : List (List ℤ)) → length rows ≡ n + (k - 2)
+          → ((v : ℕ) → 1 ≤ v → v ≤ length rows → rowOf later v ≡ rowOf rows v)
           → ((v : ℕ) → 1 ≤ v → v ≤ n → advancement difference rows v ≡ key v)
           → (v : ℕ) → 1 ≤ v → v ≤ n → advancement difference later v ≡ key v
       keys-kept rows later full kept keys v low high =
@@ -132,7 +135,8 @@ all-left zero h = absurd (omega arith)
 all-left (suc k) h =
     let first : inTree noBranches 1 ≡ true = unfold inTree in refl in
     let count : suc k - 1 ≡ k = omega arith in
-    ap (λ (t : Bool). cond (not t) (1 ∷ keep (λ v. not (inTree noBranches v)) (numbers 2 k)) (keep (λ v. not (inTree noBranches v)) (numbers 2 k))) first
+    ap (λ (t : Bool). cond (not t) (1 ∷ keep (λ v. not (inTree noBranches v)) (numbers 2 k))
+    (keep (λ v. not (inTree noBranches v)) (numbers 2 k))) first
     ∙ keep-all (λ v. not (inTree noBranches v)) (numbers 2 k)
     (λ v mem. ap not (false-inTree noBranches v (numbers-within 2 k v mem .0) (noBranches-none v)))
     ∙ ap (numbers 2) (sym count)

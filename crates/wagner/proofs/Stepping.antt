@@ -8,6 +8,7 @@ use Rattle.lists.specs.Least.{leastOf}
 use Rattle.lists.specs.Numbers.{numbers}
 use Rattle.matrix.specs.Questions.{askMatrix}
 use Rattle.matrix.specs.declared.refusal.Refusal.{Refusal}
+use Rattle.matrix.specs.declared.refusal.Asked.{Asked}
 use Rattle.matrix.specs.declared.refusal.Asked.the-variants.{Passed, Refused}
 use Rattle.branching.specs.declared.placement.Placement.{Placement}
 use Rattle.branching.specs.declared.placement.Unasked.{Unasked}
@@ -15,6 +16,7 @@ use Rattle.branching.specs.Ancestors.{ancestors}
 use Rattle.branching.specs.Nodes.{nodesOut}
 use Rattle.branching.specs.Unasked.{UnaskedDone, unasked}
 use Rattle.wagner.specs.declared.build.Building.{Building}
+use Rattle.wagner.specs.declared.build.WagnerTree.{WagnerTree}
 use Rattle.wagner.specs.Answers.{buildSays, placementsIn, BuildDone}
 use Rattle.wagner.specs.Steps.{Begun, nextPlacement, WithPlacement, OneMore, BuiltFrom}
 
@@ -39,17 +41,20 @@ module _ (now new : List ℤ) (n m : ℕ) (key : ℕ → ℕ) (before : Building
         matrix = placed .matrix ∙ ap (λ (v : ℕ). unasked now n m (ancestors (before .tree)) v .codes) chosen;
       }
 
+-- what is handed back of a build, with what the questions answered
+abbrev handed : Building → Asked → WagnerTree
+handed building asked = record {
+  asked = asked;
+  tree = building .tree;
+  count = building .count;
+  placements = building .placements;
+  length = building .length;
+}
+
 module _ (codes : List ℤ) (n m : ℕ) (building : Building) where
   -- a refusal: row 1 alone, no placement, and the matrix as before
   pub build-refused : (refusal : Refusal) → askMatrix codes n m ≡ Refused refusal → Begun building
-      → BuildDone codes codes n m
-      (record {
-        asked = Refused refusal;
-        tree = building .tree;
-        count = building .count;
-        placements = building .placements;
-        length = building .length;
-      })
+      → BuildDone codes codes n m (handed building (Refused refusal))
   unfolding buildSays placementsIn
   build-refused refusal told begun =
       record {
@@ -63,14 +68,7 @@ module _ (codes : List ℤ) (n m : ℕ) (building : Building) where
 
   -- where the questions pass: the Wagner tree
   pub build-passed : (new : List ℤ) → askMatrix codes n m ≡ Passed → BuiltFrom codes new n m building
-      → BuildDone codes new n m
-      (record {
-        asked = Passed;
-        tree = building .tree;
-        count = building .count;
-        placements = building .placements;
-        length = building .length;
-      })
+      → BuildDone codes new n m (handed building Passed)
   unfolding buildSays placementsIn
   build-passed new told built =
       record {

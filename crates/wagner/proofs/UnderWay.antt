@@ -217,7 +217,9 @@ module _ (codes now : List ℤ) (n m placed : ℕ) (before : Building) (done : L
             ∙ filled-snoc noPlacement 63 (before .count) done (ours .placement) (w .count) (omega (arith, w .count));
         count = omega (arith, more .count, w .count);
         many = omega (arith, w .many);
-        whole = added ∙ ap (λ (k : ℕ). k + ours .placement .added) (w .whole) ∙ sym (sum-snoc (λ (p : Placement). p .added) done (ours .placement));
+        whole =
+            added ∙ ap (λ (k : ℕ). k + ours .placement .added) (w .whole)
+            ∙ sym (sum-snoc (λ (p : Placement). p .added) done (ours .placement));
         most = omega arith;
         leftTree = rw (grown, held) (w .leftTree ∙ ap (λ (built : Built). built .tree) left-next);
         leftRows = rw (grown, held) (w .leftRows ∙ ap (λ (built : Built). built .rows) left-next);

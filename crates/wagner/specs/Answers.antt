@@ -12,7 +12,7 @@ use Rattle.difference.specs.Rows.{difference}
 use Rattle.branching.specs.declared.placement.Placement.{Placement}
 use Rattle.branching.specs.Ancestors.{ancestors}
 use Rattle.branching.specs.Hanging.{noBranches}
-use Rattle.branching.specs.Unasked.{noPlacement}
+use Rattle.branching.specs.Placing.{noPlacement}
 use Rattle.wagner.specs.declared.build.WagnerTree.{WagnerTree}
 use Rattle.wagner.specs.Build.{Built, wagner, wagnerLength}
 use Rattle.wagner.specs.Matrix.{matrixAfter}
@@ -34,7 +34,8 @@ unfoldable pub placementsIn : List ℤ → ℕ → ℕ → List Placement
 placementsIn codes n m = afterwards (buildSays codes n m) (wagnerIn codes n m .placements) []
 
 -- the answer for a lent matrix of n taxa and m characters: what the questions say; the Wagner tree, or row 1 alone on a refusal; the
--- placements, with zeros behind them, and their number; the matrix with the rows of the HTUs, or as before; the length under the median codes
+-- placements, with zeros behind them, and their number; the matrix with the rows of the HTUs, or as before; the length under the median
+-- codes
 pub record BuildDone (codes new : List ℤ) (n m : ℕ) (r : WagnerTree) : Type 0 where
   pub says : askedSays (r .asked) ≡ buildSays codes n m
   pub tree : ancestors (r .tree) ≡ afterwards (buildSays codes n m) (wagnerIn codes n m .tree) noBranches

@@ -8,7 +8,7 @@ use lib.IntN.{ℤ}
 use lib.ListN.{length, getD}
 use Rattle.lists.specs.Least.{leastOf, scanned}
 use Rattle.lists.specs.Numbers.{numbers}
-use Rattle.matrix.specs.Shape.{row}
+use Rattle.matrix.specs.Shape.{mostTaxa, row}
 use Rattle.difference.specs.Rows.{difference, nodeDifference}
 use Rattle.branching.specs.Nodes.{inTree, nodesOut}
 
@@ -27,10 +27,10 @@ pub record Advancements (codes : List ℤ) (n m : ℕ) (keys : List ℕ) : Type 
 
 -- r is the taxon to place next of those up to v, if `best` is that of those before v
 pub record Sooner (key : ℕ → ℕ) (tree : List ℕ) (best v r : ℕ) : Type 0 where
-  pub among : r ≤ 64
+  pub among : r ≤ mostTaxa
   pub is : best ≡ scanned key (unplacedTest tree) 1 v → r ≡ scanned key (unplacedTest tree) 1 (v + 1)
 
 -- r is the taxon to place next
 pub record NextTaxon (key : ℕ → ℕ) (n : ℕ) (tree : List ℕ) (r : ℕ) : Type 0 where
-  pub among : r ≤ 64
+  pub among : r ≤ mostTaxa
   pub is : r ≡ leastOf key (nodesOut tree (numbers 1 n))

@@ -7,9 +7,11 @@ use branching::placement::no_placement;
 use branching::tree::Tree;
 use matrix::questions::ask_matrix;
 use matrix::refusal::Asked;
+ghost use mathlib.Core.Path.{_≡_};
 ghost use Prim.Native.Nat.{_+_, _≤_, _<_, _^_};
 ghost use lib.ListN.{length};
-ghost use Rattle.matrix.specs.Questions.{LentMatrix};
+ghost use Rattle.matrix.specs.Shape.{mostTaxa};
+ghost use Rattle.matrix.specs.Questions.{LentMatrix, askMatrix};
 ghost use Rattle.wagner.specs.Order.{keyOf};
 ghost use Rattle.wagner.specs.Steps.{Begun, nextPlacement, WithPlacement, OneMore, BuiltFrom};
 ghost use Rattle.wagner.specs.Answers.{BuildDone};
@@ -71,7 +73,8 @@ fn place_next(
     m: usize,
     keys: [u64; 65],
 ) -> Building
-    requires { ⌜ (n ≤ 64) × (building .count < 63) × (building .length + nextPlacement (now matrix) n m (keyOf keys) building .placement .added < 2 ^ 64) ⌝ }
+    requires { ⌜ (n ≤ mostTaxa) × (building .count < 63)
+        × (building .length + nextPlacement (now matrix) n m (keyOf keys) building .placement .added < 2 ^ 64) ⌝ }
     ensures { λ r. ⌜ OneMore (now (matrix .entry)) (now (matrix .exit)) n m (keyOf keys) building r ⌝ }
 {
     let tree = building.tree;
@@ -95,12 +98,12 @@ fn grow(matrix: &mut [i32], n: usize, m: usize) -> Building
     building
 }
 
-// The Wagner tree of a lent matrix of n taxa and m characters. The codes of the HTUs are written into their rows of the matrix; a refusal
-// writes nothing.
-pub fn build(matrix: &mut [i32], n: usize, m: usize) -> WagnerTree
+// The Wagner tree after the questions on the matrix: built where they passed; a refusal gives row 1 alone, and writes nothing.
+fn build_asked(asked: Asked, matrix: &mut [i32], n: usize, m: usize) -> WagnerTree
+    requires { ⌜ asked ≡ askMatrix (now matrix) n m ⌝ }
     ensures { λ r. ⌜ BuildDone (now (matrix .entry)) (now (matrix .exit)) n m r ⌝ }
 {
-    match ask_matrix(matrix, n, m) {
+    match asked {
         Asked::Refused(refusal) => {
             let none = begun();
             let tree = none.tree;
@@ -126,4 +129,13 @@ pub fn build(matrix: &mut [i32], n: usize, m: usize) -> WagnerTree
             }
         }
     }
+}
+
+// The Wagner tree of a lent matrix of n taxa and m characters. The codes of the HTUs are written into their rows of the matrix; a refusal
+// writes nothing.
+pub fn build(matrix: &mut [i32], n: usize, m: usize) -> WagnerTree
+    ensures { λ r. ⌜ BuildDone (now (matrix .entry)) (now (matrix .exit)) n m r ⌝ }
+{
+    let asked = ask_matrix(matrix, n, m);
+    build_asked(asked, matrix, n, m)
 }

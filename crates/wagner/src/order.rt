@@ -4,6 +4,7 @@ use branching::tree::Tree;
 use difference::rows::difference;
 use matrix::rows::row;
 ghost use Prim.Native.Nat.{_+_, _≤_};
+ghost use Rattle.matrix.specs.Shape.{mostTaxa, mostCharacters};
 ghost use Rattle.branching.specs.Ancestors.{ancestors};
 ghost use Rattle.wagner.specs.Order.{keyOf, Advancements, Sooner, NextTaxon};
 
@@ -12,7 +13,7 @@ pub const KEYS: usize = 65;
 
 // The advancement of each of the taxa 1 to n: its difference from row 1.
 pub(crate) fn advancements(matrix: &[i32], n: usize, m: usize) -> [u64; 65]
-    requires { ⌜ (n ≤ 64) × (m ≤ 128) ⌝ }
+    requires { ⌜ (n ≤ mostTaxa) × (m ≤ mostCharacters) ⌝ }
     ensures { λ r. ⌜ Advancements (now (matrix .entry)) n m r ⌝ }
 {
     let mut keys = [0; KEYS];
@@ -27,7 +28,7 @@ pub(crate) fn advancements(matrix: &[i32], n: usize, m: usize) -> [u64; 65]
 // Of the taxon to place next among those gone through (0: none yet) and taxon v, the one to place next: v if it is not placed and its key
 // is less.
 fn sooner(best: usize, keys: [u64; 65], tree: Tree, v: usize) -> usize
-    requires { ⌜ (best ≤ 64) × (1 ≤ v) × (v ≤ 64) ⌝ }
+    requires { ⌜ (best ≤ mostTaxa) × (1 ≤ v) × (v ≤ mostTaxa) ⌝ }
     ensures { λ r. ⌜ Sooner (keyOf keys) (ancestors tree) best v r ⌝ }
 {
     if tree.in_tree(v) {
@@ -44,7 +45,7 @@ fn sooner(best: usize, keys: [u64; 65], tree: Tree, v: usize) -> usize
 
 // The taxon to place next, and 0 if all are placed.
 pub(crate) fn next_taxon(tree: Tree, keys: [u64; 65], n: usize) -> usize
-    requires { ⌜ n ≤ 64 ⌝ }
+    requires { ⌜ n ≤ mostTaxa ⌝ }
     ensures { λ r. ⌜ NextTaxon (keyOf keys) n (ancestors tree) r ⌝ }
 {
     let mut best = 0;

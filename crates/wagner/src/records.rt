@@ -31,7 +31,8 @@ fn lengths(matrix: &[i32], m: usize, tree: Tree) -> [u64; 127]
     all
 }
 
-// The records with those of a tree of n taxa written over the first 2n-3: node, immediate ancestor, and length under the codes of the matrix.
+// The records with those of a tree of n taxa written over the first 2n-3: node, immediate ancestor, and length under the codes of the
+// matrix.
 pub fn branches(
     matrix: &[i32],
     n: usize,

@@ -14,7 +14,8 @@ use Rattle.matrix_file.specs.Bytes.{minus, isDigit}
 use Rattle.matrix_file.specs.Decimal.{digitsOf, decimal, numberForm, numberOf, codeForm, codeOf}
 use Rattle.lists.proofs.Both.{and-left, and-right, and-both}
 use Rattle.lists.proofs.Every.{every-head}
-use Rattle.matrix_file.proofs.Decimal.Digits.{digit-low, first-digit, digits-are-digits, digits-form, number-of-digits, digits-of-number}
+use Rattle.matrix_file.proofs.Decimal.Digits.{digit-low, first-digit, digits-are-digits}
+use Rattle.matrix_file.proofs.Decimal.Digits.{digits-form, number-of-digits, digits-of-number}
 
 -- a text that begins with another byte than a minus is read as a number
 module _ (byte : ℕ) (bytes : List ℕ) (other : eqb byte minus ≡ false) where

@@ -6,7 +6,8 @@ use Prim.Native.Nat.{ℕ, _+_, _-_, _*_, _^_, _≤_, _<_}
 use native.Mathlib.Omega.{arith}
 use lib.ListN.{length, getD, drop, drop-of-length-le}
 use Rattle.matrix_file.specs.Decimal.{numberForm, numberOf, numberFrom, zeroDigit, NumberSaid}
-use Rattle.matrix_file.proofs.Decimal.Digits.{form-short, form-digits, digit-low, digit-high, number-more-small, number-small, number-at}
+use Rattle.matrix_file.proofs.Decimal.Digits.{form-short, form-digits, digit-low}
+use Rattle.matrix_file.proofs.Decimal.Digits.{digit-high, number-more-small, number-small, number-at}
 use Rattle.lists.proofs.Every.{every-at}
 use Rattle.matrix_file.specs.Bytes.{isDigit}
 
@@ -25,7 +26,8 @@ pub still-small : (text : List ℕ) (number i : ℕ) → numberForm text ≡ tru
 still-small text number i form inv h = number-small number i (inv .1) (omega (arith, form-short text form))
 
 -- one digit more
-pub one-more : (text : List ℕ) (number i digit : ℕ) → numberForm text ≡ true → DigitsPassed text number i → i < length text → digit ≡ getD text i 0
+pub one-more : (text : List ℕ) (number i digit : ℕ) → numberForm text ≡ true → DigitsPassed text number i → i < length text
+    → digit ≡ getD text i 0
     → DigitsPassed text (number * 10 + (digit - zeroDigit)) (i + 1)
 one-more text number i digit form inv h e =
     let high = digit-at text i form h .1 in (
@@ -35,7 +37,8 @@ one-more text number i digit form inv h e =
     )
 
 -- all digits passed
-pub all-said : (text : List ℕ) (number i : ℕ) → numberForm text ≡ true → DigitsPassed text number i → length text ≤ i → NumberSaid text number
+pub all-said : (text : List ℕ) (number i : ℕ) → numberForm text ≡ true → DigitsPassed text number i → length text ≤ i
+    → NumberSaid text number
 unfolding numberOf numberFrom
 all-said text number i form inv h =
     record {

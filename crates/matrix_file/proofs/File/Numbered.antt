@@ -38,7 +38,8 @@ data FileNumbered {A : Type 0} : Outcome A → Type 0 where
   with-number : {number line : ℕ} → OfFile number → FileNumbered (refused number line)
 
 -- one question, and those that follow
-numbered-ask : (b : Bool) (refusal : Refusal) {rest : Asked} → OfFile (refusalNumber refusal) → Numbered rest → Numbered (ask b refusal rest)
+numbered-ask : (b : Bool) (refusal : Refusal) {rest : Asked} → OfFile (refusalNumber refusal) → Numbered rest
+    → Numbered (ask b refusal rest)
 numbered-ask true refusal own others = others
 numbered-ask false refusal own others = numbered own
 
@@ -83,7 +84,8 @@ numbered-rows header earlier line (suc left) (row ∷ next ∷ lines) follow own
     (numbered-rows header (nameIn row ∷ earlier) (suc line) left (next ∷ lines) follow own)
 
 -- the end of the file
-numbered-end : {A : Type 0} (rest : Outcome A) → FileNumbered rest → (line : ℕ) (lines : List (List ℕ)) → FileNumbered (askEnd rest line lines)
+numbered-end : {A : Type 0} (rest : Outcome A) → FileNumbered rest → (line : ℕ) (lines : List (List ℕ))
+    → FileNumbered (askEnd rest line lines)
 unfolding askEnd
 numbered-end rest others line lines = numbered-line line (numbered-ask (nothingMore lines) FileGoesOn (omega arith) passed) others
 
@@ -100,7 +102,8 @@ numbered-header lines =
 numbered-behind : (header : Header) (lines : List (List ℕ)) → FileNumbered (askBehind header lines)
 unfolding askBehind
 numbered-behind header lines =
-    numbered-rows header [] (rowLine header 1) (header .n) lines (askEnd (value (jobOf header lines))) (numbered-end (value (jobOf header lines)) with-value)
+    numbered-rows header [] (rowLine header 1) (header .n) lines (askEnd (value (jobOf header lines)))
+    (numbered-end (value (jobOf header lines)) with-value)
 
 -- a whole file
 numbered-file : (file : List ℕ) → FileNumbered (readAnswer file)

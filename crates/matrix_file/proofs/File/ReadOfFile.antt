@@ -71,8 +71,10 @@ module _ (job : Job) (within : JobWithinLimits job) where
   behind-passes : askBehind (headerOf job) behind ≡ value job
   unfolding askBehind askEnd nothingMore
   behind-passes =
-      ap (λ n. askRows (headerOf job) [] (rowLine (headerOf job) 1) n behind (askEnd (value (jobOf (headerOf job) behind)))) (sym (within .name-count))
-      ∙ rows-pass (headerOf job) [] (rowLine (headerOf job) 1) (job .names) (job .rows) [] [] (askEnd (value (jobOf (headerOf job) behind))) (job-rows job within)
+      ap (λ n. askRows (headerOf job) [] (rowLine (headerOf job) 1) n behind (askEnd (value (jobOf (headerOf job) behind))))
+      (sym (within .name-count))
+      ∙ rows-pass (headerOf job) [] (rowLine (headerOf job) 1) (job .names) (job .rows) [] []
+      (askEnd (value (jobOf (headerOf job) behind))) (job-rows job within)
       ∙ ap value job-back
 
   -- and so do all lines

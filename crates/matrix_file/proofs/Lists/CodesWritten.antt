@@ -28,7 +28,8 @@ pub record CodesWritten (old : List ℤ) (text : List ℕ) (out : List ℤ) (j a
 -- at the start
 pub none-written : (old : List ℤ) (text : List ℕ) → CodesWritten old text old 0 0
 unfolding fieldsOf
-none-written old text = record { near = omega arith; most = omega arith; full = refl; left = sym (from-start tab text); written = sym (over-nothing 0 old) }
+none-written old text =
+    record { near = omega arith; most = omega arith; full = refl; left = sym (from-start tab text); written = sym (over-nothing 0 old) }
 
 module _ (old : List ℤ) (text : List ℕ) (out : List ℤ) (j at : ℕ) (rest field : List ℕ) (inv : CodesWritten old text out j at)
     (h : at ≤ length text) (r : rest ≡ drop at text) (f : field ≡ firstPart tab rest) where

@@ -25,5 +25,6 @@ one-more old name out i byte inv h short e = (
 )
 
 -- all bytes
-pub all-written : (old name out : List ℕ) (i : ℕ) → Padded old name out i → nameSize ≤ i → length name ≤ nameSize → out ≡ over 0 (padded name) old
+pub all-written : (old name out : List ℕ) (i : ℕ) → Padded old name out i → nameSize ≤ i → length name ≤ nameSize
+    → out ≡ over 0 (padded name) old
 all-written old name out i inv h short = inv .2 ∙ over-all (padded name) old i (omega (arith, length-filled 0 nameSize name short))

@@ -44,7 +44,8 @@ items-narrow width items narrow k = by (ltb k (length items)) refl
         rw (List·getD-eq-default items [] past) (omega arith)
 
 -- an item of a list, as a function gives it
-map-at : {A B : Type 0} (f : A → B) (xs : List A) (none : A) (other : B) (k : ℕ) → k < length xs → getD (map f xs) k other ≡ f (getD xs k none)
+map-at : {A B : Type 0} (f : A → B) (xs : List A) (none : A) (other : B) (k : ℕ) → k < length xs
+    → getD (map f xs) k other ≡ f (getD xs k none)
 map-at f [] none other k h = absurd (omega arith)
 map-at f (x ∷ xs) none other zero h = refl
 map-at f (x ∷ xs) none other (suc k) h = map-at f xs none other k (omega arith)

@@ -24,7 +24,8 @@ use Rattle.matrix_file.specs.Report.{readSays, withHeader, fullSize, rea
 use Rattle.matrix_file.specs.Walk.{RowsFormed, paddedIn}
 use Rattle.matrix_file.specs.Written.{namesSize, padded, matrixWritten, namesWritten}
 use Rattle.matrix_file.proofs.File.Outcomes.{then-passed, then-refused}
-use Rattle.matrix_file.proofs.File.AcceptedRows.{accepted-job, accepted-most, accepted-behind, accepted-formed, accepted-codes, accepted-names}
+use Rattle.matrix_file.proofs.File.AcceptedRows.{accepted-job, accepted-most, accepted-behind}
+use Rattle.matrix_file.proofs.File.AcceptedRows.{accepted-formed, accepted-codes, accepted-names}
 
 -- an outcome that is refused or not, with lists as they were
 done : (file : List ℕ) (matrix : List ℤ) (names : List ℕ) (answer : Read) (number line : ℕ) → readSays answer ≡ refused number line

@@ -57,7 +57,8 @@ differs-at : (name : List ℕ) (names : List (List ℕ)) → differsFromAll name
 unfolding differsFromAll
 differs-at name [] e j h same = omega arith
 differs-at name (next ∷ names) e zero h same =
-    true≢false (sym (sameNumbers-iff name name .1 refl) ∙ ap (sameText name) same ∙ not-true (sameText name next) (and-left (not (sameText name next)) _ e))
+    true≢false (sym (sameNumbers-iff name name .1 refl) ∙ ap (sameText name) same
+    ∙ not-true (sameText name next) (and-left (not (sameText name next)) _ e))
 differs-at name (next ∷ names) e (suc j) h same =
     differs-at name names (and-right (not (sameText name next)) _ e) j (omega arith) same
 

@@ -38,7 +38,8 @@ pub record RowsLeft (rows : List ℕ) (header : Header) (first : ℕ) (starts : 
       ≡ askRows header (namesPassed rows starts done) (first + done) (header .n - done) (partsFrom lineFeed rows at) follow
 
 -- at the start
-pub walk-start : (rows : List ℕ) (header : Header) (first : ℕ) (starts : List ℕ) → length starts ≡ 64 → RowsLeft rows header first starts 0 0
+pub walk-start : (rows : List ℕ) (header : Header) (first : ℕ) (starts : List ℕ) → length starts ≡ 64
+    → RowsLeft rows header first starts 0 0
 unfolding linesOf namesPassed
 walk-start rows header first starts e =
     record {

@@ -99,7 +99,8 @@ pub rows-pass : {A : Type 0} (header : Header) (earlier : List (List ℕ)) (line
     → askRows header earlier line (length names) (zipWith rowText names rows ++ next ∷ others) follow
     ≡ follow (line + length names) (next ∷ others)
 unfolding zipWith askRows
-rows-pass header earlier line [] rows next others follow within = let number : line ≡ line + 0 = omega arith in ap (λ k. follow k (next ∷ others)) number
+rows-pass header earlier line [] rows next others follow within =
+    let number : line ≡ line + 0 = omega arith in ap (λ k. follow k (next ∷ others)) number
 rows-pass header earlier line (name ∷ names) [] next others follow within = absurd (omega arith)
 rows-pass header earlier line (name ∷ names) (codes ∷ rows) next others follow within =
     let first = rows-first within in

@@ -10,7 +10,8 @@ use Rattle.branching.proofs.lent.named_in_order.Statement.{statement}
 use Rattle.branching.proofs.lent.named_in_order.Tie as tie
 
 abbrev Inv-loop : tie.InvT-loop
-Inv-loop n records count i₀ i = (i ≤ count) × (count ≡ 2 * n - 3) × (count ≤ 125) × (length records ≡ 125) × (namedInOrder n records ≡ namedFrom records n i)
+Inv-loop n records count i₀ i =
+    (i ≤ count) × (count ≡ 2 * n - 3) × (count ≤ 125) × (length records ≡ 125) × (namedInOrder n records ≡ namedFrom records n i)
 
 abbrev μ-loop : tie.MeasureT-loop
 μ-loop n records count i₀ i = count - i

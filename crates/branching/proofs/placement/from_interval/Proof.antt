@@ -22,7 +22,8 @@ interval-difference-requires c κs = search needs
 returns : tie.Need-returns
 returns c =
     let start = c .before .before .before .before .before in
-    interval-rows _ _ _ _ _ _ _ _ _ _ (start .pre) (c .before .before .before .before .ancestor .ensures) (c .before .before .before .row .ensures)
+    interval-rows _ _ _ _ _ _ _ _ _ _ (start .pre) (c .before .before .before .before .ancestor .ensures)
+    (c .before .before .before .row .ensures)
     (c .before .before .row2 .ensures) (c .before .row3 .ensures) (c .interval-difference .ensures)
 
 pub from-interval-spec : {M : Type 1} → statement M

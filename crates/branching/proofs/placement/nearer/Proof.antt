@@ -20,21 +20,22 @@ returns-2 : tie.Need-returns-2
 returns-2 c =
     let asked = c .before .before .before in
     let inside = sym (asked .before .in-tree .ensures) ∙ not-false _ (asked .if1 .left) in
-    λ below. nearer-first _ _ _ _ _ (asked .before .before .pre .1) _ below inside _ (c .before .before .from-interval .ensures) (c .if2 .taken)
+    λ below. nearer-first _ _ _ _ _ (asked .before .before .pre .1) _ below inside _ (c .before .before .from-interval .ensures)
+    (c .if2 .taken)
 
 returns-3 : tie.Need-returns-3
 returns-3 c =
     let asked = c .before .before .before .before .before in
     let inside = sym (asked .before .in-tree .ensures) ∙ not-false _ (asked .if1 .left) in
-    λ below. nearer-moves _ _ _ _ _ (asked .before .before .pre .1) _ below inside _ (c .before .before .before .before .from-interval .ensures)
-    (c .before .before .if2 .left) (c .if3 .taken)
+    λ below. nearer-moves _ _ _ _ _ (asked .before .before .pre .1) _ below inside _
+    (c .before .before .before .before .from-interval .ensures) (c .before .before .if2 .left) (c .if3 .taken)
 
 returns-4 : tie.Need-returns-4
 returns-4 c =
     let asked = c .before .before .before .before .before in
     let inside = sym (asked .before .in-tree .ensures) ∙ not-false _ (asked .if1 .left) in
-    λ below. nearer-stays _ _ _ _ _ (asked .before .before .pre .1) _ below inside _ (c .before .before .before .before .from-interval .ensures)
-    (c .before .before .if2 .left) (c .if3 .left)
+    λ below. nearer-stays _ _ _ _ _ (asked .before .before .pre .1) _ below inside _
+    (c .before .before .before .before .from-interval .ensures) (c .before .before .if2 .left) (c .if3 .left)
 
 pub nearer-spec : {M : Type 1} → statement M
 nearer-spec =

@@ -20,26 +20,28 @@ enum-told c = search needs
 one-to-requires : tie.Need-one-to-requires
 one-to-requires c κs = search needs
 
+is-growing-requires : tie.Need-is-growing-requires
+is-growing-requires c κs = search needs
+
 returns : tie.Need-returns
 unfolding askPlacement
 returns c =
+    let found = c .before in
     rw (
-      sym (c .before .before .before .before .ask-matrix .ensures) ∙ c .before .before .enum-told .given .1,
-      sym (c .before .one-to .ensures) ∙ not-true _ (c .if1 .taken),
+      sym (found .before .before .before .before .ask-matrix .ensures) ∙ found .before .before .enum-told .given .1,
+      sym (found .before .one-to .ensures) ∙ not-true _ (c .if1 .taken),
     )
-
-is-growing-requires : tie.Need-is-growing-requires
-is-growing-requires c κs = search needs
 
 returns-2 : tie.Need-returns-2
 unfolding askPlacement
 returns-2 c =
-    let told = sym (c .before .before .before .before .before .before .ask-matrix .ensures) ∙ c .before .before .before .before .enum-told .given .1 in
+    let found = c .before .before in
+    let told = sym (found .before .before .before .before .ask-matrix .ensures) ∙ found .before .before .enum-told .given .1 in
     let most = matrix-passes _ _ _ .0 told .taxa in
     rw (
       told,
-      sym (c .before .before .before .one-to .ensures) ∙ not-false _ (c .before .before .if1 .left),
-      sym (c .before .is-growing .ensures ∙ growing-plain _ _ most) ∙ not-true _ (c .if2 .taken),
+      sym (found .before .one-to .ensures) ∙ not-false _ (c .before .if1 .left),
+      sym (found .is-growing .ensures ∙ growing-plain _ _ most) ∙ not-true _ (c .if2 .taken),
     )
 
 in-tree-requires : tie.Need-in-tree-requires
@@ -48,48 +50,56 @@ in-tree-requires c κs = search needs
 returns-3 : tie.Need-returns-3
 unfolding askPlacement
 returns-3 c =
-    let told = sym (c .before .before .before .before .before .before .before .before .ask-matrix .ensures) ∙ c .before .before .before .before .before .before .enum-told .given .1 in
+    let growing = c .before .before in
+    let found = growing .before .before in
+    let told = sym (found .before .before .before .before .ask-matrix .ensures) ∙ found .before .before .enum-told .given .1 in
     let most = matrix-passes _ _ _ .0 told .taxa in
     rw (
       told,
-      sym (c .before .before .before .before .before .one-to .ensures) ∙ not-false _ (c .before .before .before .before .if1 .left),
-      sym (c .before .before .before .is-growing .ensures ∙ growing-plain _ _ most) ∙ not-false _ (c .before .before .if2 .left),
+      sym (found .before .one-to .ensures) ∙ not-false _ (growing .before .if1 .left),
+      sym (found .is-growing .ensures ∙ growing-plain _ _ most) ∙ not-false _ (growing .if2 .left),
       sym (c .before .in-tree .ensures) ∙ c .if3 .taken,
     )
 
 htus-right-requires : tie.Need-htus-right-requires
 htus-right-requires c κs =
-    let told = sym (c .before .before .before .before .before .before .before .before .ask-matrix .ensures) ∙ c .before .before .before .before .before .before .enum-told .given .1 in
-    matrix-passes _ _ _ .0 told .taxa
+    let found = c .before .before .before .before in
+    matrix-passes _ _ _ .0
+    (sym (found .before .before .before .before .ask-matrix .ensures) ∙ found .before .before .enum-told .given .1) .taxa
 
 returns-4 : tie.Need-returns-4
 unfolding askPlacement
 returns-4 c =
-    let told = sym (c .before .before .before .before .before .before .before .before .before .before .ask-matrix .ensures) ∙ c .before .before .before .before .before .before .before .before .enum-told .given .1 in
+    let placed = c .before .before in
+    let growing = placed .before .before in
+    let found = growing .before .before in
+    let told = sym (found .before .before .before .before .ask-matrix .ensures) ∙ found .before .before .enum-told .given .1 in
     let most = matrix-passes _ _ _ .0 told .taxa in
     rw (
       told,
-      sym (c .before .before .before .before .before .before .before .one-to .ensures) ∙ not-false _ (c .before .before .before .before .before .before .if1 .left),
-      sym (c .before .before .before .before .before .is-growing .ensures ∙ growing-plain _ _ most) ∙ not-false _ (c .before .before .before .before .if2 .left),
-      sym (c .before .before .before .in-tree .ensures) ∙ c .before .before .if3 .left,
+      sym (found .before .one-to .ensures) ∙ not-false _ (growing .before .if1 .left),
+      sym (found .is-growing .ensures ∙ growing-plain _ _ most) ∙ not-false _ (growing .if2 .left),
+      sym (placed .before .in-tree .ensures) ∙ placed .if3 .left,
       sym (c .before .htus-right .ensures) ∙ not-true _ (c .if4 .taken),
     )
 
 returns-5 : tie.Need-returns-5
 unfolding askPlacement
-returns-5 c =
-    rw (sym (c .before .before .before .ask-matrix .ensures) ∙ c .before .refusal .given .1)
+returns-5 c = rw (sym (c .before .before .before .ask-matrix .ensures) ∙ c .before .refusal .given .1)
 
 returns-6 : tie.Need-returns-6
 unfolding askPlacement
 returns-6 c =
-    let told = sym (c .before .before .before .before .before .before .before .before .before .before .ask-matrix .ensures) ∙ c .before .before .before .before .before .before .before .before .enum-told .given .1 in
+    let placed = c .before .before in
+    let growing = placed .before .before in
+    let found = growing .before .before in
+    let told = sym (found .before .before .before .before .ask-matrix .ensures) ∙ found .before .before .enum-told .given .1 in
     let most = matrix-passes _ _ _ .0 told .taxa in
     rw (
       told,
-      sym (c .before .before .before .before .before .before .before .one-to .ensures) ∙ not-false _ (c .before .before .before .before .before .before .if1 .left),
-      sym (c .before .before .before .before .before .is-growing .ensures ∙ growing-plain _ _ most) ∙ not-false _ (c .before .before .before .before .if2 .left),
-      sym (c .before .before .before .in-tree .ensures) ∙ c .before .before .if3 .left,
+      sym (found .before .one-to .ensures) ∙ not-false _ (growing .before .if1 .left),
+      sym (found .is-growing .ensures ∙ growing-plain _ _ most) ∙ not-false _ (growing .if2 .left),
+      sym (placed .before .in-tree .ensures) ∙ placed .if3 .left,
       sym (c .before .htus-right .ensures) ∙ not-false _ (c .if4 .left),
     )
 
@@ -101,8 +111,8 @@ ask-placement-spec =
     enum-known-refusal
     enum-told
     one-to-requires
-    returns
     is-growing-requires
+    returns
     returns-2
     in-tree-requires
     returns-3

@@ -48,8 +48,12 @@ add-v c = search needs
 loop-holds : tie.Need-loop-holds Inv-loop μ-loop
 loop-holds c =
     let most = c .before .taxa-placed .ensures in
-    let a = c .before .before .args in
-    (omega arith, omega (arith, c .htus-end .ensures), omega (arith, c .htus-end .ensures, taxaPlaced-le (ancestors (a .tree)) (a .n)), refl)
+    let a = c .before .before .args in (
+      omega arith,
+      omega (arith, c .htus-end .ensures),
+      omega (arith, c .htus-end .ensures, taxaPlaced-le (ancestors (a .tree)) (a .n)),
+      refl,
+    )
 
 htu-in-range-requires : tie.Need-htu-in-range-requires Inv-loop μ-loop
 htu-in-range-requires c κs = search needs
@@ -59,7 +63,8 @@ returns c =
     let start = c .before .before .before .before .before in
     let loop = c .before .before .before .loop in
     let all = own _ _ _ _ _ _ (start .taxa-placed .ensures) (c .before .before .before .before .htus-end .ensures) in
-    running-fails _ (loop .v) _ (all ∙ loop .inv .3) (c .before .before .loop-test .taken) (c .before .htu-in-range .ensures) (c .if1 .taken)
+    running-fails _ (loop .v) _ (all ∙ loop .inv .3) (c .before .before .loop-test .taken) (c .before .htu-in-range .ensures)
+    (c .if1 .taken)
 
 add-v-2 : tie.Need-add-v-2 Inv-loop μ-loop
 add-v-2 c = search needs

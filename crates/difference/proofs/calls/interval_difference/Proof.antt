@@ -1,5 +1,5 @@
--- `difference::calls::interval_difference` meets its contract: a refusal is that of the questions, and a row of a lent matrix has at most 128
--- codes. Assumes nothing.
+-- `difference::calls::interval_difference` meets its contract: a refusal is that of the questions, and a row of a lent matrix has at most
+-- 128 codes. Assumes nothing.
 use mathlib.Core.Path.{_≡_, sym, _∙_}
 use mathlib.Core.List.{List, [], _∷_}
 use Prim.Native.Nat.{ℕ}
@@ -47,7 +47,8 @@ unfolding intervalAnswer
 returns c = rw (sym (c .before .before .before .ask-nodes .ensures) ∙ c .before .refusal .given .1)
 
 -- where the questions pass, the answer is the interval difference of the three rows
-answered : (codes : List ℤ) (n m b c d r : ℕ) (asked : Asked) (xs ys zs : List ℤ) → asked ≡ askNodes codes n m (b ∷ c ∷ d ∷ []) → asked ≡ Passed
+answered : (codes : List ℤ) (n m b c d r : ℕ) (asked : Asked) (xs ys zs : List ℤ) → asked ≡ askNodes codes n m (b ∷ c ∷ d ∷ [])
+    → asked ≡ Passed
     → xs ≡ row codes m b → ys ≡ row codes m c → zs ≡ row codes m d
     → r ≡ intervalDifference (take 128 xs) (take 128 ys) (take 128 zs) → value r ≡ intervalAnswer codes n m b c d
 unfolding intervalAnswer

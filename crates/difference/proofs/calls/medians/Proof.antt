@@ -48,7 +48,8 @@ write-medians-requires c κs = search needs
 refuses : (codes : List ℤ) (n m a b c : ℕ) (old : List ℤ) (refusal : Refusal) → length old ≡ 128
     → askNodes codes n m (a ∷ b ∷ c ∷ []) ≡ Refused refusal → MediansAnswer codes n m a b c old old (Refused refusal)
 unfolding askMedians
-refuses codes n m a b c old refusal size e = record { says = rw (eq-eqb (length old) 128 size, e); lent = rw (eq-eqb (length old) 128 size, e) }
+refuses codes n m a b c old refusal size e =
+    record { says = rw (eq-eqb (length old) 128 size, e); lent = rw (eq-eqb (length old) 128 size, e) }
 
 returns-2 : tie.Need-returns-2
 returns-2 c =

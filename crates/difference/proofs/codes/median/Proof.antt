@@ -8,7 +8,8 @@ use Rattle.difference.proofs.codes.median.Statement.{statement}
 use Rattle.difference.proofs.codes.median.Tie as tie
 
 -- the median from its parts
-of-parts : (a b c low high other r : ℤ) → low ≡ lower a b → high ≡ higher a b → other ≡ lower high c → r ≡ higher low other → r ≡ median a b c
+of-parts : (a b c low high other r : ℤ) → low ≡ lower a b → high ≡ higher a b → other ≡ lower high c → r ≡ higher low other
+    → r ≡ median a b c
 unfolding median
 of-parts a b c low high other r p q s t = cc
 

@@ -1,5 +1,5 @@
--- `matrix::questions::all_in_range` meets its contract. The loop's invariant: what is left of the row decides. The measure is what is left of
--- the length. Assumes nothing.
+-- `matrix::questions::all_in_range` meets its contract. The loop's invariant: what is left of the row decides. The measure is what is
+-- left of the length. Assumes nothing.
 use mathlib.Core.Path.{_≡_}
 use Prim.Native.Nat.{_-_, _≤_}
 use native.Mathlib.Omega.{arith}

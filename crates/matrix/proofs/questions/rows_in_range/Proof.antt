@@ -33,7 +33,8 @@ past n done h = rw length-numbers h
 
 abbrev Inv-loop : tie.InvT-loop
 Inv-loop matrix m n done₀ done =
-    (done ≤ n) × (every (λ v. allInRange (row matrix m v)) (numbers 1 n) ≡ every (λ v. allInRange (row matrix m v)) (drop done (numbers 1 n)))
+    (done ≤ n) × (every (λ v. allInRange (row matrix m v)) (numbers 1 n) ≡ every (λ v. allInRange (row matrix m v))
+    (drop done (numbers 1 n)))
 
 abbrev μ-loop : tie.MeasureT-loop
 μ-loop matrix m n done₀ done = n - done
@@ -55,7 +56,8 @@ unfolding rowsInRange
 returns c =
     every-fails _ 0 (numbers 1 _) _ (c .before .before .before .before .loop .inv .1)
     (within _ _ (c .before .before .before .loop-test .taken))
-    (answered _ _ _ _ _ _ (c .before .before .before .loop-test .taken) (c .before .all-in-range .ensures) (c .before .before .row .ensures))
+    (answered _ _ _ _ _ _ (c .before .before .before .loop-test .taken) (c .before .all-in-range .ensures)
+    (c .before .before .row .ensures))
     (c .if1 .taken)
 
 add-done : tie.Need-add-done Inv-loop μ-loop
@@ -69,7 +71,8 @@ loop-again c = (
   omega arith,
   every-goes-on _ 0 (numbers 1 _) _ (c .before .before .before .before .loop .inv .1)
       (within _ _ (c .before .before .before .loop-test .taken))
-      (answered _ _ _ _ _ _ (c .before .before .before .loop-test .taken) (c .before .all-in-range .ensures) (c .before .before .row .ensures))
+      (answered _ _ _ _ _ _ (c .before .before .before .loop-test .taken) (c .before .all-in-range .ensures)
+      (c .before .before .row .ensures))
       (c .if1 .left),
 )
 

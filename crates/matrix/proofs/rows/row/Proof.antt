@@ -34,7 +34,8 @@ cut codes m v start e h =
     ∙ ap (take m) (ap (λ k. drop k codes) e ∙ drop-min codes (rowStart v))
 
 -- a row that the list has whole
-whole : (codes : List ℤ) (m v start : ℕ) → start ≡ min (length codes) (rowStart v) → take (start + m - start) (drop start codes) ≡ row codes m v
+whole : (codes : List ℤ) (m v start : ℕ) → start ≡ min (length codes) (rowStart v)
+    → take (start + m - start) (drop start codes) ≡ row codes m v
 unfolding row
 whole codes m v start e =
     ap (λ k. take k (drop start codes)) (add-sub-cancel-left start m) ∙ ap (take m) (ap (λ k. drop k codes) e ∙ drop-min codes (rowStart v))

@@ -18,10 +18,12 @@ in-name-requires : tie.Need-in-name-requires
 in-name-requires c κs = search needs
 
 returns : tie.Need-returns
-returns c = c .is-digit .ensures ∙ ap (λ kind. inAlphabet kind (c .before .before .before .args .byte)) (sym (c .before .enum-told .given .1))
+returns c =
+    c .is-digit .ensures ∙ ap (λ kind. inAlphabet kind (c .before .before .before .args .byte)) (sym (c .before .enum-told .given .1))
 
 returns-2 : tie.Need-returns-2
-returns-2 c = c .in-name .ensures ∙ ap (λ kind. inAlphabet kind (c .before .before .before .args .byte)) (sym (c .before .enum-told2 .given .1))
+returns-2 c =
+    c .in-name .ensures ∙ ap (λ kind. inAlphabet kind (c .before .before .before .args .byte)) (sym (c .before .enum-told2 .given .1))
 
 pub in-alphabet-spec : {M : Type 1} → statement M
 in-alphabet-spec =

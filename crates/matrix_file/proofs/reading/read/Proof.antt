@@ -1,6 +1,7 @@
 -- `matrix_file::reading::read` meets its contract: a refusal is that of the questions and leaves both lists as they were; what is
 -- written is the job's. Assumes nothing.
-use Rattle.matrix_file.proofs.Lists.ReadWalk.{wrong-matrix, wrong-names, read-refused, read-behind, matrix-given, names-given, read-written}
+use Rattle.matrix_file.proofs.Lists.ReadWalk.{wrong-matrix, wrong-names, read-refused}
+use Rattle.matrix_file.proofs.Lists.ReadWalk.{read-behind, matrix-given, names-given, read-written}
 use borrow.Author.Needs.{needs}
 use Rattle.matrix_file.proofs.reading.read.Statement.{statement}
 use Rattle.matrix_file.proofs.reading.read.Tie as tie

@@ -5,7 +5,8 @@ use native.Mathlib.Omega.{arith}
 use borrow.Author.Needs.{needs}
 use lib.ListN.{length}
 use Rattle.matrix_file.proofs.Lists.LinesWalk.{RowFormed, line-formed, line-ended}
-use Rattle.matrix_file.proofs.Lists.WrittenLines.{codes-formed, codes-few, codes-said, part-room, ItemsWritten, items-start, items-next, items-all}
+use Rattle.matrix_file.proofs.Lists.WrittenLines.{codes-formed, codes-few, codes-said, part-room}
+use Rattle.matrix_file.proofs.Lists.WrittenLines.{ItemsWritten, items-start, items-next, items-all}
 use Rattle.matrix_file.specs.Rows.{codesIn}
 use Rattle.matrix.specs.Shape.{columns}
 use Rattle.matrix_file.proofs.writing.write_matrix.Statement.{statement}
@@ -53,13 +54,21 @@ mul-write-codes c = omega (arith, c .before .before .before .before .before .pre
 
 sub-write-codes : tie.Need-sub-write-codes Inv-loop μ-loop
 sub-write-codes c =
-    omega
-    (arith, c .before .before .before .before .before .pre .0, c .before .before .loop-test .taken, c .before .before .before .loop .inv .full)
+    omega (
+      arith,
+      c .before .before .before .before .before .pre .0,
+      c .before .before .loop-test .taken,
+      c .before .before .before .loop .inv .full,
+    )
 
 part-write-codes-start : tie.Need-part-write-codes-start Inv-loop μ-loop
 part-write-codes-start c =
-    omega
-    (arith, c .before .before .before .before .before .pre .0, c .before .before .loop-test .taken, c .before .before .before .loop .inv .full)
+    omega (
+      arith,
+      c .before .before .before .before .before .pre .0,
+      c .before .before .loop-test .taken,
+      c .before .before .before .loop .inv .full,
+    )
 
 part-write-codes-end : tie.Need-part-write-codes-end Inv-loop μ-loop
 part-write-codes-end c = search needs

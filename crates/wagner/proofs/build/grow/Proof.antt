@@ -1,4 +1,5 @@
--- `wagner::build::grow` meets its contract. The loop's invariant: the build is under way, and what is left of it goes on from here. Assumes nothing.
+-- `wagner::build::grow` meets its contract. The loop's invariant: the build is under way, and what is left of it goes on from here.
+-- Assumes nothing.
 use Rattle.branching.specs.declared.placement.Placement.{Placement}
 use Rattle.wagner.specs.Order.{Advancements}
 use Rattle.matrix.specs.Questions.{LentMatrix}

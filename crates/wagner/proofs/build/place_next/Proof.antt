@@ -13,7 +13,8 @@ place-unasked-requires c κs = search needs
 with-placement-requires : tie.Need-with-placement-requires
 with-placement-requires c κs =
     let start = c .before .before .before .before .before in
-    let same = next-done _ _ _ _ _ (start .args .building) _ _ (c .before .before .before .next-taxon .ensures .is) (c .before .place-unasked .ensures) in
+    let same = next-done _ _ _ _ _ (start .args .building) _ _ (c .before .before .before .next-taxon .ensures .is)
+    (c .before .place-unasked .ensures) in
     (start .pre .1, rw same (start .pre .2))
 
 same-length : tie.Need-same-length

@@ -37,14 +37,16 @@ unfolding keyOf
 returns-3 c =
     let asked = c .before .before in
     let pre = asked .before .before .pre in
-    sooner-moves _ _ _ _ (pre .0) (pre .1) (pre .2) (sym (asked .before .in-tree .ensures) ∙ asked .if1 .left) (c .before .if2 .left) (c .if3 .taken)
+    sooner-moves _ _ _ _ (pre .0) (pre .1) (pre .2) (sym (asked .before .in-tree .ensures) ∙ asked .if1 .left) (c .before .if2 .left)
+    (c .if3 .taken)
 
 returns-4 : tie.Need-returns-4
 unfolding keyOf
 returns-4 c =
     let asked = c .before .before in
     let pre = asked .before .before .pre in
-    sooner-stays _ _ _ _ (pre .0) (pre .1) (pre .2) (sym (asked .before .in-tree .ensures) ∙ asked .if1 .left) (c .before .if2 .left) (c .if3 .left)
+    sooner-stays _ _ _ _ (pre .0) (pre .1) (pre .2) (sym (asked .before .in-tree .ensures) ∙ asked .if1 .left) (c .before .if2 .left)
+    (c .if3 .left)
 
 pub sooner-spec : {M : Type 1} → statement M
 sooner-spec =

@@ -1,4 +1,5 @@
--- `wagner::records::lengths` meets its contract. The loop's invariant: the nodes passed have the lengths of their branches. Assumes nothing.
+-- `wagner::records::lengths` meets its contract. The loop's invariant: the nodes passed have the lengths of their branches. Assumes
+-- nothing.
 use Rattle.branching.specs.Ancestors.{ancestor, ancestors}
 use Rattle.wagner.specs.Records.{lengthIn}
 use Rattle.wagner.proofs.Lengths.{length-next}

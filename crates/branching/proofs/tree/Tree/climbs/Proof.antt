@@ -36,7 +36,8 @@ loop-again : tie.Need-loop-again Inv-loop μ-loop
 loop-again c =
     let loop = c .before .before .before .loop in
     let some = c .before .before .loop-test .taken in
-    loop .inv ∙ climbs-above _ (loop .left) (loop .at) some (c .before .if1 .left) ∙ ap (climbs _ (loop .left - 1)) (sym (c .ancestor .ensures))
+    loop .inv ∙ climbs-above _ (loop .left) (loop .at) some (c .before .if1 .left)
+    ∙ ap (climbs _ (loop .left - 1)) (sym (c .ancestor .ensures))
 
 returns-2 : tie.Need-returns-2 Inv-loop μ-loop
 returns-2 c =

@@ -1,4 +1,5 @@
--- `branching::tree::Tree::descendant_count` meets its contract. The loop's invariant: those counted and those left are all. Assumes nothing.
+-- `branching::tree::Tree::descendant_count` meets its contract. The loop's invariant: those counted and those left are all. Assumes
+-- nothing.
 use Prim.Native.Nat.{_*_}
 use native.Mathlib.Nat.{zero-add}
 use borrow.Author.Tests.{eq-eqb, ne-eqb}

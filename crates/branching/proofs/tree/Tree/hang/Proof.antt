@@ -18,7 +18,13 @@ with-ancestor-requires-3 c κs = search needs
 
 returns : tie.Need-returns
 unfolding hung
-returns c = rw (c .with-ancestor3 .ensures, c .before .with-ancestor2 .ensures, c .before .before .with-ancestor .ensures, c .before .before .before .ancestor .ensures)
+returns c =
+    rw (
+      c .with-ancestor3 .ensures,
+      c .before .with-ancestor2 .ensures,
+      c .before .before .with-ancestor .ensures,
+      c .before .before .before .ancestor .ensures,
+    )
 
 pub hang-spec : {M : Type 1} → statement M
 hang-spec =

@@ -38,7 +38,8 @@ returns : tie.Need-returns Inv-loop μ-loop
 unfolding hasAncestor ancestor
 returns c =
     let loop = c .before .before .before .loop in
-    running-fails _ (loop .v) 127 (loop .inv .1) (c .before .before .loop-test .taken) refl (ap (λ (t : Bool). not (not t)) (le-leb _ _ (c .if1 .taken)))
+    running-fails _ (loop .v) 127 (loop .inv .1) (c .before .before .loop-test .taken) refl
+    (ap (λ (t : Bool). not (not t)) (le-leb _ _ (c .if1 .taken)))
 
 add-v : tie.Need-add-v Inv-loop μ-loop
 add-v c = search needs

@@ -41,7 +41,11 @@ returns-2 c =
     let tree = ancestors (start .args .self) in
     let size : length tree ≡ 127 = search needs in
     let other : descendantCount (start .args .n) tree 1 ≢ 1 = λ e. c .if2 .taken (c .before .descendant-count .ensures ∙ e) in
-    rw (grown-places tree size (start .args .n) (start .args .k) (start .pre .0) (sym (start .pre .1)) (c .before .before .if1 .left), ne-eqb _ _ other)
+    rw (
+      grown-places tree size (start .args .n) (start .args .k) (start .pre .0) (sym (start .pre .1))
+          (c .before .before .if1 .left),
+      ne-eqb _ _ other,
+    )
 
 loop-holds : tie.Need-loop-holds Inv-loop μ-loop
 loop-holds c =

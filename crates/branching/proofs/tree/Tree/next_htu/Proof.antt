@@ -27,7 +27,8 @@ add-next c =
 returns-2 : tie.Need-returns-2
 unfolding nextHtuWithin nextHtu
 returns-2 c =
-    let none : c .before .before .before .args .n + taxaPlaced (c .before .before .before .args .n) (ancestors (c .before .before .before .args .self)) - 1 ≡ 0 =
+    let none : c .before .before .before .args .n + taxaPlaced (c .before .before .before .args .n)
+    (ancestors (c .before .before .before .args .self)) - 1 ≡ 0 =
     omega (arith, c .before .taxa-placed .ensures) in
     rw (le-leb _ _ (c .before .before .if1 .left), none)
 

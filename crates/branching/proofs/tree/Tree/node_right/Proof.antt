@@ -59,8 +59,10 @@ unfolding nodeRight lastNode
 returns-3 c =
     let start = c .before .before .before .before .before .before in
     let above = ap (inTree _) (start .ancestor .ensures) in
-    let inside = sym (c .before .before .before .before .before .in-tree .ensures ∙ above) ∙ not-false _ (c .before .before .before .before .if1 .left) in
-    let same = sym (c .before .before .before .descendant-count .ensures) ∙ c .before .if2 .left ∙ c .before .before .descendants-wanted .ensures in
+    let inside = sym (c .before .before .before .before .before .in-tree .ensures ∙ above)
+    ∙ not-false _ (c .before .before .before .before .if1 .left) in
+    let same =
+    sym (c .before .before .before .descendant-count .ensures) ∙ c .before .if2 .left ∙ c .before .before .descendants-wanted .ensures in
     let n = start .before .args .n in
     let last : 2 * n - 2 ≡ lastNode n = omega arith in
     rw (inside, eq-eqb _ _ same, ← last) (c .climbs .ensures)

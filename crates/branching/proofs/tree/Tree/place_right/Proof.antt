@@ -43,7 +43,8 @@ returns-3 c =
 returns-4 : tie.Need-returns-4
 returns-4 c =
     let start = c .before .before .before .before .args in
-    let some : 1 ≤ ancestor (ancestors (start .self)) (start .v) = least (c .before .before .before .ancestor .ensures) (c .before .before .if1 .left) in
+    let some : 1 ≤ ancestor (ancestors (start .self)) (start .v) =
+    least (c .before .before .before .ancestor .ensures) (c .before .before .if1 .left) in
     rw (place-has _ _ _ _ some, le-leb _ _ (c .before .if3 .left), lt-leb _ _ (c .if4 .taken))
 
 node-right-requires : tie.Need-node-right-requires

@@ -1,21 +1,23 @@
 -- `branching::tree::Tree::place_unasked` meets its contract. Assumes nothing.
 use Rattle.branching.proofs.Unasked.{done-linked, done-hung, done-more, done-wide}
-use mathlib.Core.Path.{refl}
+use mathlib.Core.Path.{ap}
+use Rattle.branching.specs.Ancestors.{ancestors}
 use borrow.Author.Needs.{needs}
 use Rattle.branching.proofs.tree.Tree.place_unasked.Statement.{statement}
 use Rattle.branching.proofs.tree.Tree.place_unasked.Tie as tie
 
-no-placement-requires : tie.Need-no-placement-requires
-no-placement-requires c κs = search needs
+unplaced-requires : tie.Need-unplaced-requires
+unplaced-requires c κs = search needs
 
 returns : tie.Need-returns
-returns c = done-more _ _ _ _ _ _ (c .before .if1 .taken) refl (c .no-placement .ensures)
+returns c = done-more _ _ _ _ _ _ (c .before .if1 .taken) (ap ancestors (c .unplaced .ensures .0)) (c .unplaced .ensures .1)
 
-no-placement-requires-2 : tie.Need-no-placement-requires-2
-no-placement-requires-2 c κs = search needs
+unplaced-requires-2 : tie.Need-unplaced-requires-2
+unplaced-requires-2 c κs = search needs
 
 returns-2 : tie.Need-returns-2
-returns-2 c = done-wide _ _ _ _ _ _ (c .before .before .if1 .left) (c .before .if2 .taken) refl (c .no-placement2 .ensures)
+returns-2 c = done-wide _ _ _ _ _ _ (c .before .before .if1 .left) (c .before .if2 .taken)
+    (ap ancestors (c .unplaced2 .ensures .0)) (c .unplaced2 .ensures .1)
 
 nearest-interval-requires : tie.Need-nearest-interval-requires
 nearest-interval-requires c κs = search needs
@@ -34,8 +36,12 @@ returns-3 c =
 
 hang-on-requires : tie.Need-hang-on-requires
 hang-on-requires c κs =
-    let found = c .before .before .before in
-    (found .before .before .before .if1 .left, found .before .before .if2 .left, found .nearest-interval .ensures .added (c .before .if3 .left))
+    let found = c .before .before .before in (
+      found .before .before .before .if1 .left,
+      found .before .before .if2 .left,
+      found .nearest-interval .ensures .added
+          (c .before .if3 .left),
+    )
 
 same-length-2 : tie.Need-same-length-2
 same-length-2 c = search needs
@@ -50,9 +56,9 @@ pub place-unasked-spec : {M : Type 1} → statement M
 place-unasked-spec =
     tie.close
     (tie.spec
-    no-placement-requires
+    unplaced-requires
     returns
-    no-placement-requires-2
+    unplaced-requires-2
     returns-2
     nearest-interval-requires
     link-first-requires
