@@ -1,30 +1,21 @@
-// Prim Networks of worked cases, in the form of the listing's P, p and R lines, with taxa by number. The expected lines are those that the
-// reference program prints of the same matrices, the line of a refusal being 0.
+// Prim Networks of worked cases, in the form of the listing's P, p and R lines, with taxa by number. The expected lines are those that
+// `make.py` has the reference print.
 use libc::STDOUT_FILENO;
-use matrix::refusal;
 use matrix::refusal::Asked;
 use matrix::rows::write_row;
 use prim::answer::Answer;
 use prim::answer::Network;
 use prim::network::network;
-
-// A field of a line: a tab and a number.
-fn print_field(number: u64) {
-    io::write_all(STDOUT_FILENO, b"\t");
-    io::print_decimal(STDOUT_FILENO, number);
-}
-
-fn end_line() {
-    io::write_all(STDOUT_FILENO, b"\n");
-}
+use worked_cases::generated::fill;
+use worked_cases::lines::end_line;
+use worked_cases::lines::print_field;
+use worked_cases::lines::print_refusal;
+use worked_cases::lines::print_three;
 
 // The P line of a link.
 fn print_link(taxon: usize, joined: usize, length: u64) {
     io::write_all(STDOUT_FILENO, b"P");
-    print_field(taxon as u64);
-    print_field(joined as u64);
-    print_field(length);
-    end_line();
+    print_three(taxon, joined, length);
 }
 
 // The P lines of a network.
@@ -55,12 +46,7 @@ fn print_answer(answer: Answer) {
             print_links(network);
             print_total(network.total);
         }
-        Asked::Refused(why) => {
-            io::write_all(STDOUT_FILENO, b"R");
-            print_field(refusal::number(why));
-            print_field(0);
-            end_line();
-        }
+        Asked::Refused(why) => print_refusal(why),
     }
 }
 
@@ -127,28 +113,6 @@ fn unread(codes: &mut [i32; 16128]) {
     show(codes, 3, 3);
     show(codes, 3, 4);
     show(codes, 4, 2);
-}
-
-// The next number of a sequence of pseudo-random numbers below 2 ^ 31.
-fn following(number: u64) -> u64 {
-    ((number % 2147483648) * 1103515245 + 12345) % 2147483648
-}
-
-// One of eight codes, by such a number.
-fn chosen(codes: [i32; 8], number: u64) -> i32 {
-    let i = ((number / 65536) % 8) as usize;
-    codes[i]
-}
-
-// Fills a matrix with such codes.
-fn fill(matrix: &mut [i32; 16128], codes: [i32; 8], seed: u64) {
-    let mut number = seed;
-    let mut i = 0;
-    while i < 16128 {
-        number = following(number);
-        matrix[i] = chosen(codes, number);
-        i += 1;
-    }
 }
 
 // Matrices of few codes, where many taxa are equally near, and of codes over the whole range.

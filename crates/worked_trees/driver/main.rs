@@ -1,5 +1,7 @@
 //! The cases of `src/main.rt`, answered by the reference.
-use wagner_reference::data::{Branch, Data, Ends};
+mod cases;
+use cases::{fill, put};
+use wagner_reference::data::{Branch, Data};
 use wagner_reference::tree::{build, place, Order, Placement, Tree};
 
 struct Work {
@@ -53,11 +55,6 @@ impl Pairs {
 }
 
 impl Work {
-    fn put(&mut self, v: usize, row: &[i32]) {
-        for (j, &code) in row.iter().enumerate() {
-            self.data.matrix[v - 1][j] = Ends::single(code);
-        }
-    }
     fn digest(&self) {
         let mut sum = 0u64;
         for row in &self.data.matrix {
@@ -97,23 +94,14 @@ impl Work {
         self.digest();
         larger
     }
-    fn fill(&mut self, codes: [i32; 8], seed: u64) {
-        let mut number = seed;
-        for row in &mut self.data.matrix {
-            for ends in row.iter_mut() {
-                number = ((number % 2147483648) * 1103515245 + 12345) % 2147483648;
-                *ends = Ends::single(codes[((number / 65536) % 8) as usize]);
-            }
-        }
-    }
 }
 
 fn main() {
     let mut w = Work { data: Data::blank(4, 3) };
-    w.put(1, &[0, 0, 0]);
-    w.put(2, &[2, 1, 0]);
-    w.put(3, &[2, 3, 1]);
-    w.put(4, &[-1, 1, 2]);
+    put(&mut w.data, 1, &[0, 0, 0]);
+    put(&mut w.data, 2, &[2, 1, 0]);
+    put(&mut w.data, 3, &[2, 3, 1]);
+    put(&mut w.data, 4, &[-1, 1, 2]);
     w.show(4, 3);
     w.show(1, 3);
     w.show(2, 3);
@@ -125,13 +113,13 @@ fn main() {
     w.hand(4, 3, Pairs::alone(), 1);
 
     let tree = Pairs::alone().link(2).hang(4, 2, 5);
-    w.put(5, &[1, 1, 1]);
+    put(&mut w.data, 5, &[1, 1, 1]);
     w.hand(4, 3, tree, 3);
-    w.put(5, &[-7, 9, 999]);
+    put(&mut w.data, 5, &[-7, 9, 999]);
     w.hand(4, 3, tree, 3);
-    w.put(5, &[3, 3, 3]);
-    w.put(6, &[4, 4, 4]);
-    w.put(7, &[5, 5, 5]);
+    put(&mut w.data, 5, &[3, 3, 3]);
+    put(&mut w.data, 6, &[4, 4, 4]);
+    put(&mut w.data, 7, &[5, 5, 5]);
     w.hand(5, 3, Pairs::alone().link(4).hang(3, 4, 6).hang(2, 6, 7), 5);
     w.hand(5, 3, Pairs::alone().link(4).hang(3, 4, 6).hang(2, 3, 7), 5);
 
@@ -149,13 +137,13 @@ fn main() {
     w.show(4, 129);
     w.hand(65, 3, tree, 3);
     w.hand(4, 129, tree, 3);
-    w.put(5, &[0, 1000, 0]);
+    put(&mut w.data, 5, &[0, 1000, 0]);
     w.hand(4, 3, tree, 3);
     w.hand(4, 3, tree, 2);
     w.hand(4, 1, tree, 3);
-    w.put(6, &[-1000, 0, 0]);
+    put(&mut w.data, 6, &[-1000, 0, 0]);
     w.hand(4, 1, tree, 3);
-    w.put(3, &[0, 0, -1000]);
+    put(&mut w.data, 3, &[0, 0, -1000]);
     w.show(4, 3);
     w.hand(4, 3, tree, 3);
     w.hand(4, 3, tree, 9);
@@ -173,21 +161,21 @@ fn main() {
         line("A", &[v as u64, unchanged.0[v] as u64]);
     }
 
-    w.put(1, &[-999; 128]);
-    w.put(2, &[999; 128]);
-    w.put(3, &[0; 128]);
-    w.put(4, &[999; 128]);
+    put(&mut w.data, 1, &[-999; 128]);
+    put(&mut w.data, 2, &[999; 128]);
+    put(&mut w.data, 3, &[0; 128]);
+    put(&mut w.data, 4, &[999; 128]);
     w.show(4, 1);
     w.show(4, 128);
 
-    w.fill([-2, -1, -1, 0, 0, 0, 1, 2], 1);
+    fill(&mut w.data, [-2, -1, -1, 0, 0, 0, 1, 2], 1);
     w.show(64, 1);
     w.show(64, 4);
     w.show(23, 9);
-    w.fill([0, 1, 0, 1, 0, 1, 0, 1], 2);
+    fill(&mut w.data, [0, 1, 0, 1, 0, 1, 0, 1], 2);
     w.show(64, 12);
     w.show(16, 128);
-    w.fill([-999, -500, -37, 0, 1, 250, 998, 999], 3);
+    fill(&mut w.data, [-999, -500, -37, 0, 1, 250, 998, 999], 3);
     w.show(64, 20);
     w.show(9, 128);
 }

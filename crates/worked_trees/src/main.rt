@@ -3,35 +3,16 @@ use branching::branch::Branch;
 use branching::placement::Placement;
 use branching::tree::Tree;
 use libc::STDOUT_FILENO;
-use matrix::refusal;
 use matrix::refusal::Asked;
-use matrix::refusal::Refusal;
+use matrix::rows::write_row;
 use wagner::build::WagnerTree;
 use wagner::build::build;
 use wagner::records::branches;
-
-// Writes a row's codes at the front of the row of node v, as far as the matrix goes.
-fn put(codes: &mut [i32; 16128], v: usize, row: &[i32]) {
-    let start = matrix::rows::row_start(16128, v);
-    let mut j = 0;
-    while j < row.len() {
-        if 16128 - start <= j {
-            return;
-        }
-        codes[start + j] = row[j];
-        j += 1;
-    }
-}
-
-// A field of a line: a tab and a number.
-fn print_field(number: u64) {
-    io::write_all(STDOUT_FILENO, b"\t");
-    io::print_decimal(STDOUT_FILENO, number);
-}
-
-fn end_line() {
-    io::write_all(STDOUT_FILENO, b"\n");
-}
+use worked_cases::generated::fill;
+use worked_cases::lines::end_line;
+use worked_cases::lines::print_field;
+use worked_cases::lines::print_refusal;
+use worked_cases::lines::print_three;
 
 // The W line of a placement: taxon, lower end, upper end, HTU, length added.
 fn print_placement(placement: Placement) {
@@ -83,10 +64,7 @@ fn print_branch(branch: Branch) {
         return;
     }
     io::write_all(STDOUT_FILENO, b"B");
-    print_field(branch.node as u64);
-    print_field(branch.ancestor as u64);
-    print_field(branch.length);
-    end_line();
+    print_three(branch.node, branch.ancestor, branch.length);
 }
 
 // The B lines of branch records.
@@ -97,14 +75,6 @@ fn print_branches(records: [Branch; 125]) {
         print_branch(branch);
         i += 1;
     }
-}
-
-// The R line of a refusal.
-fn print_refusal(why: Refusal) {
-    io::write_all(STDOUT_FILENO, b"R");
-    print_field(refusal::number(why));
-    print_field(0);
-    end_line();
 }
 
 // A number that any changed code of the matrix changes, as far as such a number can.
@@ -171,10 +141,10 @@ fn hand(codes: &mut [i32; 16128], n: usize, m: usize, tree: Tree, b: usize) -> T
 
 // Document 01's example, and the first one and two of its taxa.
 fn example(codes: &mut [i32; 16128]) {
-    put(codes, 1, &[0, 0, 0]);
-    put(codes, 2, &[2, 1, 0]);
-    put(codes, 3, &[2, 3, 1]);
-    put(codes, 4, &[-1, 1, 2]);
+    write_row(codes, 1, &[0, 0, 0]);
+    write_row(codes, 2, &[2, 1, 0]);
+    write_row(codes, 3, &[2, 3, 1]);
+    write_row(codes, 4, &[-1, 1, 2]);
     show(codes, 4, 3);
     show(codes, 1, 3);
     show(codes, 2, 3);
@@ -196,13 +166,13 @@ fn one_by_one(codes: &mut [i32; 16128]) {
 // Trees of others, with codes of their own for the HTUs: taxa 2 and 4 below HTU 5; then one more HTU.
 fn handed_in(codes: &mut [i32; 16128]) {
     let tree = Tree::alone().link(2).hang(4, 2, 5);
-    put(codes, 5, &[1, 1, 1]);
+    write_row(codes, 5, &[1, 1, 1]);
     hand(codes, 4, 3, tree, 3);
-    put(codes, 5, &[-7, 9, 999]);
+    write_row(codes, 5, &[-7, 9, 999]);
     hand(codes, 4, 3, tree, 3);
-    put(codes, 5, &[3, 3, 3]);
-    put(codes, 6, &[4, 4, 4]);
-    put(codes, 7, &[5, 5, 5]);
+    write_row(codes, 5, &[3, 3, 3]);
+    write_row(codes, 6, &[4, 4, 4]);
+    write_row(codes, 7, &[5, 5, 5]);
     hand(
         codes,
         5,
@@ -245,13 +215,13 @@ fn refusals(codes: &mut [i32; 16128]) {
     show(codes, 4, 129);
     hand(codes, 65, 3, tree, 3);
     hand(codes, 4, 129, tree, 3);
-    put(codes, 5, &[0, 1000, 0]);
+    write_row(codes, 5, &[0, 1000, 0]);
     hand(codes, 4, 3, tree, 3);
     hand(codes, 4, 3, tree, 2);
     hand(codes, 4, 1, tree, 3);
-    put(codes, 6, &[-1000, 0, 0]);
+    write_row(codes, 6, &[-1000, 0, 0]);
     hand(codes, 4, 1, tree, 3);
-    put(codes, 3, &[0, 0, -1000]);
+    write_row(codes, 3, &[0, 0, -1000]);
     show(codes, 4, 3);
     hand(codes, 4, 3, tree, 3);
     hand(codes, 4, 3, tree, 9);
@@ -279,34 +249,12 @@ fn short() {
 
 // Both ends of the range, and equal rows.
 fn ends(codes: &mut [i32; 16128]) {
-    put(codes, 1, &[-999i32; 128]);
-    put(codes, 2, &[999i32; 128]);
-    put(codes, 3, &[0i32; 128]);
-    put(codes, 4, &[999i32; 128]);
+    write_row(codes, 1, &[-999i32; 128]);
+    write_row(codes, 2, &[999i32; 128]);
+    write_row(codes, 3, &[0i32; 128]);
+    write_row(codes, 4, &[999i32; 128]);
     show(codes, 4, 1);
     show(codes, 4, 128);
-}
-
-// The next number of a sequence of pseudo-random numbers below 2 ^ 31.
-fn following(number: u64) -> u64 {
-    ((number % 2147483648) * 1103515245 + 12345) % 2147483648
-}
-
-// One of eight codes, by such a number.
-fn chosen(codes: [i32; 8], number: u64) -> i32 {
-    let i = ((number / 65536) % 8) as usize;
-    codes[i]
-}
-
-// Fills a matrix with such codes.
-fn fill(matrix: &mut [i32; 16128], codes: [i32; 8], seed: u64) {
-    let mut number = seed;
-    let mut i = 0;
-    while i < 16128 {
-        number = following(number);
-        matrix[i] = chosen(codes, number);
-        i += 1;
-    }
 }
 
 // Matrices of few codes, where many intervals are equally near and many HTUs equal a node, and of codes over the whole range.

@@ -1,8 +1,8 @@
--- `worked_trees::fill` is safe. Assumes nothing.
+-- `worked_cases::generated::fill` is safe. Assumes nothing.
 use Prim.Native.Nat.{_-_, _≤_}
 use borrow.Author.Needs.{needs}
-use Rattle.worked_trees.proofs.fill.Statement.{statement}
-use Rattle.worked_trees.proofs.fill.Tie as tie
+use Rattle.worked_cases.proofs.generated.fill.Statement.{statement}
+use Rattle.worked_cases.proofs.generated.fill.Tie as tie
 
 abbrev Inv-loop : tie.InvT-loop
 Inv-loop matrix₀ codes seed number₀ i₀ matrix number i = i ≤ 16128

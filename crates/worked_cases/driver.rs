@@ -1,0 +1,20 @@
+//! What the drivers share: rows written into a matrix of the reference, and the codes of a generated matrix.
+use wagner_reference::data::{Data, Ends};
+
+/// Writes a row's codes at the front of the row of node v.
+pub fn put(data: &mut Data, v: usize, row: &[i32]) {
+    for (j, &code) in row.iter().enumerate() {
+        data.matrix[v - 1][j] = Ends::single(code);
+    }
+}
+
+/// Fills a matrix with codes from a sequence of pseudo-random numbers below 2 ^ 31.
+pub fn fill(data: &mut Data, codes: [i32; 8], seed: u64) {
+    let mut number = seed;
+    for row in &mut data.matrix {
+        for ends in row.iter_mut() {
+            number = ((number % 2147483648) * 1103515245 + 12345) % 2147483648;
+            *ends = Ends::single(codes[((number / 65536) % 8) as usize]);
+        }
+    }
+}

@@ -1,0 +1,121 @@
+//! The cases of `src/main.rt`, answered by the reference. A lent row of medians is the reference's list of codes in a row of sevens; a row
+//! that is too short, which the reference has not, is 12 by document 01.
+#[allow(dead_code)]
+mod cases;
+use cases::put;
+use wagner_reference::data::{Data, Refusal};
+use wagner_reference::measure::{difference, interval_difference, median, median_of_three};
+
+fn of(data: &Data, n: usize, m: usize) -> Data {
+    let mut other = data.clone();
+    other.n = n;
+    other.m = m;
+    other
+}
+
+fn length(answer: Result<i64, Refusal>) {
+    match answer {
+        Ok(length) => println!("{length}"),
+        Err(refusal) => println!("R {}", refusal.number),
+    }
+}
+
+fn apart(data: &Data, n: usize, m: usize, a: usize, b: usize) {
+    length(difference(&of(data, n, m), a, b));
+}
+
+fn interval(data: &Data, n: usize, m: usize, b: usize, c: usize, d: usize) {
+    length(interval_difference(&of(data, n, m), b, c, d));
+}
+
+fn medians(data: &Data, n: usize, m: usize, nodes: [usize; 3], shown: usize) {
+    let mut row = vec![7; 128];
+    let mut text = match median(&of(data, n, m), nodes[0], nodes[1], nodes[2]) {
+        Ok(codes) => {
+            row[..m].copy_from_slice(&codes);
+            "medians".to_string()
+        }
+        Err(refusal) => format!("R {}", refusal.number),
+    };
+    for code in &row[..shown] {
+        text += &format!(" {code}");
+    }
+    println!("{text}");
+}
+
+fn three(data: &Data, m: usize, shown: usize) {
+    apart(data, 3, m, 1, 2);
+    interval(data, 3, m, 1, 2, 3);
+    medians(data, 3, m, [1, 2, 3], shown);
+}
+
+fn main() {
+    let mut d = Data::blank(5, 12);
+    put(&mut d, 2, &[1, 1, 1, 1, 0, 0, 0, 0, 0, 0, 0, 0]);
+    put(&mut d, 3, &[0, 0, 0, 0, 1, 1, 1, 1, 1, 1, 1, 0]);
+    put(&mut d, 4, &[1, 0, 0, 0, 1, 1, 1, 1, 1, 1, 1, 1]);
+    put(&mut d, 5, &[1, 0, 0, 0, 1, 1, 1, 1, 1, 0, 0, 0]);
+    apart(&d, 5, 12, 3, 1);
+    apart(&d, 5, 12, 3, 2);
+    apart(&d, 5, 12, 1, 2);
+    interval(&d, 5, 12, 3, 2, 1);
+    interval(&d, 5, 12, 4, 2, 1);
+    interval(&d, 5, 12, 5, 2, 1);
+    medians(&d, 5, 12, [5, 2, 1], 13);
+
+    let mut d = Data::blank(3, 5);
+    put(&mut d, 1, &[-1, 0, 1, -3, -1]);
+    put(&mut d, 2, &[2, 0, -1, -1, -1]);
+    put(&mut d, 3, &[0, 0, 0, -2, 1]);
+    three(&d, 5, 6);
+
+    let mut d = Data::blank(3, 1);
+    put(&mut d, 1, &[-999; 128]);
+    put(&mut d, 2, &[999; 128]);
+    put(&mut d, 3, &[999; 128]);
+    three(&d, 1, 2);
+    three(&d, 128, 3);
+
+    let mut d = Data::blank(3, 128);
+    for v in 1..=126 {
+        put(&mut d, v, &[4; 128]);
+    }
+    three(&d, 128, 2);
+    put(&mut d, 2, &[5]);
+    apart(&d, 3, 128, 2, 2);
+    interval(&d, 3, 128, 2, 2, 2);
+
+    let mut d = Data::blank(65, 0);
+    d.matrix.truncate(125);
+    apart(&d, 65, 0, 9, 9);
+
+    let mut d = Data::blank(3, 1);
+    put(&mut d, 3, &[1000]);
+    apart(&d, 65, 1, 9, 9);
+    apart(&d, 0, 1, 1, 1);
+    apart(&d, 64, 129, 1, 1);
+    apart(&d, 3, 1, 9, 9);
+    apart(&d, 2, 1, 1, 3);
+    apart(&d, 2, 1, 0, 1);
+    apart(&d, 1, 1, 1, 1);
+    apart(&d, 1, 1, 1, 2);
+
+    let mut d = Data::blank(4, 1);
+    put(&mut d, 3, &[999]);
+    put(&mut d, 5, &[0, -1000]);
+    interval(&d, 4, 1, 1, 5, 6);
+    interval(&d, 4, 2, 1, 5, 7);
+    interval(&d, 4, 2, 1, 5, 6);
+    medians(&d, 4, 2, [1, 2, 5], 2);
+
+    println!("R 12 7 7");
+
+    let (low, high) = (i32::MIN, i32::MAX);
+    println!(
+        "{} {} {} {}",
+        (i64::from(low) - i64::from(high)).abs(),
+        median_of_three(low, high, -1),
+        median_of_three(high, low, high),
+        median_of_three(low, low, 0)
+    );
+}
