@@ -1,4 +1,5 @@
-//! What the drivers share: rows written into a matrix of the reference, and the codes of a generated matrix.
+//! What the drivers share: rows written into a matrix of the reference, the codes of a generated matrix, and the digest of a matrix.
+#![allow(dead_code)]
 use wagner_reference::data::{Data, Ends};
 
 /// Writes a row's codes at the front of the row of node v.
@@ -17,4 +18,15 @@ pub fn fill(data: &mut Data, codes: [i32; 8], seed: u64) {
             *ends = Ends::single(codes[((number / 65536) % 8) as usize]);
         }
     }
+}
+
+/// The D line of a matrix.
+pub fn digest(data: &Data) {
+    let mut sum = 0u64;
+    for row in &data.matrix {
+        for ends in row {
+            sum = (sum % 2147483648) * 31 + ((ends.low + 1000).unsigned_abs() as u64) % 4096;
+        }
+    }
+    println!("D\t{}", sum % 2147483648);
 }

@@ -1,3 +1,4 @@
-// What the test programs share: the fields of the lines that they print, and matrices of generated codes.
+// What the test programs share: the fields of the lines that they print, matrices of generated codes, and digests of lists.
+pub mod digests;
 pub mod generated;
 pub mod lines;

@@ -1,4 +1,6 @@
 //! The cases of `src/main.rt`, answered by the reference. A lent list of states has the matrix's shape and is kept as a matrix is.
+mod cases;
+use cases::{digest, fill, put};
 use wagner_reference::data::{full_size, Branch, Data, Ends, Refusal};
 use wagner_reference::ranges::Range;
 use wagner_reference::tree::{build, Order};
@@ -26,16 +28,6 @@ fn shuffled(records: &[Branch], n: usize) -> Vec<Branch> {
 
 fn refused(why: Refusal) {
     println!("R\t{}\t{}", why.number, why.line);
-}
-
-fn digest(list: &Data) {
-    let mut sum = 0u64;
-    for row in &list.matrix {
-        for ends in row {
-            sum = (sum % 2147483648) * 31 + ((ends.low + 1000).unsigned_abs() as u64) % 4096;
-        }
-    }
-    println!("D\t{}", sum % 2147483648);
 }
 
 fn filled_with(code: i32) -> Data {
@@ -75,20 +67,6 @@ struct Work {
 }
 
 impl Work {
-    fn put(&mut self, v: usize, row: &[i32]) {
-        for (j, &code) in row.iter().enumerate() {
-            self.codes.matrix[v - 1][j] = Ends::single(code);
-        }
-    }
-    fn fill(&mut self, codes: [i32; 8], seed: u64) {
-        let mut number = seed;
-        for row in &mut self.codes.matrix {
-            for ends in row.iter_mut() {
-                number = ((number % 2147483648) * 1103515245 + 12345) % 2147483648;
-                *ends = Ends::single(codes[((number / 65536) % 8) as usize]);
-            }
-        }
-    }
     /// Writes the states of the HTUs into the three lists.
     fn write(&mut self, found: &fit::Fit, records: &[Branch]) {
         let all = ranges::ranges(&self.codes, records).unwrap();
@@ -166,10 +144,10 @@ impl Work {
         digest(&self.codes);
     }
     fn example_rows(&mut self) {
-        self.put(1, &[0, 0, 0]);
-        self.put(2, &[2, 1, 0]);
-        self.put(3, &[2, 3, 1]);
-        self.put(4, &[-1, 1, 2]);
+        put(&mut self.codes, 1, &[0, 0, 0]);
+        put(&mut self.codes, 2, &[2, 1, 0]);
+        put(&mut self.codes, 3, &[2, 3, 1]);
+        put(&mut self.codes, 4, &[-1, 1, 2]);
     }
     fn example(&mut self) {
         self.example_rows();
@@ -180,17 +158,17 @@ impl Work {
     }
     fn unordered(&mut self) {
         let five = [[-4, 5], [-3, 5], [-2, 2], [1, 0], [0, 4]];
-        five.iter().enumerate().for_each(|(i, row)| self.put(i + 1, row));
+        five.iter().enumerate().for_each(|(i, row)| put(&mut self.codes, i + 1, row));
         self.show_all(5, 2, &records_of(&[8, 8, 6, 7, 7, 1, 6]));
         let eight = [[1, -1, -2], [1, 0, -3], [1, 1, 0], [-1, 1, 1], [2, -2, 2], [3, 0, -1], [0, 5, 1], [-2, 1, -3]];
-        eight.iter().enumerate().for_each(|(i, row)| self.put(i + 1, row));
+        eight.iter().enumerate().for_each(|(i, row)| put(&mut self.codes, i + 1, row));
         self.show_all(8, 3, &records_of(&[11, 11, 14, 10, 13, 12, 9, 14, 1, 9, 13, 10, 12]));
     }
     fn larger(&mut self) {
-        self.fill([-2, -1, -1, 0, 0, 0, 1, 2], 5);
+        fill(&mut self.codes, [-2, -1, -1, 0, 0, 0, 1, 2], 5);
         let eleven = [17, 19, 18, 15, 17, 13, 16, 20, 16, 12, 1, 15, 12, 18, 19, 14, 14, 20, 13];
         self.show_all(11, 4, &records_of(&eleven));
-        self.fill([-999, -500, -37, 0, 1, 250, 998, 999], 6);
+        fill(&mut self.codes, [-999, -500, -37, 0, 1, 250, 998, 999], 6);
         let thirteen = [21, 22, 15, 24, 19, 18, 16, 17, 14, 20, 22, 19, 23, 18, 20, 24, 1, 21, 15, 17, 14, 16, 23];
         self.show_all(13, 2, &records_of(&thirteen));
         self.show(13, 128, &records_of(&thirteen));
@@ -198,13 +176,13 @@ impl Work {
     fn own_trees(&mut self) {
         self.example_rows();
         self.own(4, 3);
-        self.fill([-2, -1, -1, 0, 0, 0, 1, 2], 1);
+        fill(&mut self.codes, [-2, -1, -1, 0, 0, 0, 1, 2], 1);
         self.own(64, 1);
         self.own(23, 9);
-        self.fill([0, 1, 0, 1, 0, 1, 0, 1], 2);
+        fill(&mut self.codes, [0, 1, 0, 1, 0, 1, 0, 1], 2);
         self.own(64, 12);
         self.own(16, 128);
-        self.fill([-999, -500, -37, 0, 1, 250, 998, 999], 3);
+        fill(&mut self.codes, [-999, -500, -37, 0, 1, 250, 998, 999], 3);
         self.own(9, 128);
         self.own(1, 5);
         self.own(2, 5);
@@ -213,8 +191,8 @@ impl Work {
     fn refusals(&mut self) {
         let records = records_of(&[6, 6, 5, 1, 5]);
         let no_tree = records_of(&[6, 6, 5, 1, 6]);
-        self.put(5, &[1000, 1000, 1000]);
-        self.put(6, &[-1000, -1000, -1000]);
+        put(&mut self.codes, 5, &[1000, 1000, 1000]);
+        put(&mut self.codes, 6, &[-1000, -1000, -1000]);
         self.show_all(4, 3, &records);
         self.show(0, 3, &no_tree);
         self.show(65, 3, &records);
@@ -229,14 +207,14 @@ impl Work {
         self.node(4, 3, &no_tree, 5, 0);
         self.node(4, 3, &records, 5, 4);
         self.node(4, 3, &no_tree, 5, 1);
-        self.put(4, &[-1, 1, 1000]);
+        put(&mut self.codes, 4, &[-1, 1, 1000]);
         self.show(4, 3, &no_tree);
         self.show(4, 2, &records);
         self.node(4, 3, &no_tree, 7, 4);
         self.node(4, 3, &records, 5, 1);
     }
     fn no_branchings(&mut self) {
-        self.put(4, &[-1, 1, 2]);
+        put(&mut self.codes, 4, &[-1, 1, 2]);
         let mut records = records_of(&[6, 6, 5, 1, 5]);
         records[1].node = 4;
         self.show(4, 3, &records);

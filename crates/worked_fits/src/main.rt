@@ -3,6 +3,7 @@
 use branching::branch::Branch;
 use branching::tree::Tree;
 use difference::calls::Length;
+use difference::codes::apart;
 use fitting::calls::Fitted;
 use fitting::calls::NodeStates;
 use fitting::calls::fit;
@@ -16,13 +17,21 @@ use matrix::refusal::Asked;
 use matrix::rows::write_row;
 use wagner::build::build;
 use wagner::records::branches;
-use worked::end_line;
-use worked::fill;
-use worked::print_digest;
-use worked::print_field;
-use worked::print_refusal;
-use worked::print_state;
+use worked_cases::digests::print_digest;
+use worked_cases::generated::fill;
+use worked_cases::lines::end_line;
+use worked_cases::lines::print_field;
+use worked_cases::lines::print_refusal;
 ghost use Prim.Native.Nat.{_<_};
+
+// A field of a line: a tab and a state.
+fn print_state(state: i32) {
+    io::write_all(STDOUT_FILENO, b"\t");
+    if state < 0 {
+        io::write_all(STDOUT_FILENO, b"-");
+    }
+    io::print_decimal(STDOUT_FILENO, apart(state, 0));
+}
 
 // The t line of a fitted total.
 fn print_total(length: Length) {

@@ -1,6 +1,6 @@
 //! The cases of `src/main.rt`, answered by the reference.
 mod cases;
-use cases::{fill, put};
+use cases::{digest, fill, put};
 use wagner_reference::data::{Branch, Data};
 use wagner_reference::tree::{build, place, Order, Placement, Tree};
 
@@ -55,15 +55,6 @@ impl Pairs {
 }
 
 impl Work {
-    fn digest(&self) {
-        let mut sum = 0u64;
-        for row in &self.data.matrix {
-            for ends in row {
-                sum = (sum % 2147483648) * 31 + ((ends.low + 1000).unsigned_abs() as u64) % 4096;
-            }
-        }
-        line("D", &[sum % 2147483648]);
-    }
     fn show(&mut self, n: usize, m: usize) {
         self.data.n = n;
         self.data.m = m;
@@ -77,7 +68,7 @@ impl Work {
             }
             Err(refusal) => line("R", &[refusal.number as u64, 0]),
         }
-        self.digest();
+        digest(&self.data);
     }
     fn hand(&mut self, n: usize, m: usize, pairs: Pairs, b: usize) -> Pairs {
         self.data.n = n;
@@ -91,7 +82,7 @@ impl Work {
         for v in (0..127).filter(|&v| larger.0[v] != 0) {
             line("A", &[v as u64, larger.0[v] as u64]);
         }
-        self.digest();
+        digest(&self.data);
         larger
     }
 }

@@ -8,6 +8,7 @@ use matrix::rows::write_row;
 use wagner::build::WagnerTree;
 use wagner::build::build;
 use wagner::records::branches;
+use worked_cases::digests::print_digest;
 use worked_cases::generated::fill;
 use worked_cases::lines::end_line;
 use worked_cases::lines::print_field;
@@ -75,24 +76,6 @@ fn print_branches(records: [Branch; 125]) {
         print_branch(branch);
         i += 1;
     }
-}
-
-// A number that any changed code of the matrix changes, as far as such a number can.
-fn digest(codes: &[i32; 16128]) -> u64 {
-    let mut sum = 0u64;
-    let mut i = 0;
-    while i < 16128 {
-        sum = (sum % 2147483648) * 31 + difference::codes::apart(codes[i], -1000) % 4096;
-        i += 1;
-    }
-    sum % 2147483648
-}
-
-// The D line of a matrix.
-fn print_digest(codes: &[i32; 16128]) {
-    io::write_all(STDOUT_FILENO, b"D");
-    print_field(digest(codes));
-    end_line();
 }
 
 // The lines of a finished tree: its placements, its length, its branch records.

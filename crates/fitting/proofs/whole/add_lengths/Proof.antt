@@ -81,6 +81,9 @@ loop-again c =
     let states = start .args .t4 in
     let place = rw (c .before .before .before .before .before .ancestor .ensures) at
     (c .before .before .before .before .place-of .ensures) in
+    let above = statesAt states (c .before .before .before .before .place-of .result) in
+    let more : Longer (statesAt states (loop .v)) above (branchAt (loop .branches) (loop .v))
+    (c .lengthened .result) = c .lengthened .ensures in
     let same = inv .4 .outside (loop .v) (λ l h. omega arith) in (
       omega arith,
       omega arith,
@@ -89,7 +92,7 @@ loop-again c =
       filled-more
           (λ u b. ancestor tree u ≤ 126 → Longer (statesAt states u) (statesAt states (ancestor tree u)) (branchAt (start .args .t1) u) b)
           (λ u b. b ≡ branchAt (start .args .t1) u) noBranch (loop .branches) 2 (loop .v) _ (omega arith) (inv .0) (inv .4)
-          (λ small. rw (same, place .is small) at (c .lengthened .ensures)),
+          (λ small. rw (same, place .is small) at more),
     )
 
 returns : tie.Need-returns Inv-loop μ-loop

@@ -1,8 +1,8 @@
--- `worked::digest` is safe. Assumes nothing.
+-- `worked_cases::digests::digest` is safe. Assumes nothing.
 use Prim.Native.Nat.{_≤_, _-_, _*_, _+_}
 use borrow.Author.Needs.{needs}
-use Rattle.worked.proofs.digest.Statement.{statement}
-use Rattle.worked.proofs.digest.Tie as tie
+use Rattle.worked_cases.proofs.digests.digest.Statement.{statement}
+use Rattle.worked_cases.proofs.digests.digest.Tie as tie
 
 abbrev Inv-loop : tie.InvT-loop
 Inv-loop codes sum₀ i₀ sum i = (i ≤ 16128) × (sum ≤ 2147483648 * 31 + 4096)
