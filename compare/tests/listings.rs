@@ -1,7 +1,7 @@
 //! The whole listing held to the reference's: its bytes, their number, and
 //! every lent byte behind them, for sound, damaged and refused files.
 
-use compare::{lent, list, OUTPUT_SIZE};
+use compare::{lent, list, plain, OUTPUT_SIZE};
 use std::sync::atomic::{AtomicU64, Ordering};
 use std::sync::OnceLock;
 use wagner_reference::data::Requests;
@@ -28,6 +28,10 @@ fn check_listing(file: &[u8]) -> usize {
         let digits = rest.iter().take_while(|byte| byte.is_ascii_digit());
         digits.fold(0, |number, digit| number * 10 + usize::from(digit - b'0'))
     });
+    match plain::list(file, Vec::new()) {
+        None => assert!(refusal.is_some(), "the plain loops refuse it"),
+        Some(text) => assert!(text == expected, "the plain loops' listing differs"),
+    }
     refusal.unwrap_or(0)
 }
 

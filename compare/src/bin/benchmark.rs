@@ -97,8 +97,10 @@ fn ours(file: &[u8]) -> Parts {
 
 fn plain_loops(file: &[u8]) -> Parts {
     let (mut matrix, mut names) = (vec![0; MATRIX_SIZE], lent::names());
-    let head = compare::read(file, &mut matrix, &mut names);
-    let (n, m) = (head.n, head.m);
+    let read = time(|| {
+        black_box(plain::read(black_box(file), &mut matrix, &mut names));
+    });
+    let (n, m) = plain::read(file, &mut matrix, &mut names).unwrap();
     let network = time(|| {
         black_box(plain::network(black_box(&matrix), n, m));
     });
@@ -108,10 +110,15 @@ fn plain_loops(file: &[u8]) -> Parts {
     let [mut low, mut high, mut chosen] = [1, 2, 3].map(|mark| lent::codes(MATRIX_SIZE, mark));
     let both = time(|| {
         let matrix = black_box(&mut matrix);
-        let (tree, _) = plain::build(matrix, n, m);
+        let (tree, _, _) = plain::build(matrix, n, m);
         black_box(plain::fit(matrix, n, m, &tree, &mut low, &mut high, &mut chosen));
     });
-    Parts { read: f64::NAN, network, build, both, whole: f64::NAN }
+    let mut out = Vec::with_capacity(OUTPUT_SIZE);
+    let whole = time(|| {
+        out = plain::list(black_box(file), std::mem::take(&mut out)).unwrap();
+        black_box(&out);
+    });
+    Parts { read, network, build, both, whole }
 }
 
 fn theirs(file: &[u8]) -> Parts {
@@ -138,12 +145,8 @@ fn theirs(file: &[u8]) -> Parts {
 }
 
 fn line(name: &str, ours: f64, plain: f64, theirs: f64) {
-    let beside = if plain.is_nan() {
-        "       -      -".to_string()
-    } else {
-        format!("{plain:8.1} {:6.1}", ours / plain)
-    };
-    println!("  {name:8} {ours:10.1} {beside} {theirs:12.1} {:8.1}", theirs / ours);
+    let (slower, faster) = (ours / plain, theirs / ours);
+    println!("  {name:8} {ours:10.1} {plain:10.1} {slower:6.1} {theirs:12.1} {faster:8.1}");
 }
 
 /// How ours grows along one side of the matrix, with the factor by which the
