@@ -12,6 +12,9 @@ pub const MATRIX_SIZE: usize = ROWS * COLUMNS;
 /// A lent list of names has 64 names of 16 bytes.
 pub const NAMES_SIZE: usize = 1024;
 
+/// So many bytes are lent for what is printed.
+pub const OUTPUT_SIZE: usize = 1_048_576;
+
 /// What a read answers: refusal 0, line 0, n and m; or the number of the
 /// refusal, its line, and zeros.
 #[repr(C)]
@@ -37,6 +40,12 @@ mod library {
 
     // A list is two arguments: where it begins, and how many items it has.
     extern "C" {
+        pub fn wagner_list(
+            file: *const u8,
+            file_length: usize,
+            out: *mut u8,
+            out_length: usize,
+        ) -> usize;
         pub fn wagner_read(
             file: *const u8,
             file_length: usize,
@@ -70,6 +79,12 @@ mod library {
             chosen_length: usize,
         ) -> Measured;
     }
+}
+
+/// Writes the listing of a file, or the line of its refusal, into the front of
+/// lent bytes; answers how many bytes that are, 0 for a wrong size.
+pub fn list(file: &[u8], out: &mut [u8]) -> usize {
+    unsafe { library::wagner_list(file.as_ptr(), file.len(), out.as_mut_ptr(), out.len()) }
 }
 
 /// Reads a file into a lent matrix and a lent list of names.

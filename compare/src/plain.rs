@@ -1,7 +1,26 @@
 //! The same work in plain Rust loops over the lent matrix: what the parts of
 //! the proved library are measured against.
 
-use crate::COLUMNS;
+use crate::{COLUMNS, MATRIX_SIZE, NAMES_SIZE};
+
+/// A link of the network: a taxon, the one that it joins, their difference.
+#[derive(Clone, Copy)]
+pub struct Link {
+    pub taxon: usize,
+    pub joined: usize,
+    pub length: u64,
+}
+
+/// A placement: a taxon, the lower and the upper end of its interval, the new
+/// HTU (0 where there is none), the length added.
+#[derive(Clone, Copy)]
+pub struct Placement {
+    pub taxon: usize,
+    pub lower: usize,
+    pub upper: usize,
+    pub htu: usize,
+    pub added: u64,
+}
 
 fn row(matrix: &[i32], v: usize, m: usize) -> &[i32] {
     &matrix[(v - 1) * COLUMNS..][..m]
@@ -11,39 +30,48 @@ fn difference(a: &[i32], b: &[i32]) -> u64 {
     a.iter().zip(b).map(|(x, y)| u64::from(x.abs_diff(*y))).sum()
 }
 
-/// The length of the Prim Network.
-pub fn network(matrix: &[i32], n: usize, m: usize) -> u64 {
+/// The Prim Network: its links and their length.
+pub fn network(matrix: &[i32], n: usize, m: usize) -> (Vec<Link>, u64) {
     let mut left: Vec<usize> = (2..=n).collect();
-    let mut apart: Vec<u64> = (0..=n)
-        .map(|v| if v < 2 { 0 } else { difference(row(matrix, v, m), row(matrix, 1, m)) })
+    let mut apart: Vec<(u64, usize)> = (0..=n)
+        .map(|v| if v < 2 { (0, 0) } else { (difference(row(matrix, v, m), row(matrix, 1, m)), 1) })
         .collect();
+    let mut links = Vec::new();
     let mut total = 0;
     while !left.is_empty() {
         let mut at = 0;
         for i in 1..left.len() {
-            if apart[left[i]] < apart[left[at]] {
+            if apart[left[i]].0 < apart[left[at]].0 {
                 at = i;
             }
         }
         let v = left.remove(at);
-        total += apart[v];
+        let (length, joined) = apart[v];
+        links.push(Link { taxon: v, joined, length });
+        total += length;
         for &u in &left {
-            apart[u] = apart[u].min(difference(row(matrix, u, m), row(matrix, v, m)));
+            let length = difference(row(matrix, u, m), row(matrix, v, m));
+            if length < apart[u].0 {
+                apart[u] = (length, v);
+            }
         }
     }
-    total
+    (links, total)
 }
 
-/// The Wagner tree: ancestors by node number, and its length.
-pub fn build(matrix: &mut [i32], n: usize, m: usize) -> ([usize; 127], u64) {
+/// The Wagner tree: ancestors by node number, its placements and its length.
+pub fn build(matrix: &mut [i32], n: usize, m: usize) -> ([usize; 127], Vec<Placement>, u64) {
     let mut tree = [0; 127];
+    let mut placements = Vec::new();
     let mut order: Vec<usize> = (2..=n).collect();
     order.sort_by_key(|&v| (difference(row(matrix, v, m), row(matrix, 1, m)), v));
     let mut length = 0;
     for (k, &b) in order.iter().enumerate() {
         if k == 0 {
             tree[b] = 1;
-            length += difference(row(matrix, b, m), row(matrix, 1, m));
+            let added = difference(row(matrix, b, m), row(matrix, 1, m));
+            placements.push(Placement { taxon: b, lower: 0, upper: 1, htu: 0, added });
+            length += added;
             continue;
         }
         let mut best = (u64::MAX, 0);
@@ -63,15 +91,17 @@ pub fn build(matrix: &mut [i32], n: usize, m: usize) -> ([usize; 127], u64) {
             let (p, q, r) = (at(b), at(c), at(tree[c]));
             matrix[(y - 1) * COLUMNS + j] = p.max(q).min(p.min(q).max(r));
         }
+        placements.push(Placement { taxon: b, lower: c, upper: tree[c], htu: y, added: best.0 });
         tree[y] = tree[c];
         tree[c] = y;
         tree[b] = y;
         length += best.0;
     }
-    (tree, length)
+    (tree, placements, length)
 }
 
-/// The fit of a branching: states of the HTUs written, the total.
+/// The fit of a branching: states of the HTUs written, the lengths of the
+/// branches by node number, the total.
 pub fn fit(
     matrix: &[i32],
     n: usize,
@@ -80,7 +110,7 @@ pub fn fit(
     low: &mut [i32],
     high: &mut [i32],
     chosen: &mut [i32],
-) -> u64 {
+) -> ([u64; 127], u64) {
     let last = if n < 2 { 1 } else { 2 * n - 2 };
     let mut below = [[0usize; 2]; 127];
     let mut count = [0; 127];
@@ -98,7 +128,7 @@ pub fn fit(
         let (l, h) = (a.0.max(b.0), a.1.min(b.1));
         (l.min(h), l.max(h))
     };
-    let mut total = 0;
+    let mut lengths = [0; 127];
     for j in 0..m {
         let code = |v: usize| matrix[(v - 1) * COLUMNS + j];
         let mut up = [(0, 0); 127];
@@ -111,7 +141,7 @@ pub fn fit(
         for &v in &walk[1..] {
             let u = tree[v];
             state[v] = state[u].max(up[v].0).min(up[v].1);
-            total += u64::from(state[v].abs_diff(state[u]));
+            lengths[v] += u64::from(state[v].abs_diff(state[u]));
             outside[v] = if u == 1 {
                 up[1]
             } else {
@@ -129,5 +159,159 @@ pub fn fit(
             }
         }
     }
-    total
+    (lengths, lengths.iter().sum())
+}
+
+fn number(field: &[u8], signed: bool) -> Option<i32> {
+    let (minus, digits) = match field {
+        [b'-', digits @ ..] if signed => (true, digits),
+        digits => (false, digits),
+    };
+    if digits.is_empty() || digits.len() > 6 || (digits[0] == b'0' && (minus || digits.len() > 1)) {
+        return None;
+    }
+    let mut value = 0;
+    for digit in digits {
+        if !digit.is_ascii_digit() {
+            return None;
+        }
+        value = value * 10 + i32::from(digit - b'0');
+    }
+    Some(if minus { -value } else { value })
+}
+
+/// A read of a sound file: n and m, or none if a question is answered "no".
+pub fn read(file: &[u8], matrix: &mut [i32], names: &mut [u8]) -> Option<(usize, usize)> {
+    if file.len() > 45_000 || file.last() != Some(&b'\n') {
+        return None;
+    }
+    let mut lines = file[..file.len() - 1].split(|&byte| byte == b'\n');
+    let mut first = lines.next()?.split(|&byte| byte == b'\t');
+    if first.next() != Some(b"W") {
+        return None;
+    }
+    let n = number(first.next()?, false)? as usize;
+    let m = number(first.next()?, false)? as usize;
+    if first.next().is_some() || n < 1 || n > 64 || m < 1 || m > 128 {
+        return None;
+    }
+    for v in 0..n {
+        let mut fields = lines.next()?.split(|&byte| byte == b'\t');
+        let name = fields.next()?;
+        let inside = |byte: &u8| byte.is_ascii_alphanumeric() || *byte == b'_';
+        if name.len() > 16 || !name.first()?.is_ascii_alphabetic() || !name.iter().all(inside) {
+            return None;
+        }
+        let place = &mut names[v * 16..v * 16 + 16];
+        place.fill(0);
+        place[..name.len()].copy_from_slice(name);
+        if (0..v).any(|u| names[u * 16..u * 16 + 16] == names[v * 16..v * 16 + 16]) {
+            return None;
+        }
+        for place in &mut matrix[v * COLUMNS..v * COLUMNS + m] {
+            *place = number(fields.next()?, true).filter(|code| (-999..=999).contains(code))?;
+        }
+        if fields.next().is_some() {
+            return None;
+        }
+    }
+    lines.next().is_none().then_some((n, m))
+}
+
+/// A page of lines: fields parted by tabs.
+struct Page<'a> {
+    text: Vec<u8>,
+    names: &'a [u8],
+    n: usize,
+}
+
+impl Page<'_> {
+    fn digits(&mut self, value: u64) {
+        if value > 9 {
+            self.digits(value / 10);
+        }
+        self.text.push(b'0' + (value % 10) as u8);
+    }
+
+    fn number(&mut self, value: u64) {
+        self.text.push(b'\t');
+        self.digits(value);
+    }
+
+    fn state(&mut self, value: i32) {
+        self.text.push(b'\t');
+        if value < 0 {
+            self.text.push(b'-');
+        }
+        self.digits(u64::from(value.unsigned_abs()));
+    }
+
+    fn node(&mut self, v: usize) {
+        self.text.push(b'\t');
+        if v == 0 {
+            self.text.push(b'-');
+        } else if v > self.n {
+            self.text.push(b'#');
+            self.digits((v - self.n) as u64);
+        } else {
+            let name = &self.names[(v - 1) * 16..v * 16];
+            self.text.extend(name.iter().take_while(|&&byte| byte != 0));
+        }
+    }
+
+    fn total(&mut self, letter: u8, value: u64) {
+        self.text.push(letter);
+        self.number(value);
+        self.text.push(b'\n');
+    }
+}
+
+/// The listing of a sound file, in the bytes of a list that is lent for it.
+pub fn list(file: &[u8], lent: Vec<u8>) -> Option<Vec<u8>> {
+    let (mut matrix, mut names) = ([0; MATRIX_SIZE], [0; NAMES_SIZE]);
+    let (n, m) = read(file, &mut matrix, &mut names)?;
+    let [mut low, mut high, mut chosen] = [[0; MATRIX_SIZE]; 3];
+    let (links, p) = network(&matrix, n, m);
+    let (tree, placements, w) = build(&mut matrix, n, m);
+    let (lengths, t) = fit(&matrix, n, m, &tree, &mut low, &mut high, &mut chosen);
+    let mut page = Page { text: lent, names: &names, n };
+    page.text.clear();
+    for link in links {
+        page.text.push(b'P');
+        page.node(link.taxon);
+        page.node(link.joined);
+        page.number(link.length);
+        page.text.push(b'\n');
+    }
+    page.total(b'p', p);
+    for place in placements {
+        page.text.push(b'W');
+        for node in [place.taxon, place.lower, place.upper, place.htu] {
+            page.node(node);
+        }
+        page.number(place.added);
+        page.text.push(b'\n');
+    }
+    page.total(b'w', w);
+    for v in 2..(2 * n).saturating_sub(1) {
+        page.text.push(b'T');
+        page.node(v);
+        page.node(tree[v]);
+        page.number(lengths[v]);
+        page.text.extend(if lengths[v] > 0 { b"\t+\n" } else { b"\t-\n" });
+    }
+    page.total(b't', t);
+    for v in n + 1..(2 * n).saturating_sub(1) {
+        for j in 1..=m {
+            let at = (v - 1) * COLUMNS + j - 1;
+            page.text.push(b'H');
+            page.node(v);
+            page.number(j as u64);
+            for state in [low[at], high[at], chosen[at]] {
+                page.state(state);
+            }
+            page.text.push(b'\n');
+        }
+    }
+    Some(page.text)
 }

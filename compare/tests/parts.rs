@@ -69,13 +69,13 @@ fn check_calls(mut data: Data) {
     assert!(low == held_low && high == held_high && chosen == held_chosen);
 
     let mut plain = start.clone();
-    assert_eq!(compare::plain::network(&plain, n, m), network_length(&links) as u64);
-    let (tree, length) = compare::plain::build(&mut plain, n, m);
+    assert_eq!(compare::plain::network(&plain, n, m).1, network_length(&links) as u64);
+    let (tree, _, length) = compare::plain::build(&mut plain, n, m);
     assert_eq!(length, built.length as u64);
     assert!(plain == held);
     let lists = [1, 2, 3].map(|mark| lent::codes(MATRIX_SIZE, mark));
     let [mut low, mut high, mut chosen] = lists;
-    let total = compare::plain::fit(&plain, n, m, &tree, &mut low, &mut high, &mut chosen);
+    let (_, total) = compare::plain::fit(&plain, n, m, &tree, &mut low, &mut high, &mut chosen);
     assert_eq!(total, fitted.total as u64);
     assert!(low == held_low && high == held_high && chosen == held_chosen);
 }

@@ -2,12 +2,13 @@
 //!
 //! `cargo run --release --bin benchmark`
 
-use compare::{lent, plain, MATRIX_SIZE};
+use compare::{lent, plain, MATRIX_SIZE, OUTPUT_SIZE};
 use std::hint::black_box;
 use std::time::{Duration, Instant};
 use wagner_reference::data::{Data, Requests};
 use wagner_reference::files::Random;
 use wagner_reference::fit::fit;
+use wagner_reference::listing::listing;
 use wagner_reference::network::prim_network;
 use wagner_reference::ranges::ranges;
 use wagner_reference::read::read;
@@ -28,12 +29,12 @@ fn file(n: usize, m: usize) -> Vec<u8> {
 }
 
 /// The least time that some work takes, in microseconds: runs of it until a
-/// quarter of a second is spent, at least three.
+/// quarter of a second is spent, at least ten.
 fn time(mut work: impl FnMut()) -> f64 {
     let begin = Instant::now();
     let mut least = Duration::MAX;
     let mut runs = 0;
-    while runs < 3 || begin.elapsed() < Duration::from_millis(250) {
+    while runs < 10 || begin.elapsed() < Duration::from_millis(250) {
         let start = Instant::now();
         work();
         least = least.min(start.elapsed());
@@ -42,20 +43,32 @@ fn time(mut work: impl FnMut()) -> f64 {
     least.as_secs_f64() * 1e6
 }
 
-/// The parts of one program, in microseconds. `both` is build and fit.
+/// The parts of one program, in microseconds. `both` is build and fit,
+/// `whole` is from a file's bytes to those of its listing.
 #[derive(Clone, Copy)]
 struct Parts {
     read: f64,
     network: f64,
     build: f64,
     both: f64,
+    whole: f64,
 }
 
 impl Parts {
     fn fit(self) -> f64 {
         self.both - self.build
     }
+
+    fn print(self) -> f64 {
+        self.whole - self.read - self.network - self.both
+    }
+
+    fn all(self) -> [f64; 6] {
+        [self.read, self.network, self.build, self.fit(), self.print(), self.whole]
+    }
 }
+
+const NAMES: [&str; 6] = ["read", "network", "build", "fit", "print", "whole"];
 
 fn ours(file: &[u8]) -> Parts {
     let (mut matrix, mut names) = (vec![0; MATRIX_SIZE], lent::names());
@@ -75,13 +88,19 @@ fn ours(file: &[u8]) -> Parts {
         let matrix = black_box(&mut matrix);
         black_box(compare::fit(matrix, n, m, &mut low, &mut high, &mut chosen));
     });
-    Parts { read, network, build, both }
+    let mut out = lent::bytes(OUTPUT_SIZE);
+    let whole = time(|| {
+        black_box(compare::list(black_box(file), &mut out));
+    });
+    Parts { read, network, build, both, whole }
 }
 
 fn plain_loops(file: &[u8]) -> Parts {
     let (mut matrix, mut names) = (vec![0; MATRIX_SIZE], lent::names());
-    let head = compare::read(file, &mut matrix, &mut names);
-    let (n, m) = (head.n, head.m);
+    let read = time(|| {
+        black_box(plain::read(black_box(file), &mut matrix, &mut names));
+    });
+    let (n, m) = plain::read(file, &mut matrix, &mut names).unwrap();
     let network = time(|| {
         black_box(plain::network(black_box(&matrix), n, m));
     });
@@ -91,10 +110,15 @@ fn plain_loops(file: &[u8]) -> Parts {
     let [mut low, mut high, mut chosen] = [1, 2, 3].map(|mark| lent::codes(MATRIX_SIZE, mark));
     let both = time(|| {
         let matrix = black_box(&mut matrix);
-        let (tree, _) = plain::build(matrix, n, m);
+        let (tree, _, _) = plain::build(matrix, n, m);
         black_box(plain::fit(matrix, n, m, &tree, &mut low, &mut high, &mut chosen));
     });
-    Parts { read: f64::NAN, network, build, both }
+    let mut out = Vec::with_capacity(OUTPUT_SIZE);
+    let whole = time(|| {
+        out = plain::list(black_box(file), std::mem::take(&mut out)).unwrap();
+        black_box(&out);
+    });
+    Parts { read, network, build, both, whole }
 }
 
 fn theirs(file: &[u8]) -> Parts {
@@ -114,16 +138,30 @@ fn theirs(file: &[u8]) -> Parts {
         black_box(fit(black_box(&data), &built.branches).unwrap());
         black_box(ranges(black_box(&data), &built.branches).unwrap());
     });
-    Parts { read: read_time, network, build: build_time, both }
+    let whole = time(|| {
+        black_box(listing(black_box(file), Requests(0)));
+    });
+    Parts { read: read_time, network, build: build_time, both, whole }
 }
 
 fn line(name: &str, ours: f64, plain: f64, theirs: f64) {
-    let beside = if plain.is_nan() {
-        "       -      -".to_string()
-    } else {
-        format!("{plain:8.1} {:6.1}", ours / plain)
-    };
-    println!("  {name:8} {ours:10.1} {beside} {theirs:12.1} {:8.1}", theirs / ours);
+    let (slower, faster) = (ours / plain, theirs / ours);
+    println!("  {name:8} {ours:10.1} {plain:10.1} {slower:6.1} {theirs:12.1} {faster:8.1}");
+}
+
+/// How ours grows along one side of the matrix, with the factor by which the
+/// whole grows from line to line.
+fn growth(sizes: [(usize, usize); 4]) {
+    let mut before = f64::NAN;
+    for (n, m) in sizes {
+        let parts = ours(&file(n, m)).all();
+        print!("  {n:3} x {m:3}");
+        for part in parts {
+            print!(" {part:9.1}");
+        }
+        println!(" {:8.2}", parts[5] / before);
+        before = parts[5];
+    }
 }
 
 fn main() {
@@ -131,21 +169,14 @@ fn main() {
     println!("the reference and how many times as long it takes");
     for (n, m) in [(8, 8), (32, 64), (64, 128)] {
         let file = file(n, m);
-        let (a, b, c) = (ours(&file), plain_loops(&file), theirs(&file));
+        let (a, b, c) = (ours(&file).all(), plain_loops(&file).all(), theirs(&file).all());
         println!("{n} x {m}");
-        line("read", a.read, b.read, c.read);
-        line("network", a.network, b.network, c.network);
-        line("build", a.build, b.build, c.build);
-        line("fit", a.fit(), b.fit(), c.fit());
+        for (i, name) in NAMES.iter().enumerate() {
+            line(name, a[i], b[i], c[i]);
+        }
     }
-    println!("growth of ours with n, m = 128: read, network, build, fit");
-    for n in [8, 16, 32, 64] {
-        let a = ours(&file(n, 128));
-        println!("  {n:4} {:10.1} {:10.1} {:10.1} {:10.1}", a.read, a.network, a.build, a.fit());
-    }
-    println!("growth of ours with m, n = 64: read, network, build, fit");
-    for m in [16, 32, 64, 128] {
-        let a = ours(&file(64, m));
-        println!("  {m:4} {:10.1} {:10.1} {:10.1} {:10.1}", a.read, a.network, a.build, a.fit());
-    }
+    println!("growth of ours with n: {}, factor of the whole", NAMES.join(", "));
+    growth([8, 16, 32, 64].map(|n| (n, 128)));
+    println!("growth of ours with m: {}, factor of the whole", NAMES.join(", "));
+    growth([16, 32, 64, 128].map(|m| (64, m)));
 }
