@@ -9,4 +9,5 @@ pub mod UnderWay
 pub mod Stepping
 pub mod Lengths
 pub mod Recording
+pub mod Finished
 pub mod Rising
