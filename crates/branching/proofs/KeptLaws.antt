@@ -22,7 +22,8 @@ module _ (codes new : List ℤ) (n m : ℕ) (before after : Tree) (b : ℕ) (r :
       → (after ≡ before) × (new ≡ codes)
   kept-refused number line told = (
     same-tree after before
-        (kept .tree ∙ ap (λ (say : Outcome (Unit {0})). afterwards say (placeIn codes n m (ancestors before) b .tree) (ancestors before)) told),
+        (kept .tree
+        ∙ ap (λ (say : Outcome (Unit {0})). afterwards say (placeIn codes n m (ancestors before) b .tree) (ancestors before)) told),
     kept .matrix ∙ ap (λ (say : Outcome (Unit {0})). afterwards say (matrixPlaced codes n m (ancestors before) b) codes) told,
   )
 

@@ -1,5 +1,5 @@
--- The finished tree that a build hands back passes the questions of the call that writes it as branch records, and these are then those of the
--- finished tree.
+-- The finished tree that a build hands back passes the questions of the call that writes it as branch records, and these are then those of
+-- the finished tree.
 use mathlib.Core.Path.{_≡_, refl, sym, ap, _∙_}
 use mathlib.Core.Logic.{by-cases}
 use mathlib.Core.Bool.{true, and-eq-true-iff}
@@ -64,8 +64,8 @@ module _ (d : List ℤ → List ℤ → ℕ) (n : ℕ) where
       (medians-inRange _ _ _ (row-known rows known b) (row-known rows known (suc c)) (row-known rows known (ancestor tree (suc c)))) refl)
 
   -- and so does a build
-  pub built-known : (next : ℕ → List ℕ → List (List ℤ) → ℕ) (count : ℕ) (tree : List ℕ) (rows : List (List ℤ)) → every allInRange rows ≡ true
-      → every allInRange (buildOn d next n count tree rows .rows) ≡ true
+  pub built-known : (next : ℕ → List ℕ → List (List ℤ) → ℕ) (count : ℕ) (tree : List ℕ) (rows : List (List ℤ))
+      → every allInRange rows ≡ true → every allInRange (buildOn d next n count tree rows .rows) ≡ true
   unfolding buildOn place
   built-known next zero tree rows known = known
   built-known next (suc count) tree rows known =
@@ -84,7 +84,8 @@ module _ (codes : List ℤ) (n m : ℕ) (lent : LentMatrix codes n m) where
   -- all its rows have codes from -999 to 999
   ours-known : every allInRange (ours .rows) ≡ true
   unfolding wagnerIn wagner build
-  ours-known = built-known difference n (byAdvancement difference) (n - 1) _ (rowsOf codes m n) (every-from allInRange [] (rowsOf codes m n) each)
+  ours-known =
+      built-known difference n (byAdvancement difference) (n - 1) _ (rowsOf codes m n) (every-from allInRange [] (rowsOf codes m n) each)
     where
       each : (i : ℕ) → i < length (rowsOf codes m n) → allInRange (getD (rowsOf codes m n) i []) ≡ true
       each i h =
