@@ -3,12 +3,12 @@ use mathlib.Core.Path.{_≡_, sym, _∙_, ap}
 use mathlib.Core.List.{List}
 use Prim.Native.Nat.{ℕ}
 use lib.IntN.{ℤ}
-use Rattle.matrix.specs.Outcomes.{refused, askedSays}
+use Rattle.matrix.specs.Outcomes.{Outcome, refused, askedSays, afterwards}
 use Rattle.branching.specs.declared.tree.Tree.{Tree}
 use Rattle.branching.specs.declared.placement.Placed.{Placed}
 use Rattle.branching.specs.declared.kept.PlacedIn.{PlacedIn}
 use Rattle.branching.specs.Ancestors.{ancestors}
-use Rattle.branching.specs.Placed.{placementSays, PlacementDone}
+use Rattle.branching.specs.Placed.{placeIn, matrixPlaced, placementSays, PlacementDone}
 use Rattle.branching.specs.Kept.{PlacementKept}
 
 -- trees with the same ancestors are the same
@@ -20,7 +20,12 @@ module _ (codes new : List ℤ) (n m : ℕ) (before after : Tree) (b : ℕ) (r :
   -- after a refusal the tree and the matrix are as before
   pub kept-refused : (number line : ℕ) → placementSays codes n m (ancestors before) b ≡ refused number line
       → (after ≡ before) × (new ≡ codes)
-  kept-refused number line told = (same-tree after before (rw told at (kept .tree)), rw told at (kept .matrix))
+  kept-refused number line told = (
+    same-tree after before
+        (kept .tree
+        ∙ ap (λ (say : Outcome (Unit {0})). afterwards say (placeIn codes n m (ancestors before) b .tree) (ancestors before)) told),
+    kept .matrix ∙ ap (λ (say : Outcome (Unit {0})). afterwards say (matrixPlaced codes n m (ancestors before) b) codes) told,
+  )
 
   -- the answer, the tree, the placement and the matrix are those of the placement by value
   pub kept-by-value : (value : Placed) (written : List ℤ) → PlacementDone codes written n m (ancestors before) b value

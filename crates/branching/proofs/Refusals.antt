@@ -1,5 +1,5 @@
--- The questions of a lent branching, of a placement and of a finished tree, computed: each refusal, and of two questions that would both refuse the earlier
--- one answers. The matrix has one character; the code of row v stands at (v-1)*128.
+-- The questions of a lent branching, of a placement and of a finished tree, computed: each refusal, and of two questions that would both
+-- refuse the earlier one answers. The matrix has one character; the code of row v stands at (v-1)*128.
 use mathlib.Core.Path.{_≡_, refl}
 use mathlib.Core.List.{List, [], _∷_}
 use Prim.Native.Nat.{ℕ, _*_, _-_}
@@ -191,8 +191,8 @@ recorded : List ℤ → ℕ → List ℕ → ℕ → Asked
 unfolding placed wholeTree
 recorded codes n tree room = askRecords codes n 1 tree room
 
--- each answer by itself: the size of the list of records, too small and too large, that of the matrix, the limits, a code of a taxon, no growing
--- tree, a growing tree that lacks a taxon, row 1 alone, a code of an HTU, and none; of one taxon, row 1 alone is the finished tree
+-- each answer by itself: the size of the list of records, too small and too large, that of the matrix, the limits, a code of a taxon, no
+-- growing tree, a growing tree that lacks a taxon, row 1 alone, a code of an HTU, and none; of one taxon, row 1 alone is the finished tree
 each-record-refusal : recorded full 3 wholeTree 124
     ∷ recorded full 3 wholeTree 126
     ∷ recorded (replicate 16127 (pos 0)) 3 wholeTree 125
@@ -220,8 +220,8 @@ each-record-refusal : recorded full 3 wholeTree 124
 unfolding recorded
 each-record-refusal = refl
 
--- the sizes come before the limits, the codes and the tree; the limits before the codes of the taxa and the tree; the codes of the taxa before
--- the tree; the tree before the codes of the HTUs
+-- the sizes come before the limits, the codes and the tree; the limits before the codes of the taxa and the tree; the codes of the taxa
+-- before the tree; the tree before the codes of the HTUs
 records-in-order : recorded full 65 wholeTree 124
     ∷ recorded (wrongRow 1) 3 wholeTree 124
     ∷ recorded full 3 wrongTree 124

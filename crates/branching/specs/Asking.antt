@@ -40,8 +40,8 @@ askBranching codes n m records =
     ask (eqb (length records) branchesSize) ListSize
     (andThen (askMatrix codes n m) (ask (lentBranching n records) NotBranching Passed))
 
--- the questions of a call that hands a finished tree back as branch records, into a lent list of so many records: the size of that list, those
--- on the matrix, whether the tree is a branching of all n taxa, the rows of its HTUs
+-- the questions of a call that hands a finished tree back as branch records, into a lent list of so many records: the size of that list,
+-- those on the matrix, whether the tree is a branching of all n taxa, the rows of its HTUs
 unfoldable pub askRecords : List ℤ → ℕ → ℕ → List ℕ → ℕ → Asked
 askRecords codes n m tree room =
     ask (eqb room branchesSize) ListSize

@@ -10,8 +10,8 @@ pub struct PlacedIn {
     pub placement: Placement,
 }
 
-// The placement of taxon b on a tree that the caller keeps, with its questions: `Tree::place`, whose tree is stored over the caller's. A refused
-// placement leaves the tree as it was, and writes nothing.
+// The placement of taxon b on a tree that the caller keeps, with its questions: `Tree::place`, whose tree is stored over the caller's. A
+// refused placement leaves the tree as it was, and writes nothing.
 pub fn place_in(tree: &mut Tree, matrix: &mut [i32], n: usize, m: usize, b: usize) -> PlacedIn
     ensures { λ r. ⌜ PlacementKept (now (matrix .entry)) (now (matrix .exit)) n m (now (tree .entry)) (now (tree .exit)) b r ⌝ }
 {

@@ -84,8 +84,8 @@ pub fn ask_branching(matrix: &[i32], n: usize, m: usize, records: [Branch; 125])
     }
 }
 
-// The questions of a call that hands a finished tree back as branch records, into a lent list of `room` records: the size of that list, those
-// on the matrix, whether the tree is a branching of n taxa, and the rows of its HTUs.
+// The questions of a call that hands a finished tree back as branch records, into a lent list of `room` records: the size of that list,
+// those on the matrix, whether the tree is a branching of n taxa, and the rows of its HTUs.
 pub fn ask_records(matrix: &[i32], n: usize, m: usize, tree: Tree, room: usize) -> Asked
     ensures { λ r. ⌜ r ≡ askRecords (now (matrix .entry)) n m (ancestors tree) room ⌝ }
 {

@@ -10,4 +10,5 @@ pub mod Stepping
 pub mod Lengths
 pub mod StillLent
 pub mod Recording
+pub mod Finished
 pub mod Rising

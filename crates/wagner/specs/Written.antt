@@ -21,8 +21,8 @@ codeDifference codes m = nodeDifference difference (row codes m)
 unfoldable pub recordsSay : List ℤ → ℕ → ℕ → List ℕ → ℕ → Outcome (Unit {0})
 recordsSay codes n m tree room = askedSays (askRecords codes n m tree room)
 
--- the call answers its questions. If none refuses, the first 2n-3 records of the lent list are those of the tree: node, immediate ancestor, and
--- length under the codes of the matrix; the others are as before. After a refusal all are as before.
+-- the call answers its questions. If none refuses, the first 2n-3 records of the lent list are those of the tree: node, immediate ancestor,
+-- and length under the codes of the matrix; the others are as before. After a refusal all are as before.
 pub record RecordsWritten (codes : List ℤ) (n m : ℕ) (tree : List ℕ) (old new : List Branch) (r : Asked) : Type 0 where
   pub says : askedSays r ≡ recordsSay codes n m tree (length old)
   pub records : new ≡ afterwards (recordsSay codes n m tree (length old)) (withRecords (codeDifference codes m) n tree old) old

@@ -55,8 +55,8 @@ fn records_of(listed: Listed) -> [Branch; 125]
     records
 }
 
-// Writes the branch records of a finished tree of n taxa over the first 2n-3 of a lent list of 125: node, immediate ancestor, and length under
-// the codes of the matrix. A refusal writes nothing.
+// Writes the branch records of a finished tree of n taxa over the first 2n-3 of a lent list of 125: node, immediate ancestor, and length
+// under the codes of the matrix. A refusal writes nothing.
 pub fn write_branches(matrix: &[i32], n: usize, m: usize, tree: Tree, out: &mut [Branch]) -> Asked
     ensures { λ r. ⌜ RecordsWritten (now (matrix .entry)) n m (ancestors tree) (now (out .entry)) (now (out .exit)) r ⌝ }
 {

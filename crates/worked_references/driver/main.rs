@@ -38,8 +38,8 @@ fn show_placed(data: &mut Data, tree: &mut Tree, n: usize, b: usize) {
     show_row(data, 6);
 }
 
-/// The records of a finished tree written over a list, after the questions of document 01: sizes, limits, codes of the taxa, whether the tree is a
-/// branching, codes of its HTUs.
+/// The records of a finished tree written over a list, after the questions of document 01: sizes, limits, codes of the taxa, whether the
+/// tree is a branching, codes of its HTUs.
 fn write(data: &Data, tree: &Tree, list: &mut [Branch]) -> Result<(), Refusal> {
     questions::branch_size(list)?;
     questions::builder(data)?;

@@ -1,5 +1,5 @@
-// The forms over references, run: placements on a tree that the caller keeps, the finished tree written into a lent list of branch records, and
-// the fit of that list. Nodes are printed by number. The expected lines are those that `make.py` has the reference print.
+// The forms over references, run: placements on a tree that the caller keeps, the finished tree written into a lent list of branch records,
+// and the fit of that list. Nodes are printed by number. The expected lines are those that `make.py` has the reference print.
 use branching::branch::Branch;
 use branching::kept::PlacedIn;
 use branching::kept::place_in;
@@ -272,7 +272,8 @@ fn show_placed(tree: Tree, codes: &mut [i32; 16128], n: usize, m: usize, b: usiz
     kept
 }
 
-// The placements of document 01's example, by advancement; between them a taxon that is in the tree, one that does not exist, and too many taxa.
+// The placements of document 01's example, by advancement; between them a taxon that is in the tree, one that does not exist, and too many
+// taxa.
 fn placements(codes: &mut [i32; 16128]) -> Tree {
     let alone = Tree::alone();
     let first = show_placed(alone, codes, 4, 3, 2);
