@@ -2,3 +2,4 @@
 pub mod digests;
 pub mod generated;
 pub mod lines;
+pub mod trees;

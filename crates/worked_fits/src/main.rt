@@ -21,17 +21,10 @@ use worked_cases::digests::print_digest;
 use worked_cases::generated::fill;
 use worked_cases::lines::end_line;
 use worked_cases::lines::print_field;
+use worked_cases::lines::print_fitted;
 use worked_cases::lines::print_refusal;
+use worked_cases::lines::print_state;
 ghost use Prim.Native.Nat.{_<_};
-
-// A field of a line: a tab and a state.
-fn print_state(state: i32) {
-    io::write_all(STDOUT_FILENO, b"\t");
-    if state < 0 {
-        io::write_all(STDOUT_FILENO, b"-");
-    }
-    io::print_decimal(STDOUT_FILENO, apart(state, 0));
-}
 
 // The t line of a fitted total.
 fn print_total(length: Length) {
@@ -148,25 +141,12 @@ fn show_lists(
     }
 }
 
-// The T line of node v's branch.
-fn print_branch(v: usize, length: u64, marked: bool) {
-    io::write_all(STDOUT_FILENO, b"T");
-    print_field(v as u64);
-    print_field(length);
-    if marked {
-        io::write_all(STDOUT_FILENO, b"\t+");
-    } else {
-        io::write_all(STDOUT_FILENO, b"\t-");
-    }
-    end_line();
-}
-
 // The T lines of nodes 2 to the last.
 fn print_branches(fit: Fit, last: usize) {
     let mut v = 2;
     while v < 127 {
         if v <= last {
-            print_branch(v, fit.lengths[v], fit.marks[v]);
+            print_fitted(v, fit.lengths[v], fit.marks[v]);
         }
         v += 1;
     }

@@ -16,6 +16,14 @@ use matrix::refusal::Refusal;
 use matrix::rows::row_start;
 use matrix::rows::write_row;
 use wagner::written::write_branches;
+use worked_cases::lines::end_line;
+use worked_cases::lines::print_field;
+use worked_cases::lines::print_fitted;
+use worked_cases::lines::print_refusal;
+use worked_cases::lines::print_state;
+use worked_cases::trees::print_branch;
+use worked_cases::trees::print_placement;
+use worked_cases::trees::print_tree;
 ghost use mathlib.Core.Path.{_≡_};
 ghost use lib.ListN.{length};
 ghost use Rattle.matrix.specs.Outcomes.{afterwards};
@@ -24,44 +32,6 @@ ghost use Rattle.branching.specs.Branches.{withRecords};
 ghost use Rattle.branching.specs.Placed.{placementSays, placeIn};
 ghost use Rattle.wagner.specs.Written.{codeDifference, recordsSay};
 ghost use Rattle.fitting.specs.Handing.{FitAnswer};
-
-// A field of a line: a tab and a number.
-fn print_field(number: u64) {
-    io::write_all(STDOUT_FILENO, b"\t");
-    io::print_decimal(STDOUT_FILENO, number);
-}
-
-// A field of a line: a tab and a state.
-fn print_state(state: i32) {
-    io::write_all(STDOUT_FILENO, b"\t");
-    if state < 0 {
-        io::write_all(STDOUT_FILENO, b"-");
-    }
-    io::print_decimal(STDOUT_FILENO, apart(state, 0));
-}
-
-fn end_line() {
-    io::write_all(STDOUT_FILENO, b"\n");
-}
-
-// The R line of a refusal.
-fn print_refusal(why: Refusal) {
-    io::write_all(STDOUT_FILENO, b"R");
-    print_field(refusal::number(why));
-    print_field(0);
-    end_line();
-}
-
-// The W line of a placement: taxon, lower end, upper end, HTU, length added.
-fn print_placement(placement: Placement) {
-    io::write_all(STDOUT_FILENO, b"W");
-    print_field(placement.taxon as u64);
-    print_field(placement.lower as u64);
-    print_field(placement.upper as u64);
-    print_field(placement.htu as u64);
-    print_field(placement.added);
-    end_line();
-}
 
 // The W line or the R line of a placement on a tree that the caller keeps.
 fn print_placed(placed: PlacedIn) {
@@ -122,27 +92,6 @@ fn fitted(
     fit_lent(matrix, n, m, &records, low, high, chosen)
 }
 
-// The A line of a node: its immediate ancestor.
-fn print_ancestor(tree: Tree, v: usize) {
-    let above = tree.ancestor(v);
-    if above == 0 {
-        return;
-    }
-    io::write_all(STDOUT_FILENO, b"A");
-    print_field(v as u64);
-    print_field(above as u64);
-    end_line();
-}
-
-// The A lines of a tree, for the nodes that have an ancestor.
-fn print_tree(tree: Tree) {
-    let mut v = 0;
-    while v < 127 {
-        print_ancestor(tree, v);
-        v += 1;
-    }
-}
-
 // The state of node v in character j in a list of the matrix's shape, and 0 beyond it.
 fn state_of(list: &[i32; 16128], v: usize, j: usize) -> i32 {
     let start = row_start(16128, v);
@@ -174,15 +123,6 @@ fn other() -> Branch {
     }
 }
 
-// The B line of a branch record: node, immediate ancestor, length.
-fn print_branch(branch: Branch) {
-    io::write_all(STDOUT_FILENO, b"B");
-    print_field(branch.node as u64);
-    print_field(branch.ancestor as u64);
-    print_field(branch.length);
-    end_line();
-}
-
 // The B lines of the first six records and of the last one.
 fn print_records(records: [Branch; 125]) {
     let first = records[0];
@@ -199,19 +139,6 @@ fn print_records(records: [Branch; 125]) {
     print_branch(sixth);
     let last = records[124];
     print_branch(last);
-}
-
-// The T line of a branch: node, fitted length, mark.
-fn print_fitted(v: usize, length: u64, marked: bool) {
-    io::write_all(STDOUT_FILENO, b"T");
-    print_field(v as u64);
-    print_field(length);
-    if marked {
-        io::write_all(STDOUT_FILENO, b"\t+");
-    } else {
-        io::write_all(STDOUT_FILENO, b"\t-");
-    }
-    end_line();
 }
 
 // The T lines of nodes 2 to 6, and the t line.

@@ -1,8 +1,8 @@
--- `worked_references::print_tree` is safe. Assumes nothing.
+-- `worked_cases::trees::print_tree` is safe. Assumes nothing.
 use Prim.Native.Nat.{_-_, _≤_}
 use borrow.Author.Needs.{needs}
-use Rattle.worked_references.proofs.print_tree.Statement.{statement}
-use Rattle.worked_references.proofs.print_tree.Tie as tie
+use Rattle.worked_cases.proofs.trees.print_tree.Statement.{statement}
+use Rattle.worked_cases.proofs.trees.print_tree.Tie as tie
 
 abbrev Inv-loop : tie.InvT-loop
 Inv-loop tree v₀ v = v ≤ 127
