@@ -63,10 +63,28 @@ impl Parts {
         self.whole - self.read - self.network - self.both
     }
 
+    fn least(self, other: Parts) -> Parts {
+        Parts {
+            read: self.read.min(other.read),
+            network: self.network.min(other.network),
+            build: self.build.min(other.build),
+            both: self.both.min(other.both),
+            whole: self.whole.min(other.whole),
+        }
+    }
+
     fn all(self) -> [f64; 6] {
         [self.read, self.network, self.build, self.fit(), self.print(), self.whole]
     }
 }
+
+/// The least times of several rounds of measuring, so that other work on the
+/// machine shows less.
+fn rounds(measure: impl Fn() -> Parts) -> [f64; 6] {
+    (0..ROUNDS).map(|_| measure()).reduce(Parts::least).unwrap().all()
+}
+
+const ROUNDS: usize = 5;
 
 const NAMES: [&str; 6] = ["read", "network", "build", "fit", "print", "whole"];
 
@@ -154,7 +172,8 @@ fn line(name: &str, ours: f64, plain: f64, theirs: f64) {
 fn growth(sizes: [(usize, usize); 4]) {
     let mut before = f64::NAN;
     for (n, m) in sizes {
-        let parts = ours(&file(n, m)).all();
+        let file = file(n, m);
+        let parts = rounds(|| ours(&file));
         print!("  {n:3} x {m:3}");
         for part in parts {
             print!(" {part:9.1}");
@@ -169,7 +188,9 @@ fn main() {
     println!("the reference and how many times as long it takes");
     for (n, m) in [(8, 8), (32, 64), (64, 128)] {
         let file = file(n, m);
-        let (a, b, c) = (ours(&file).all(), plain_loops(&file).all(), theirs(&file).all());
+        let a = rounds(|| ours(&file));
+        let b = rounds(|| plain_loops(&file));
+        let c = rounds(|| theirs(&file));
         println!("{n} x {m}");
         for (i, name) in NAMES.iter().enumerate() {
             line(name, a[i], b[i], c[i]);
