@@ -13,17 +13,17 @@ abbrev μ-loop : tie.MeasureT-loop
 loop-holds : tie.Need-loop-holds Inv-loop μ-loop
 loop-holds c = search needs
 
-mul-print-branch : tie.Need-mul-print-branch Inv-loop μ-loop
-mul-print-branch c = search needs
+mul-print-fitted : tie.Need-mul-print-fitted Inv-loop μ-loop
+mul-print-fitted c = search needs
 
-element-copy-out-print-branch : tie.Need-element-copy-out-print-branch Inv-loop μ-loop
-element-copy-out-print-branch c = search needs
+element-copy-out-print-fitted : tie.Need-element-copy-out-print-fitted Inv-loop μ-loop
+element-copy-out-print-fitted c = search needs
 
-element-copy-out-print-branch-2 : tie.Need-element-copy-out-print-branch-2 Inv-loop μ-loop
-element-copy-out-print-branch-2 c = search needs
+element-copy-out-print-fitted-2 : tie.Need-element-copy-out-print-fitted-2 Inv-loop μ-loop
+element-copy-out-print-fitted-2 c = search needs
 
-print-branch-requires : tie.Need-print-branch-requires Inv-loop μ-loop
-print-branch-requires c κs = search needs
+print-fitted-requires : tie.Need-print-fitted-requires Inv-loop μ-loop
+print-fitted-requires c κs = search needs
 
 add-v : tie.Need-add-v Inv-loop μ-loop
 add-v c = search needs
@@ -44,10 +44,10 @@ print-branches-spec =
     Inv-loop
     μ-loop
     loop-holds
-    mul-print-branch
-    element-copy-out-print-branch
-    element-copy-out-print-branch-2
-    print-branch-requires
+    mul-print-fitted
+    element-copy-out-print-fitted
+    element-copy-out-print-fitted-2
+    print-fitted-requires
     add-v
     loop-less
     loop-again
