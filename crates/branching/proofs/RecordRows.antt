@@ -56,6 +56,7 @@ module _ {X : Type 0} where
 
 -- ---- a local array
 module _ {M : Type 1} (𝓤 : URA M) (H : Heap 𝓤) (A : Atoms 𝓤) (W : Given 𝓤 H A) (R : RattleType) (n : ℕ) where
+  -- an array in a local, taken apart
   pub apart : Single (R .mir) → (xs : List (R .Denot)) (v : Val) (l : ℕ)
       → ent 𝓤 (sep 𝓤 (sem 𝓤 H A (fat fullShare (tyArray (lone (R .mir)) n) l 0 v)) (sem 𝓤 H A (Array R n .own xs (v ∷ []))))
       (sem 𝓤 H A (row R fullShare xs l 0))
@@ -68,6 +69,7 @@ module _ {M : Type 1} (𝓤 : URA M) (H : Heap 𝓤) (A : Atoms 𝓤) (W : Given
       use1 W (‵ (arr-parts (shares R) n .part fullShare xs l 0)) (array-apart 𝓤 H A W R fullShare one n xs l 0) $ fsplit ! $ forgo ! $
       done !
 
+  -- and put together
   pub together : (vals : R .Denot → List Val) → Tells R (Is R) vals → (xs : List (R .Denot)) → length xs ≡ n → (l : ℕ)
       → ent 𝓤 (sem 𝓤 H A (row R fullShare xs l 0)) (sep 𝓤 (sem 𝓤 H A (fat fullShare (tyArray (lone (R .mir)) n) l 0
       (only (array-vals vals xs)))) (sem 𝓤 H A (Array R n .own xs (array-vals vals xs))))
@@ -87,6 +89,7 @@ R = B.the-row
 abbrev pub bvals : Branch → List Val
 bvals = LL.vals B.the-type B′.the-laws
 
+-- its machine value
 abbrev pub bval : Branch → Val
 bval = LL.val B.the-type B′.the-laws
 
@@ -94,6 +97,7 @@ bval = LL.val B.the-type B′.the-laws
 abbrev pub rec : Ty
 rec = B′.mir
 
+-- an array of 125 records
 abbrev pub arr : Ty
 arr = tyArray rec 125
 
@@ -106,6 +110,7 @@ module _ {M : Type 1} (𝓤 : URA M) (H : Heap 𝓤) (A : Atoms 𝓤) (W : Given
   pub typed : (y : Branch) → Is R y (bvals y) → Holds (hasTy rec (bval y)) × WT (bval y)
   typed y is = LL.lawful B.the-type B′.the-laws 𝓤 H A W .typed y _ is .0
 
+  -- and those of 125 of them
   pub typed-all : (rs : List Branch) (v : Val) → Is (Array R 125) rs (v ∷ []) → Holds (hasTy arr v) × WT v
   typed-all rs v is = array-lawful 𝓤 H A W R (LL.lawful B.the-type B′.the-laws 𝓤 H A W) 125 .typed rs _ is .0
 
@@ -117,9 +122,11 @@ module _ {M : Type 1} (𝓤 : URA M) (H : Heap 𝓤) (A : Atoms 𝓤) (W : Given
 abbrev pub Upto : ℕ → Type 0
 Upto k = (i : ℕ) × (i ≤ k)
 
+-- ordered by what is left
 abbrev pub Nearer : (k : ℕ) → Upto k → Upto k → Type 0
 Nearer k j i = k - j .0 < k - i .0
 
+-- which ends
 pub Nearer-wf : (k : ℕ) → WellFounded (Nearer k)
 Nearer-wf k = InvImage·wf (λ (i : Upto k). k - i .0) (Nat·lt-wfRel .wf)
 

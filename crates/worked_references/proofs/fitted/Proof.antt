@@ -93,15 +93,18 @@ stayed = (
 abbrev val : {X : Type 0} → RefT (List X) → Val
 val y = sliceVal (y .ptr) (length (y .now))
 
+-- the MIR type of the list that is lent on
 abbrev on-type : Ty
 on-type = sliceTy (tyRef erased imm (pointee (R .written)))
 
 -- a row of records, as what can be lent to read, and back
 module _ {M : Type 1} (𝓤 : URA M) (H : Heap 𝓤) (A : Atoms 𝓤) (W : Given 𝓤 H A) (rs : List Branch) (l : ℕ) where
+  -- into what can be lent
   shares-in : ent 𝓤 (sem 𝓤 H A (row R fullShare rs l 0)) (sem 𝓤 H A (arr-parts (shares R) (length rs) .part fullShare rs l 0))
   unfolding partOf
   shares-in = qed W (‵ (row R fullShare rs l 0) ∷ []) ∵ feqI ! ℕ (length rs) (length rs) refl $ fjoin ! $ done !
 
+  -- and back
   shares-out : ent 𝓤 (sem 𝓤 H A (arr-parts (shares R) (length rs) .part fullShare rs l 0)) (sem 𝓤 H A (row R fullShare rs l 0))
   unfolding partOf
   shares-out = qed W (‵ (arr-parts (shares R) (length rs) .part fullShare rs l 0) ∷ []) ∵ fsplit ! $ drop ! $ done !
@@ -115,15 +118,19 @@ module _ {M : Type 1} (𝓤 : URA M) (H : Heap 𝓤) (A : Atoms 𝓤) (W : Given
     (room : Room i32 (length (lent .now))) (n-fits : n < 2 ^ 64) (m-fits : m < 2 ^ 64) (rs-is : Is (Array R 125) rs
     (array-vals bvals rs)) (room₁ : Room i32 (length (y₁ .now))) (room₂ : Room i32 (length (y₂ .now)))
     (room₃ : Room i32 (length (y₃ .now))) where
+  -- the parameters
   abbrev Arg : Type 0
   Arg = RefT (List ℤ) × (ℕ × (ℕ × (List Branch × (RefT (List ℤ) × (RefT (List ℤ) × (RefT (List ℤ) × Unit {0}))))))
 
+  -- as they are passed
   abbrev a : Arg
   a = (lent, (n, (m, (rs, (y₁, (y₂, (y₃, tt)))))))
 
+  -- their machine values
   abbrev vals : List Val × (List Val × (List Val × (List Val × (List Val × (List Val × (List Val × Unit {0}))))))
   vals = (val lent ∷ [], (vint w64 n ∷ [], (vint w64 m ∷ [], (array-vals bvals rs, (val y₁ ∷ [], (val y₂ ∷ [], (val y₃ ∷ [], tt)))))))
 
+  -- what the walk ends in
   abbrev Post : Val → SProp 𝓤
   Post = walkOf 𝓤 H A fitted.ended stayed (fitted.clauses 𝓤 H A at-mem run) .post
       (((κ₀, (κ₁, (κ₂, (κ₃, tt)))), (q₀, (q₁, (q₂, (q₃, tt)))), tt, a, vals), tt)
@@ -140,13 +147,16 @@ module _ {M : Type 1} (𝓤 : URA M) (H : Heap 𝓤) (A : Atoms 𝓤) (W : Given
   abbrev matrix : Fml
   matrix = ShrSlice (named 0) κ₀ i32 .own lent (val lent ∷ [])
 
+  -- what the three lists own
   abbrev three : Fml
   three = owns (MutSlice (named 1) κ₁ i32 ∷ MutSlice (named 2) κ₂ i32 ∷ MutSlice (named 3) κ₃ i32 ∷ []) (y₁, (y₂, (y₃, tt)))
       (val y₁ ∷ [], (val y₂ ∷ [], (val y₃ ∷ [], tt)))
 
+  -- their tokens
   abbrev three-tokens : Item 𝓤
   three-tokens = ‵ (flft κ₁ q₁) ⊛ ‵ (flft κ₂ q₂) ⊛ ‵ (flft κ₃ q₃) ⊛ ‵ ftrue
 
+  -- the matrix's token with them
   abbrev tokens : Item 𝓤
   tokens = ‵ (flft κ₀ q₀) ⊛ three-tokens
 
@@ -159,6 +169,7 @@ module _ {M : Type 1} (𝓤 : URA M) (H : Heap 𝓤) (A : Atoms 𝓤) (W : Given
   had low high chosen r v = tokens ∷ ‵ matrix ∷ ‵ (finally i32 (y₁ .name) low) ∷ ‵ (finally i32 (y₂ .name) high) ∷ ‵
       (finally i32 (y₃ .name) chosen) ∷ ‵ (J.the-row .own r (v ∷ [])) ∷ []
 
+  -- the way out: from what is had at exit to what the contract says
   exits : (low high chosen : List ℤ) (r : Fitted) (v : Val) → Said r low high chosen → length low ≡ length (y₁ .now)
       → length high ≡ length (y₂ .now) → length chosen ≡ length (y₃ .now) → ent 𝓤 (⋆ 𝓤 H A (had low high chosen r v)) (Post v)
   exits low high chosen r v e e₁ e₂ e₃ =
@@ -174,6 +185,7 @@ module _ {M : Type 1} (𝓤 : URA M) (H : Heap 𝓤) (A : Atoms 𝓤) (W : Given
   abbrev x : ℕ → GName → RefT (List Branch)
   x l δ = record { ptr = (l, 0); name = δ; now = rs }
 
+  -- what `fit_lent`'s triple binds outside
   abbrev to-fit : ℕ → ℕ → GName → Fits 𝓤 H A at-mem run .Ghost
   to-fit l ν δ = (
     (
@@ -186,10 +198,12 @@ module _ {M : Type 1} (𝓤 : URA M) (H : Heap 𝓤) (A : Atoms 𝓤) (W : Given
     tt,
   )
 
+  -- what the callee asks
   abbrev asks : ℕ → ℕ → GName → List (Item 𝓤)
   asks l ν δ = tokens ∷ ‵ (flft (ν ∷ []) fullShare) ∷ ‵ (fsep (fsep matrix (ShrSlice (named 1) (ν ∷ []) R .own (x l δ)
       (val (x l δ) ∷ []))) three) ∷ []
 
+  -- and that the caller has what it asks
   goes-fit : (l ν : ℕ) (δ : GName) → ent 𝓤 (⋆ 𝓤 H A (asks l ν δ)) (Fits 𝓤 H A at-mem run .pre (to-fit l ν δ))
   goes-fit l ν δ =
       qed W (asks l ν δ) ∵ split ! $ move ! (2 ∷ 1 ∷ []) $ join ! $ move ! (1 ∷ 0 ∷ []) $ join ! $ move ! (1 ∷ []) $ fsplit ! $
@@ -200,6 +214,7 @@ module _ {M : Type 1} (𝓤 : URA M) (H : Heap 𝓤) (A : Atoms 𝓤) (W : Given
 
   module _ (C : Calls 𝓤 H) (Λ : Loops 𝓤 H) (fm : FmC 𝓤 H (W .laws) C) (known-fit : Triple 𝓤 (C #fitting·lent·fit-lent) (Fits 𝓤 H A at-mem
       run)) where
+    -- the walk, from the parameters to the exit
     walk : ent 𝓤 (onEntry 𝓤 H A fitted.signature (κ₀, (κ₁, (κ₂, (κ₃, tt)))) (q₀, (q₁, (q₂, (q₃, tt)))) a vals)
         (WpFn 𝓤 H C Λ code.function (val lent ∷ vint w64 n ∷ vint w64 m ∷ only (array-vals bvals rs) ∷ val y₁ ∷ val y₂ ∷ val y₃ ∷ [])
         Post)
@@ -297,6 +312,7 @@ module _ {M : Type 1} (𝓤 : URA M) (H : Heap 𝓤) (A : Atoms 𝓤) (W : Given
 
 module _ {M : Type 1} (𝓤 : URA M) (H : Heap 𝓤) (A : Atoms 𝓤) (W : Given 𝓤 H A) (at-mem : Memory → SProp 𝓤) (run : Routine → Fun 𝓤)
     (𝓣 : Tables 𝓤 H) (known-fit : Triple 𝓤 (𝓣 .C #fitting·lent·fit-lent) (Fits 𝓤 H A at-mem run)) where
+  -- the walk for every choice of lifetimes, shares and parameters
   fitted-walks : Walks 𝓤 H A fitted.ended stayed (WpFn 𝓤 H (𝓣 .C) (𝓣 .Λ) code.function) (fitted.clauses 𝓤 H A at-mem run)
   fitted-walks = walked 𝓤 H A fitted.ended stayed (fitted.clauses 𝓤 H A at-mem run) (WpFn 𝓤 H (𝓣 .C) (𝓣 .Λ) code.function)
       (λ κs. (slice-vals, (uint-vals w64, (uint-vals w64, (array-vals bvals, (slice-vals, (slice-vals, (slice-vals, tt))))))))
@@ -329,6 +345,7 @@ module _ {M : Type 1} (𝓤 : URA M) (H : Heap 𝓤) (A : Atoms 𝓤) (W : Given
       (are .0 .0 .1) (are .1 .0 .1) (are .1 .1 .0 .1) (are .1 .1 .1 .0) (are .1 .1 .1 .1 .0 .0 .1) (are .1 .1 .1 .1 .1 .0 .0 .1)
       (are .1 .1 .1 .1 .1 .1 .0 .0 .1) (𝓣 .C) (𝓣 .Λ) (fmOf 𝓤 H (W .laws) 𝓣) known-fit))
 
+  -- so the body meets the contract
   fitted-meets : Meets 𝓤 H A fitted.signature (WpFn 𝓤 H (𝓣 .C) (𝓣 .Λ) code.function) (fitted.spec 𝓤 H A at-mem run)
   fitted-meets = walk-meets 𝓤 H A fitted.ended stayed W (
     goes-none-slice 𝓤 H A W 4 (0 ∷ []) tt (plain (λ _. i32)) yes,
@@ -352,6 +369,7 @@ module _ {M : Type 1} (𝓤 : URA M) (H : Heap 𝓤) (A : Atoms 𝓤) (W : Given
   )
       (fitted.clauses 𝓤 H A at-mem run) (WpFn 𝓤 H (𝓣 .C) (𝓣 .Λ) code.function) (WpFn-mono 𝓤 H (W .laws) 𝓣 code.function) fitted-walks
 
+-- and so does the function
 pub fitted-spec : {M : Type 1} → stated.statement M
 unfolding code.routine tablesOf
 fitted-spec 𝓤 H 𝓜 𝓖 𝓡 =

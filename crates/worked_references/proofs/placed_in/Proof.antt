@@ -86,6 +86,7 @@ tvals = LL.vals T.the-type T′.the-laws
 
 -- a tree in a local, as what can be lent, and back
 module _ {M : Type 1} (𝓤 : URA M) (H : Heap 𝓤) (A : Atoms 𝓤) (W : Given 𝓤 H A) (h : Tree) (l : ℕ) where
+  -- into what can be lent
   lies-in : ent 𝓤 (sep 𝓤 (sem 𝓤 H A (fat fullShare T′.mir l 0 (only (tvals h)))) (sem 𝓤 H A (T.the-row .own h (tvals h))))
       (sem 𝓤 H A (mem T.the-row .lies h l 0))
   unfolding partOf
@@ -94,6 +95,7 @@ module _ {M : Type 1} (𝓤 : URA M) (H : Heap 𝓤) (A : Atoms 𝓤) (W : Given
       use1 W (‵ (cellAt fullShare (T.the-row .mir) (tvals h) l 0)) (W .laws .at-raw fullShare T′.mir l 0 (only (tvals h))) $ fjoin ! $
       fpack ! (List Val) (λ vs. fsep (cellAt fullShare (T.the-row .mir) vs l 0) (T.the-row .own h vs)) (tvals h) $ done !
 
+  -- and back
   lies-out : ent 𝓤 (sem 𝓤 H A (mem T.the-row .lies h l 0)) (sep 𝓤 (sem 𝓤 H A (fat fullShare T′.mir l 0 (only (tvals h))))
       (sem 𝓤 H A (T.the-row .own h (tvals h))))
   unfolding partOf
@@ -107,6 +109,7 @@ module _ {M : Type 1} (𝓤 : URA M) (H : Heap 𝓤) (A : Atoms 𝓤) (mem : Mem
   abbrev Place : Contract 𝓤
   Place = tripleOf 𝓤 H A place.signature (place.spec 𝓤 H A mem run)
 
+  -- that of the function that prints
   abbrev Print : Contract 𝓤
   Print = tripleOf 𝓤 H A print.signature (print.spec 𝓤 H A mem run)
 
@@ -118,15 +121,19 @@ module _ {M : Type 1} (𝓤 : URA M) (H : Heap 𝓤) (A : Atoms 𝓤) (W : Given
   abbrev s : Val
   s = sliceVal (y .ptr) (length (y .now))
 
+  -- the parameters
   abbrev Arg : Type 0
   Arg = Tree × (RefT (List ℤ) × (ℕ × (ℕ × (ℕ × Unit {0}))))
 
+  -- as they are passed
   abbrev a : Arg
   a = (h, (y, (n, (m, (b, tt)))))
 
+  -- their machine values
   abbrev vals : List Val × (List Val × (List Val × (List Val × (List Val × Unit {0}))))
   vals = (tvals h, (s ∷ [], (vint w64 n ∷ [], (vint w64 m ∷ [], (vint w64 b ∷ [], tt)))))
 
+  -- what the walk ends in
   abbrev Post : Val → SProp 𝓤
   Post = walkOf 𝓤 H A placed.ended stayed (placed.clauses 𝓤 H A at-mem run) .post (((κ, tt), (q, tt), tt, a, vals), tt)
 
@@ -138,6 +145,7 @@ module _ {M : Type 1} (𝓤 : URA M) (H : Heap 𝓤) (A : Atoms 𝓤) (W : Given
   abbrev Said : Tree → List ℤ → PlacedIn → Type 0
   Said t after r = PlacementKept (y .now) after n m h t b r
 
+  -- the way out: from what is had at exit to what the contract says
   exits : (t : Tree) (after : List ℤ) (r : PlacedIn) → Said t after r → length after ≡ length (y .now)
       → ent 𝓤 (⋆ 𝓤 H A ((‵ (flft κ q) ⊛ ‵ ftrue) ∷ ‵ (finally i32 (y .name) after) ∷ ‵ (T.the-row .own t (tvals t)) ∷ []))
       (Post (only (tvals t)))
@@ -154,6 +162,7 @@ module _ {M : Type 1} (𝓤 : URA M) (H : Heap 𝓤) (A : Atoms 𝓤) (W : Given
   abbrev x : ℕ → GName → RefT Tree
   x l δ = record { ptr = (l, 0); name = δ; now = h }
 
+  -- what `place_in`'s triple binds outside
   abbrev to-place : ℕ → ℕ → GName → Place 𝓤 H A at-mem run .Ghost
   to-place l ν δ = (
     (
@@ -171,22 +180,27 @@ module _ {M : Type 1} (𝓤 : URA M) (H : Heap 𝓤) (A : Atoms 𝓤) (W : Given
   others = owns (MutSlice (named 0) κ i32 ∷ usize ∷ usize ∷ usize ∷ []) (y, (n, (m, (b, tt))))
       (s ∷ [], (vint w64 n ∷ [], (vint w64 m ∷ [], (vint w64 b ∷ [], tt))))
 
+  -- what the callee asks
   abbrev asks : ℕ → ℕ → GName → List (Item 𝓤)
   asks l ν δ = ‵ (flft (ν ∷ []) fullShare) ∷ (‵ (flft κ q) ⊛ ‵ ftrue) ∷ ‵ (fsep (MutRef (named 0) (ν ∷ []) T.the-row .own (x l δ)
       (vptr l 0 ∷ [])) others) ∷ []
 
+  -- and that the caller has what it asks
   goes-place : (l ν : ℕ) (δ : GName) → ent 𝓤 (⋆ 𝓤 H A (asks l ν δ)) (Place 𝓤 H A at-mem run .pre (to-place l ν δ))
   goes-place l ν δ = qed W (asks l ν δ) ∵ join ! $ join ! $ frame ! $ done !
 
+  -- what the triple of the function that prints binds outside
   abbrev to-print : PlacedIn → Val → Print 𝓤 H A at-mem run .Ghost
   to-print r w = ((tt, tt, tt, (r, tt), (w ∷ [], tt)), tt)
 
+  -- and that the caller has what it asks
   goes-print : (r : PlacedIn) (w : Val) → ent 𝓤 (sem 𝓤 H A (N.the-row .own r (w ∷ []))) (Print 𝓤 H A at-mem run .pre (to-print r w))
   goes-print r w = qed W (‵ (N.the-row .own r (w ∷ [])) ∷ []) ∵ nothing ! $ move ! (1 ∷ 0 ∷ []) $ fjoin ! $ nothing ! $ join ! $
       frame ! $ done !
 
   module _ (C : Calls 𝓤 H) (Λ : Loops 𝓤 H) (fm : FmC 𝓤 H (W .laws) C) (known-place : Triple 𝓤 (C #branching·kept·place-in)
       (Place 𝓤 H A at-mem run)) (known-print : Triple 𝓤 (C #worked-references·print-placed) (Print 𝓤 H A at-mem run)) where
+    -- the walk, from the parameters to the exit
     walk : ent 𝓤 (onEntry 𝓤 H A placed.signature (κ, tt) (q, tt) a vals) (WpFn 𝓤 H C Λ code.function (only (tvals h) ∷ s ∷ vint w64 n ∷
         vint w64 m ∷ vint w64 b ∷ []) Post)
     walk =
@@ -262,6 +276,7 @@ module _ {M : Type 1} (𝓤 : URA M) (H : Heap 𝓤) (A : Atoms 𝓤) (W : Given
 module _ {M : Type 1} (𝓤 : URA M) (H : Heap 𝓤) (A : Atoms 𝓤) (W : Given 𝓤 H A) (at-mem : Memory → SProp 𝓤) (run : Routine → Fun 𝓤)
     (𝓣 : Tables 𝓤 H) (known-place : Triple 𝓤 (𝓣 .C #branching·kept·place-in) (Place 𝓤 H A at-mem run)) (known-print : Triple 𝓤
     (𝓣 .C #worked-references·print-placed) (Print 𝓤 H A at-mem run)) where
+  -- the walk for every choice of lifetimes, shares and parameters
   placed-walks : Walks 𝓤 H A placed.ended stayed (WpFn 𝓤 H (𝓣 .C) (𝓣 .Λ) code.function) (placed.clauses 𝓤 H A at-mem run)
   placed-walks = walked 𝓤 H A placed.ended stayed (placed.clauses 𝓤 H A at-mem run) (WpFn 𝓤 H (𝓣 .C) (𝓣 .Λ) code.function)
       (λ κs. (tvals, (slice-vals, (uint-vals w64, (uint-vals w64, (uint-vals w64, tt)))))) (λ κs. (
@@ -273,6 +288,7 @@ module _ {M : Type 1} (𝓤 : URA M) (H : Heap 𝓤) (A : Atoms 𝓤) (W : Given
       (are .1 .0 .0 .1) (are .1 .1 .0 .1) (are .1 .1 .1 .0 .1) (are .1 .1 .1 .1 .0 .1) (𝓣 .C) (𝓣 .Λ) (fmOf 𝓤 H (W .laws) 𝓣)
       known-place known-print))
 
+  -- so the body meets the contract
   placed-meets : Meets 𝓤 H A placed.signature (WpFn 𝓤 H (𝓣 .C) (𝓣 .Λ) code.function) (placed.spec 𝓤 H A at-mem run)
   placed-meets = walk-meets 𝓤 H A placed.ended stayed W (
     goes-none 𝓤 H A W 1 (λ _. T.the-row) yes (λ κs x f. refl),
@@ -294,6 +310,7 @@ module _ {M : Type 1} (𝓤 : URA M) (H : Heap 𝓤) (A : Atoms 𝓤) (W : Given
   )
       (placed.clauses 𝓤 H A at-mem run) (WpFn 𝓤 H (𝓣 .C) (𝓣 .Λ) code.function) (WpFn-mono 𝓤 H (W .laws) 𝓣 code.function) placed-walks
 
+-- and so does the function
 pub placed-in-spec : {M : Type 1} → stated.statement M
 unfolding code.routine tablesOf
 placed-in-spec 𝓤 H 𝓜 𝓖 𝓡 =

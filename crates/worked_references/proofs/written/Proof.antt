@@ -101,6 +101,7 @@ module _ {M : Type 1} (𝓤 : URA M) (H : Heap 𝓤) (A : Atoms 𝓤) (mem : Mem
   abbrev Write : Contract 𝓤
   Write = tripleOf 𝓤 H A write.signature (write.spec 𝓤 H A mem run)
 
+  -- that of the function that prints
   abbrev Print : Contract 𝓤
   Print = tripleOf 𝓤 H A print.signature (print.spec 𝓤 H A mem run)
 
@@ -112,15 +113,19 @@ module _ {M : Type 1} (𝓤 : URA M) (H : Heap 𝓤) (A : Atoms 𝓤) (W : Given
     abbrev s : Val
     s = sliceVal (lent .ptr) (length (lent .now))
 
+    -- the parameters
     abbrev Arg : Type 0
     Arg = RefT (List ℤ) × (ℕ × (ℕ × (Tree × (List Branch × Unit {0}))))
 
+    -- as they are passed
     abbrev a : Arg
     a = (lent, (n, (m, (h, (rs, tt)))))
 
+    -- their machine values
     abbrev vals : List Val × (List Val × (List Val × (List Val × (List Val × Unit {0}))))
     vals = (s ∷ [], (vint w64 n ∷ [], (vint w64 m ∷ [], (tvals h, (array-vals bvals rs, tt)))))
 
+    -- what the walk ends in
     abbrev Post : Val → SProp 𝓤
     Post = walkOf 𝓤 H A written.ended stayed (written.clauses 𝓤 H A at-mem run) .post (((κ, tt), (q, tt), tt, a, vals), tt)
 
@@ -132,6 +137,7 @@ module _ {M : Type 1} (𝓤 : URA M) (H : Heap 𝓤) (A : Atoms 𝓤) (W : Given
           (lit< tt),
     )
 
+    -- the way out: from what is had at exit to what the contract says
     exits : (zs : List Branch) (v : Val) (r : Asked) → RecordsWritten (lent .now) n m (ancestors h) rs zs r
         → ent 𝓤 (⋆ 𝓤 H A (‵ (flft κ q) ∷ ‵ (ShrSlice (named 0) κ i32 .own lent (s ∷ [])) ∷ ‵ (Array R 125 .own zs (v ∷ [])) ∷ [])) (Post v)
     exits zs v r e =
@@ -147,9 +153,11 @@ module _ {M : Type 1} (𝓤 : URA M) (H : Heap 𝓤) (A : Atoms 𝓤) (W : Given
     abbrev x : ℕ → GName → RefT (List Branch)
     x l δ = record { ptr = (l, 0); name = δ; now = rs }
 
+    -- the machine value of the lent array
     abbrev out : ℕ → Val
     out l = sliceVal (l, 0) (length rs)
 
+    -- what `write_branches`'s triple binds outside
     abbrev to-write : ℕ → ℕ → GName → Write 𝓤 H A at-mem run .Ghost
     to-write l ν δ = (
       (
@@ -162,10 +170,12 @@ module _ {M : Type 1} (𝓤 : URA M) (H : Heap 𝓤) (A : Atoms 𝓤) (W : Given
       tt,
     )
 
+    -- what the callee asks
     abbrev asks : ℕ → ℕ → GName → List (Item 𝓤)
     asks l ν δ = (‵ (flft κ q) ⊛ ‵ ftrue) ∷ ‵ (flft (ν ∷ []) fullShare) ∷ ‵ (fsep (ShrSlice (named 0) κ i32 .own lent (s ∷ []))
         (MutSlice (named 1) (ν ∷ []) R .own (x l δ) (out l ∷ []))) ∷ []
 
+    -- and that the caller has what it asks
     goes-write : (l ν : ℕ) (δ : GName) → ent 𝓤 (⋆ 𝓤 H A (asks l ν δ)) (Write 𝓤 H A at-mem run .pre (to-write l ν δ))
     goes-write l ν δ =
         qed W (asks l ν δ) ∵ split ! $ move ! (2 ∷ 1 ∷ []) $ join ! $ move ! (1 ∷ 0 ∷ []) $ join ! $ move ! (1 ∷ []) $ fsplit ! $
@@ -176,9 +186,11 @@ module _ {M : Type 1} (𝓤 : URA M) (H : Heap 𝓤) (A : Atoms 𝓤) (W : Given
         owned ! usize (Is usize) (uint-makes 𝓤 H A W w64) n _ (refl, n-fits) $ fjoin ! $
         move ! (1 ∷ 0 ∷ []) $ fjoin ! $ move ! (1 ∷ 0 ∷ []) $ join ! $ frame ! $ done !
 
+    -- what the triple of the function that prints binds outside
     abbrev to-print : Asked → Val → Print 𝓤 H A at-mem run .Ghost
     to-print r w = ((tt, tt, tt, (r, tt), (w ∷ [], tt)), tt)
 
+    -- and that the caller has what it asks
     goes-print : (r : Asked) (w : Val) → ent 𝓤 (sem 𝓤 H A (Q.the-row .own r (w ∷ []))) (Print 𝓤 H A at-mem run .pre (to-print r w))
     goes-print r w = qed W (‵ (Q.the-row .own r (w ∷ [])) ∷ []) ∵ nothing ! $ move ! (1 ∷ 0 ∷ []) $ fjoin ! $ nothing ! $ join ! $
         frame ! $ done !
@@ -189,6 +201,7 @@ module _ {M : Type 1} (𝓤 : URA M) (H : Heap 𝓤) (A : Atoms 𝓤) (W : Given
 
     module _ (C : Calls 𝓤 H) (Λ : Loops 𝓤 H) (fm : FmC 𝓤 H (W .laws) C) (known-write : Triple 𝓤 (C #wagner·written·write-branches)
         (Write 𝓤 H A at-mem run)) (known-print : Triple 𝓤 (C #worked-references·print-asked) (Print 𝓤 H A at-mem run)) where
+      -- the walk, from the parameters to the exit
       walk : ent 𝓤 (onEntry 𝓤 H A written.signature (κ, tt) (q, tt) a vals) (WpFn 𝓤 H C Λ code.function (s ∷ vint w64 n ∷ vint w64 m ∷ only
           (tvals h) ∷ only (array-vals bvals rs) ∷ []) Post)
       walk =
@@ -273,6 +286,7 @@ module _ {M : Type 1} (𝓤 : URA M) (H : Heap 𝓤) (A : Atoms 𝓤) (W : Given
 module _ {M : Type 1} (𝓤 : URA M) (H : Heap 𝓤) (A : Atoms 𝓤) (W : Given 𝓤 H A) (at-mem : Memory → SProp 𝓤) (run : Routine → Fun 𝓤)
     (𝓣 : Tables 𝓤 H) (known-write : Triple 𝓤 (𝓣 .C #wagner·written·write-branches) (Write 𝓤 H A at-mem run)) (known-print : Triple 𝓤
     (𝓣 .C #worked-references·print-asked) (Print 𝓤 H A at-mem run)) where
+  -- the walk for every choice of lifetimes, shares and parameters
   written-walks : Walks 𝓤 H A written.ended stayed (WpFn 𝓤 H (𝓣 .C) (𝓣 .Λ) code.function) (written.clauses 𝓤 H A at-mem run)
   written-walks = walked 𝓤 H A written.ended stayed (written.clauses 𝓤 H A at-mem run) (WpFn 𝓤 H (𝓣 .C) (𝓣 .Λ) code.function)
       (λ κs. (slice-vals, (uint-vals w64, (uint-vals w64, (tvals, (array-vals bvals, tt)))))) (λ κs. (
@@ -285,6 +299,7 @@ module _ {M : Type 1} (𝓤 : URA M) (H : Heap 𝓤) (A : Atoms 𝓤) (W : Given
       (are .1 .0 .1) (are .1 .1 .0 .1) (are .1 .1 .1 .0) (are .1 .1 .1 .1 .0) (𝓣 .C) (𝓣 .Λ) (fmOf 𝓤 H (W .laws) 𝓣) known-write
       known-print))
 
+  -- so the body meets the contract
   written-meets : Meets 𝓤 H A written.signature (WpFn 𝓤 H (𝓣 .C) (𝓣 .Λ) code.function) (written.spec 𝓤 H A at-mem run)
   written-meets = walk-meets 𝓤 H A written.ended stayed W (
     goes-none-slice 𝓤 H A W 1 (0 ∷ []) tt (plain (λ _. i32)) yes,
@@ -301,6 +316,7 @@ module _ {M : Type 1} (𝓤 : URA M) (H : Heap 𝓤) (A : Atoms 𝓤) (W : Given
   )
       (written.clauses 𝓤 H A at-mem run) (WpFn 𝓤 H (𝓣 .C) (𝓣 .Λ) code.function) (WpFn-mono 𝓤 H (W .laws) 𝓣 code.function) written-walks
 
+-- and so does the function
 pub written-spec : {M : Type 1} → stated.statement M
 unfolding code.routine tablesOf
 written-spec 𝓤 H 𝓜 𝓖 𝓡 =

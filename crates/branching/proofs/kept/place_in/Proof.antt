@@ -86,6 +86,7 @@ stayed = (
 abbrev tvals : Tree → List Val
 tvals = LL.vals T.the-type T′.the-laws
 
+-- of what is handed back
 abbrev nvals : PlacedIn → List Val
 nvals = LL.vals N.the-type N′.the-laws
 
@@ -104,6 +105,7 @@ Place 𝓤 H A mem run = tripleOf 𝓤 H A place.signature (place.spec 𝓤 H A 
 module _ {M : Type 1} (𝓤 : URA M) (H : Heap 𝓤) (A : Atoms 𝓤) (W : Given 𝓤 H A) (at-mem : Memory → SProp 𝓤) (run : Routine → Fun 𝓤)
     (κ κ′ : Lft) (q q′ : Share) (b o : ℕ) (γ : GName) (h : Tree) (b′ o′ : ℕ) (γ′ : GName) (codes : List ℤ) (n m v : ℕ)
     (room : Room i32 (length codes)) (n-fits : n < 2 ^ 64) (m-fits : m < 2 ^ 64) (v-fits : v < 2 ^ 64) where
+  -- the matrix
   abbrev lent : RefT (List ℤ)
   lent = record { ptr = (b′, o′); name = γ′; now = codes }
 
@@ -111,15 +113,19 @@ module _ {M : Type 1} (𝓤 : URA M) (H : Heap 𝓤) (A : Atoms 𝓤) (W : Given
   abbrev s : Val
   s = sliceVal (b′, o′) (length codes)
 
+  -- the parameters
   abbrev Arg : Type 0
   Arg = RefT Tree × (RefT (List ℤ) × (ℕ × (ℕ × (ℕ × Unit {0}))))
 
+  -- as they are passed
   abbrev x : Arg
   x = (record { ptr = (b, o); name = γ; now = h }, (lent, (n, (m, (v, tt)))))
 
+  -- their machine values
   abbrev at : List Val × (List Val × (List Val × (List Val × (List Val × Unit {0}))))
   at = (vptr b o ∷ [], (s ∷ [], (vint w64 n ∷ [], (vint w64 m ∷ [], (vint w64 v ∷ [], tt)))))
 
+  -- what the walk ends in
   abbrev Post : Val → SProp 𝓤
   Post = walkOf 𝓤 H A place-in.ended stayed (place-in.clauses 𝓤 H A at-mem run) .post (((κ, (κ′, tt)), (q, (q′, tt)), tt, x, at), tt)
 
@@ -127,6 +133,7 @@ module _ {M : Type 1} (𝓤 : URA M) (H : Heap 𝓤) (A : Atoms 𝓤) (W : Given
   typed : (t : Tree) → Is T.the-row t (tvals t) → Holds (hasTy T′.mir (only (tvals t))) × WT (only (tvals t))
   typed t is = LL.lawful T.the-type T′.the-laws 𝓤 H A W .typed t _ is .0
 
+  -- and that of the rest
   typed-rest : (n : PlacedIn) → Is N.the-row n (nvals n) → Holds (hasTy N′.mir (only (nvals n))) × WT (only (nvals n))
   typed-rest n is = LL.lawful N.the-type N′.the-laws 𝓤 H A W .typed n _ is .0
 
@@ -134,6 +141,7 @@ module _ {M : Type 1} (𝓤 : URA M) (H : Heap 𝓤) (A : Atoms 𝓤) (W : Given
   tree-is : (r : Placed) (w : Val) → Is P.the-row r (w ∷ []) → Is T.the-row (r .tree) (tvals (r .tree))
   tree-is r w is = LL.owed P.the-type P′.the-laws r _ is .1 .0
 
+  -- and the rest of it
   rest-is : (r : Placed) (w : Val) → Is P.the-row r (w ∷ []) → Is N.the-row (rest r) (nvals (rest r))
   rest-is r w is = LL.owes N.the-type N′.the-laws (rest r) (
     LL.owed P.the-type P′.the-laws r _ is .0,
@@ -144,6 +152,7 @@ module _ {M : Type 1} (𝓤 : URA M) (H : Heap 𝓤) (A : Atoms 𝓤) (W : Given
     ),
   )
 
+  -- the way out: from what is had at exit to what the contract says
   exits : (r : Placed) (after : List ℤ) → Is N.the-row (rest r) (nvals (rest r)) → Said h codes n m v r after
       → length after ≡ length codes
       → ent 𝓤 (⋆ 𝓤 H A (‵ (fobs γ (T.the-row .coded .code (r .tree))) ∷ ‵ (fbor κ (Body (mem T.the-row) b o γ)) ∷ ‵ (flft κ q) ∷
@@ -177,6 +186,7 @@ module _ {M : Type 1} (𝓤 : URA M) (H : Heap 𝓤) (A : Atoms 𝓤) (W : Given
     tt,
   )
 
+  -- and that the caller has what it asks
   goes-place : ent 𝓤 (sep 𝓤 (sep 𝓤 (A .lft κ′ q′) (sem 𝓤 H A ftrue)) (sep 𝓤 (sem 𝓤 H A (T.the-row .own h (tvals h)))
       (sem 𝓤 H A (owns (MutSlice (named 1) κ′ i32 ∷ usize ∷ usize ∷ usize ∷ []) (lent, (n, (m, (v, tt))))
       (s ∷ [], (vint w64 n ∷ [], (vint w64 m ∷ [], (vint w64 v ∷ [], tt)))))))) (Place 𝓤 H A at-mem run .pre to-place)
@@ -186,6 +196,7 @@ module _ {M : Type 1} (𝓤 : URA M) (H : Heap 𝓤) (A : Atoms 𝓤) (W : Given
 
   module _ (C : Calls 𝓤 H) (Λ : Loops 𝓤 H) (fm : FmC 𝓤 H (W .laws) C) (known : Triple 𝓤 (C #branching·tree·Tree·place)
       (Place 𝓤 H A at-mem run)) where
+    -- the walk, from the parameters to the exit
     walk : ent 𝓤 (onEntry 𝓤 H A place-in.signature (κ, (κ′, tt)) (q, (q′, tt)) x at) (WpFn 𝓤 H C Λ code.function (vptr b o ∷ s ∷ vint w64
         n ∷ vint w64 m ∷ vint w64 v ∷ []) Post)
     walk =
@@ -252,6 +263,7 @@ module _ {M : Type 1} (𝓤 : URA M) (H : Heap 𝓤) (A : Atoms 𝓤) (W : Given
         keep ! (0 ∷ 1 ∷ 2 ∷ 3 ∷ 4 ∷ []) $ by ! (exits r (zs .1 .0) (rest-is r w is) e l)))))))))))))))))))
 
 module _ {M : Type 1} (𝓤 : URA M) (H : Heap 𝓤) (A : Atoms 𝓤) (W : Given 𝓤 H A) (at-mem : Memory → SProp 𝓤) (run : Routine → Fun 𝓤) where
+  -- the walk for every choice of lifetimes, shares and parameters
   place-in-walks : (C : Calls 𝓤 H) (Λ : Loops 𝓤 H) → FmC 𝓤 H (W .laws) C
       → Triple 𝓤 (C #branching·tree·Tree·place) (Place 𝓤 H A at-mem run) → Walks 𝓤 H A place-in.ended stayed (WpFn 𝓤 H C Λ code.function)
       (place-in.clauses 𝓤 H A at-mem run)
@@ -269,6 +281,7 @@ module _ {M : Type 1} (𝓤 : URA M) (H : Heap 𝓤) (A : Atoms 𝓤) (W : Given
       (a .1 .0 .ptr .0) (a .1 .0 .ptr .1) (a .1 .0 .name) (a .1 .0 .now) (a .1 .1 .0) (a .1 .1 .1 .0) (a .1 .1 .1 .1 .0)
       (are .1 .0 .0 .1) (are .1 .1 .0 .1) (are .1 .1 .1 .0 .1) (are .1 .1 .1 .1 .0 .1) C Λ fm known))
 
+  -- each parameter leaves what its `Stay` says
   goes : AllGo 𝓤 H A W 2 (place-in.signature .params) (place-in.ended .kept) stayed
   goes = (
     goes-ref 𝓤 H A W 2 0 tt (plain (λ _. T.the-row)),
@@ -289,6 +302,7 @@ module _ {M : Type 1} (𝓤 : URA M) (H : Heap 𝓤) (A : Atoms 𝓤) (W : Given
     ),
   )
 
+-- so the body meets the contract
 place-in-meets : {M : Type 1} (𝓤 : URA M) (H : Heap 𝓤) (A : Atoms 𝓤) → Given 𝓤 H A
     → (at-mem : Memory → SProp 𝓤) (run : Routine → Fun 𝓤) (𝓣 : Tables 𝓤 H)
     → Triple 𝓤 (𝓣 .C #branching·tree·Tree·place) (Place 𝓤 H A at-mem run)
@@ -297,6 +311,7 @@ place-in-meets 𝓤 H A W at-mem run 𝓣 known = walk-meets 𝓤 H A place-in.e
     at-mem run) (WpFn 𝓤 H (𝓣 .C) (𝓣 .Λ) code.function) (WpFn-mono 𝓤 H (W .laws) 𝓣 code.function) (place-in-walks 𝓤 H A W at-mem run
     (𝓣 .C) (𝓣 .Λ) (fmOf 𝓤 H (W .laws) 𝓣) known)
 
+-- and so does the function
 pub place-in-spec : {M : Type 1} → stated.statement M
 unfolding code.routine tablesOf
 place-in-spec 𝓤 H 𝓜 𝓖 𝓡 =

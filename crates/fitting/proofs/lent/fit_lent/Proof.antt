@@ -73,15 +73,19 @@ module _ {M : Type 1} (𝓤 : URA M) (H : Heap 𝓤) (A : Atoms 𝓤) (W : Given
   abbrev x : RefT (List Branch)
   x = record { ptr = (b, o); name = γ; now = ys }
 
+  -- as they are passed
   abbrev a : Arg
   a = args lent n m x y₂ y₃ y₄
 
+  -- their machine values
   abbrev vals : Vals
   vals = machine lent n m x y₂ y₃ y₄
 
+  -- what the walk ends in
   abbrev Post : Val → SProp 𝓤
   Post = posts 𝓤 H A at-mem run (κ₀, (κ, (κ₂, (κ₃, (κ₄, tt))))) (q₀, (q, (q₂, (q₃, (q₄, tt))))) a vals
 
+  -- the walk, from the parameters to the exit
   walk : (𝓣 : Tables 𝓤 H) → Triple 𝓤 (𝓣 .C #fitting·lent·readable) (Reads 𝓤 H A at-mem run)
       → Triple 𝓤 (𝓣 .C #fitting·lent·fit-sized) (Sized 𝓤 H A at-mem run)
       → ent 𝓤 (onEntry 𝓤 H A fit.signature (κ₀, (κ, (κ₂, (κ₃, (κ₄, tt))))) (q₀, (q, (q₂, (q₃, (q₄, tt))))) a vals)
@@ -155,6 +159,7 @@ module _ {M : Type 1} (𝓤 : URA M) (H : Heap 𝓤) (A : Atoms 𝓤) (W : Given
 module _ {M : Type 1} (𝓤 : URA M) (H : Heap 𝓤) (A : Atoms 𝓤) (W : Given 𝓤 H A) (at-mem : Memory → SProp 𝓤) (run : Routine → Fun 𝓤)
     (𝓣 : Tables 𝓤 H) (known-readable : Triple 𝓤 (𝓣 .C #fitting·lent·readable) (Reads 𝓤 H A at-mem run)) (known-sized : Triple 𝓤
     (𝓣 .C #fitting·lent·fit-sized) (Sized 𝓤 H A at-mem run)) where
+  -- the walk for every choice of lifetimes, shares and parameters
   fit-walks : Walks 𝓤 H A fit.ended stayed (WpFn 𝓤 H (𝓣 .C) (𝓣 .Λ) code.function) (fit.clauses 𝓤 H A at-mem run)
   fit-walks = walked 𝓤 H A fit.ended stayed (fit.clauses 𝓤 H A at-mem run) (WpFn 𝓤 H (𝓣 .C) (𝓣 .Λ) code.function)
       (λ κs. spelt)
@@ -189,10 +194,12 @@ module _ {M : Type 1} (𝓤 : URA M) (H : Heap 𝓤) (A : Atoms 𝓤) (W : Given
       (are .0 .0 .1) (are .1 .0 .1) (are .1 .1 .0 .1) (are .1 .1 .1 .0 .0 .1) (are .1 .1 .1 .1 .0 .0 .1) (are .1 .1 .1 .1 .1 .0 .0 .1)
       (are .1 .1 .1 .1 .1 .1 .0 .0 .1) 𝓣 known-readable known-sized))
 
+  -- so the body meets the contract
   fit-meets : Meets 𝓤 H A fit.signature (WpFn 𝓤 H (𝓣 .C) (𝓣 .Λ) code.function) (fit.spec 𝓤 H A at-mem run)
   fit-meets = walk-meets 𝓤 H A fit.ended stayed W (goes 𝓤 H A W)
       (fit.clauses 𝓤 H A at-mem run) (WpFn 𝓤 H (𝓣 .C) (𝓣 .Λ) code.function) (WpFn-mono 𝓤 H (W .laws) 𝓣 code.function) fit-walks
 
+-- and so does the function
 pub fit-lent-spec : {M : Type 1} → stated.statement M
 unfolding code.routine tablesOf
 fit-lent-spec 𝓤 H 𝓜 𝓖 𝓡 =

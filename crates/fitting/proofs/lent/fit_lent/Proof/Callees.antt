@@ -98,6 +98,7 @@ abbrev pub Spelt : Type 0
 Spelt = (RefT (List ℤ) → List Val) × ((ℕ → List Val) × ((ℕ → List Val) × ((RefT (List Branch) → List Val) × ((RefT (List ℤ) → List Val) ×
     ((RefT (List ℤ) → List Val) × ((RefT (List ℤ) → List Val) × Unit {0}))))))
 
+-- as they are spelled
 abbrev pub spelt : Spelt
 spelt = (slice-vals, (uint-vals w64, (uint-vals w64, (slice-vals, (slice-vals, (slice-vals, (slice-vals, tt)))))))
 
@@ -109,12 +110,15 @@ val x = sliceVal (x .ptr) (length (x .now))
 abbrev pub Arg : Type 0
 Arg = RefT (List ℤ) × (ℕ × (ℕ × (RefT (List Branch) × (RefT (List ℤ) × (RefT (List ℤ) × (RefT (List ℤ) × Unit {0}))))))
 
+-- as they are passed
 abbrev pub args : (lent : RefT (List ℤ)) (n m : ℕ) (x : RefT (List Branch)) (y₂ y₃ y₄ : RefT (List ℤ)) → Arg
 args lent n m x y₂ y₃ y₄ = (lent, (n, (m, (x, (y₂, (y₃, (y₄, tt)))))))
 
+-- machine values of the parameters
 abbrev pub Vals : Type 0
 Vals = List Val × (List Val × (List Val × (List Val × (List Val × (List Val × (List Val × Unit {0}))))))
 
+-- as they are passed
 abbrev pub machine : (lent : RefT (List ℤ)) (n m : ℕ) (x : RefT (List Branch)) (y₂ y₃ y₄ : RefT (List ℤ)) → Vals
 machine lent n m x y₂ y₃ y₄ = (
   val lent ∷ [],
@@ -131,9 +135,11 @@ posts 𝓤 H A mem run κs qs a vals = walkOf 𝓤 H A fit.ended stayed (fit.cla
 abbrev pub z : Branch
 z = record { node = 0; ancestor = 0; length = 0 }
 
+-- it is the value of its machine values
 pub z-is : Is R z (bvals z)
 z-is = LL.owes B.the-type B′.the-laws z ((refl, lit< tt), ((refl, lit< tt), ((refl, lit< tt), tt)))
 
+-- a list of 125 records of zeros
 abbrev pub zeros : List Branch
 zeros = replicate 125 z
 
@@ -141,18 +147,23 @@ zeros = replicate 125 z
 abbrev pub word : Ty
 word = tyInt w64
 
+-- the lent list
 abbrev pub slice : Ty
 slice = sliceTy (tyRef (named 1) imm (pointee (R .written)))
 
+-- the matrix
 abbrev pub mslice : Ty
 mslice = sliceTy (tyRef (named 0) imm (tyInt w32))
 
+-- a list for states
 abbrev pub given : ℕ → Ty
 given j = sliceTy (tyRef (named j) mut (tyInt w32))
 
+-- a list that is lent on: its pointer
 abbrev pub on : Ty
 on = tyRef erased mut (tyInt w32)
 
+-- and the slice
 abbrev pub ons : Ty
 ons = sliceTy on
 
@@ -161,6 +172,7 @@ module _ {M : Type 1} (𝓤 : URA M) (H : Heap 𝓤) (A : Atoms 𝓤) (mem : Mem
   abbrev pub Reads : Contract 𝓤
   Reads = tripleOf 𝓤 H A readable.signature (readable.spec 𝓤 H A mem run)
 
+  -- that of `fit_sized`
   abbrev pub Sized : Contract 𝓤
   Sized = tripleOf 𝓤 H A sized.signature (sized.spec 𝓤 H A mem run)
 
@@ -173,6 +185,7 @@ module _ {M : Type 1} (𝓤 : URA M) (H : Heap 𝓤) (A : Atoms 𝓤) (mem : Mem
   abbrev pub to-readable : (m : ℕ) → Reads .Ghost
   to-readable m = ((tt, tt, tt, (m, tt), (vint w64 m ∷ [], tt)), tt)
 
+  -- and that the caller has what it asks
   pub goes-readable : Given 𝓤 H A → (m : ℕ) → m < 2 ^ 64 → ent 𝓤 (sem 𝓤 H A ftrue) (Reads .pre (to-readable m))
   goes-readable W m fits = qed W (‵ ftrue ∷ []) ∵ nothing ! $ owned ! usize (Is usize) (uint-makes 𝓤 H A W w64) m _ (refl, fits) $
       fjoin ! $ move ! (1 ∷ 0 ∷ []) $ join ! $ frame ! $ done !

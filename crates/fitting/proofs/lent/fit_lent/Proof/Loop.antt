@@ -71,12 +71,15 @@ module _ {M : Type 1} (𝓤 : URA M) (H : Heap 𝓤) (A : Atoms 𝓤) (W : Given
   abbrev x : RefT (List Branch)
   x = record { ptr = (b, o); name = γ; now = ys }
 
+  -- as they are passed
   abbrev a : Arg
   a = args lent n m x y₂ y₃ y₄
 
+  -- their machine values
   abbrev vals : Vals
   vals = machine lent n m x y₂ y₃ y₄
 
+  -- what the walk ends in
   abbrev Post : Val → SProp 𝓤
   Post = posts 𝓤 H A at-mem run (κ₀, (κ, (κ₂, (κ₃, (κ₄, tt))))) (q₀, (q, (q₂, (q₃, (q₄, tt))))) a vals
 
@@ -84,9 +87,11 @@ module _ {M : Type 1} (𝓤 : URA M) (H : Heap 𝓤) (A : Atoms 𝓤) (W : Given
   abbrev fact′ : Fml
   fact′ = at-slice R x (val x ∷ [])
 
+  -- a witness of its value
   abbrev seen : Fml
   seen = fres γ (codedHoleys R .code (heres R ys))
 
+  -- the shared borrow
   abbrev shared : Fml
   shared = fshr-bor κ (λ p. arr-parts (shares R) (length ys) .part p ys b o)
 
@@ -94,13 +99,16 @@ module _ {M : Type 1} (𝓤 : URA M) (H : Heap 𝓤) (A : Atoms 𝓤) (W : Given
   abbrev matrix : Fml
   matrix = ShrSlice (named 0) κ₀ i32 .own lent (val lent ∷ [])
 
+  -- what the three lists own
   abbrev three : Fml
   three = owns (MutSlice (named 2) κ₂ i32 ∷ MutSlice (named 3) κ₃ i32 ∷ MutSlice (named 4) κ₄ i32 ∷ []) (y₂, (y₃, (y₄, tt)))
       (val y₂ ∷ [], (val y₃ ∷ [], (val y₄ ∷ [], tt)))
 
+  -- their tokens
   abbrev three-tokens : Item 𝓤
   three-tokens = ‵ (flft κ₂ q₂) ⊛ ‵ (flft κ₃ q₃) ⊛ ‵ (flft κ₄ q₄) ⊛ ‵ ftrue
 
+  -- the matrix's token with them
   abbrev tokens : Item 𝓤
   tokens = ‵ (flft κ₀ q₀) ⊛ three-tokens
 
@@ -110,6 +118,7 @@ module _ {M : Type 1} (𝓤 : URA M) (H : Heap 𝓤) (A : Atoms 𝓤) (W : Given
       tokens ∷ ‵ (flft κ q) ∷ ‵ matrix ∷ ‵ (ShrSlice (named 1) κ R .own x (val x ∷ [])) ∷ ‵ (finally i32 (y₂ .name) low′) ∷ ‵
       (finally i32 (y₃ .name) high′) ∷ ‵ (finally i32 (y₄ .name) chosen′) ∷ ‵ (J.the-row .own r (v ∷ [])) ∷ []
 
+  -- the way out: from what is had at exit to what the contract says
   exits : (low′ high′ chosen′ : List ℤ) (r : Fitted) (v : Val)
       → FitAnswer (lent .now) n m ys (y₂ .now) low′ (y₃ .now) high′ (y₄ .now) chosen′ r → length low′ ≡ length (y₂ .now) → length high′ ≡
       length (y₃ .now) → length chosen′ ≡ length (y₄ .now)
@@ -155,9 +164,11 @@ module _ {M : Type 1} (𝓤 : URA M) (H : Heap 𝓤) (A : Atoms 𝓤) (W : Given
     tt,
   )
 
+  -- what the callee asks
   abbrev asks : (zs : List Branch) (v : Val) → List (Item 𝓤)
   asks zs v = tokens ∷ ‵ matrix ∷ ‵ (fsep (Array R 125 .own zs (v ∷ [])) three) ∷ []
 
+  -- and that the caller has what it asks
   goes-sized : (zs : List Branch) (v : Val) → ent 𝓤 (⋆ 𝓤 H A (asks zs v)) (Sized 𝓤 H A at-mem run .pre (to-sized zs v))
   goes-sized zs v = qed W (asks zs v) ∵
       move ! (2 ∷ []) $ fsplit ! $ move ! (1 ∷ []) $ owned ! usize (Is usize) (uint-makes 𝓤 H A W w64) (length ys) _ (refl, room .0) $
@@ -172,12 +183,15 @@ module _ {M : Type 1} (𝓤 : URA M) (H : Heap 𝓤) (A : Atoms 𝓤) (W : Given
   module _ (𝓣 : Tables 𝓤 H) (known-sized : Triple 𝓤 (𝓣 .C #fitting·lent·fit-sized) (Sized 𝓤 H A at-mem run)) (k : ℕ)
       (k-is : Readable (length ys) k) (p : Share) (l₀ l₁ l₂ l₃ l₄ l₅ l₆ l₇ l₈ l₉ l₁₀ l₁₁ l₁₂ l₁₃ l₁₄ l₁₅ l₁₆ l₁₇ l₁₈ l₁₉ l₂₀ l₂₁ l₂₂ l₂₃
       l₂₄ l₂₅ l₂₆ : ℕ) where
+    -- the table of calls
     abbrev C : Calls 𝓤 H
     C = 𝓣 .C
 
+    -- and of loops
     abbrev Λ : Loops 𝓤 H
     Λ = 𝓣 .Λ
 
+    -- the locals, with their types
     abbrev En : Env 𝓤 H
     En = (J′.mir, l₀) ∷ (mslice, l₁) ∷ (word, l₂) ∷ (word, l₃) ∷ (slice, l₄) ∷ (given 2, l₅) ∷ (given 3, l₆) ∷ (given 4, l₇) ∷ (word, l₈)
         ∷ (arr, l₉) ∷ (word, l₁₀) ∷ (word, l₁₁) ∷ (rec, l₁₂) ∷ (tyBool, l₁₃) ∷ (word, l₁₄) ∷ (tyPtr, l₁₅) ∷ (rec, l₁₆) ∷ (word, l₁₇) ∷
@@ -208,10 +222,12 @@ module _ {M : Type 1} (𝓤 : URA M) (H : Heap 𝓤) (A : Atoms 𝓤) (W : Given
         ‵ (fdies arr l₂₀)
         ∷ ‵ (fdies on l₂₁) ∷ ‵ (fdies ons l₂₂) ∷ ‵ (fdies on l₂₃) ∷ ‵ (fdies ons l₂₄) ∷ ‵ (fdies on l₂₅) ∷ ‵ (fdies ons l₂₆) ∷ []
 
+    -- what holds after a turn
     abbrev Turned : Upto k → Out → SProp 𝓤
     Turned i = afterTurn 𝓤 H (Below 𝓤 H A (Nearer k) At i) (afterBlock 𝓤 H (afterSeq 𝓤 H (Wp 𝓤 H C Λ En body.t-7 (atReturn 𝓤 H En Post))
         (atReturn 𝓤 H En Post)))
 
+    -- one turn, or what follows the loop
     turns : (i : Upto k) → Sq W (At i) (runs C Λ En body.turn-1 (anyQ (Turned i)))
     unfolding afterTurn
     turns i =
@@ -324,24 +340,31 @@ module _ {M : Type 1} (𝓤 : URA M) (H : Heap 𝓤) (A : Atoms 𝓤) (W : Given
         (subst (λ (u : ℕ). Said (taken u) r (zs .1 .1 .1 .1 .1 .0) (zs .1 .1 .1 .1 .1 .1 .0) (zs .1 .1 .1 .1 .1 .1 .1 .0))
         (le-antisymm (i .1) (nltb→le (i .0) k past)) e)) e₂ e₃ e₄)))))))))))
       where
+        -- the array when the loop stands at i
         now′ : List Branch
         now′ = taken (i .0)
 
+        -- the test says that i is below k
         below : Holds (ltb (i .0) k) → i .0 < k
         below less = ltb→lt (i .0) k less
 
+        -- i is a place of the list
         in-ys : Holds (ltb (i .0) k) → i .0 < length ys
         in-ys less = lt-of-lt-of-le (below less) (k-is .fits)
 
+        -- the array has 125 records
         length-all : length now′ ≡ 125
         length-all = length-over 0 (take (i .0) ys) zeros ∙ length-replicate 125 z
 
+        -- i is a place of it
         in-all : Holds (ltb (i .0) k) → i .0 < length (taken (i .0))
         in-all less = subst (λ (u : ℕ). i .0 < u) (sym length-all) (lt-of-lt-of-le (below less) (k-is .most))
 
+        -- the place of record i fits a word
         place-fits : Holds (ltb (i .0) k) → i .0 * 24 < 2 ^ 64
         place-fits less = omega (arith, below less, k-is .most)
 
+        -- and so does the next count
         next-fits : Holds (ltb (i .0) k) → i .0 + 1 < 2 ^ 64
         next-fits less = omega (arith, below less, k-is .most)
 
