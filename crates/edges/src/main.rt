@@ -9,6 +9,8 @@ use listing::call::Listed;
 use listing::call::OUTPUT_SIZE;
 use listing::call::list;
 use matrix::refusal::number;
+use worked_cases::lines::end_line;
+use worked_cases::lines::print_field;
 ghost use Prim.Native.Nat.{_≤_, _<_};
 
 // What the lent bytes hold before a call: no byte of a listing.
@@ -33,17 +35,6 @@ fn wide(byte: u8) -> u64
 // The number that three bytes say, the highest first.
 fn number_of(high: u8, middle: u8, low: u8) -> usize {
     (wide(high) * 65536 + wide(middle) * 256 + wide(low)) as usize
-}
-
-// Prints a field: a tab and a number.
-fn print_field(value: u64) {
-    io::write_all(STDOUT_FILENO, b"\t");
-    io::print_decimal(STDOUT_FILENO, value);
-}
-
-// Ends a line.
-fn end_line() {
-    io::write_all(STDOUT_FILENO, b"\n");
 }
 
 // Makes every byte of a list the same.
