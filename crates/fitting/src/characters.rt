@@ -2,7 +2,6 @@
 // ranges from both.
 use crate::planning::Plan;
 use crate::planning::nodes_end;
-use crate::planning::place_of;
 use crate::planning::sister;
 use crate::spans::Span;
 use crate::spans::gap;
@@ -11,6 +10,7 @@ use crate::spans::middle;
 use crate::spans::nearest_member;
 use crate::spans::only;
 use branching::tree::PLACES;
+use branching::tree::place_of;
 use matrix::COLUMNS;
 use std::num::wrapping_add_u64;
 ghost use mathlib.Core.Path.{_≡_};

@@ -13,14 +13,13 @@ use mir.Val.{toZ, ofZ}
 use mir.Facts.{toZ-ofZ}
 use Rattle.matrix.specs.Shape.{lastNode}
 use Rattle.branching.specs.Ancestors.{ancestors}
-use Rattle.branching.specs.Walks.{WalkOf, nodeAt}
+use Rattle.branching.specs.Walks.{WalkOf, nodeAt, Belows}
 use Rattle.branching.specs.Within.{branchingWithin}
 use Rattle.fitting.specs.Assignments.{character}
 use Rattle.fitting.specs.declared.characters.Seen.{Seen}
 use Rattle.fitting.specs.declared.spans.Span.{Span}
-use Rattle.fitting.specs.Plans.{Belows}
 use Rattle.fitting.specs.Steps.{Codes, PartsAre, partAt, outsideFrom, seenAt}
-use Rattle.fitting.proofs.Descending.{sister-within}
+use Rattle.fitting.proofs.Pass.Standing.{sister-within}
 use Rattle.fitting.proofs.Pass.Down.{DownTo, down-start, down-next, down-all}
 use Rattle.fitting.proofs.characters.seen_down.Statement.{statement}
 use Rattle.fitting.proofs.characters.seen_down.Tie as tie
