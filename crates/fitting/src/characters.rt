@@ -148,6 +148,7 @@ fn seen_down(codes: [i32; 127], n: usize, plan: Plan, parts: [Part; 127]) -> [Se
     ensures { λ r. ⌜ SeenDown n (ancestors (plan .tree)) codes parts r ⌝ }
 {
     let tree = plan.tree;
+    let places = tree.ancestors;
     let walk = plan.walk;
     let below = plan.below;
     let row1 = codes[1];
@@ -159,7 +160,7 @@ fn seen_down(codes: [i32; 127], n: usize, plan: Plan, parts: [Part; 127]) -> [Se
     let mut i = 1;
     while i < walk.count {
         let v = walk.nodes[i];
-        let u = place_of(tree.ancestor(v));
+        let u = place_of(places[v]);
         let w = sister(below[u], v);
         let above = seen[u];
         let part = parts[v];
