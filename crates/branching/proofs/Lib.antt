@@ -11,7 +11,9 @@ pub mod Hanging
 pub mod Running
 pub mod Places
 pub mod Within
+pub mod Descending
 pub mod Walks
+pub mod Along
 pub mod Lending
 pub mod Linking
 pub mod Lengths

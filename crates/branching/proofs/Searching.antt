@@ -1,10 +1,11 @@
 -- The search for the nearest interval, node by node; and what is read and written of a lent matrix on the way.
 use mathlib.Core.Path.{_≡_, refl, sym, ap, _∙_}
-use mathlib.Core.Logic.{_≢_}
+use mathlib.Core.Logic.{_≢_, inr, by-cases}
 use mathlib.Core.Bool.{true, false}
 use mathlib.Core.List.{List}
 use Prim.Native.Nat.{ℕ, _+_, _*_, _-_, _≤_, _<_, min}
 use native.Mathlib.Omega.{arith}
+use native.Mathlib.Decide.{decLe}
 use lib.IntN.{ℤ}
 use lib.ListN.{length, take, drop}
 use borrow.Rule.Slice.PartMut.{putMid}
@@ -24,6 +25,7 @@ use Rattle.branching.specs.Ancestors.{ancestors, ancestor}
 use Rattle.branching.specs.Hanging.{hung, nextHtu}
 use Rattle.branching.specs.Within.{nextHtuWithin}
 use Rattle.branching.proofs.Within.{next-plain}
+use Rattle.branching.proofs.Nodes.{inTree-iff}
 use Rattle.branching.specs.Nodes.{inTree, nodesIn, otherNodes}
 use Rattle.branching.specs.Unasked.{intervalAt, mediansAt, nearestAt, hungAt}
 use Rattle.branching.specs.Nearest.{NearestBelow, NearestOf, Leaves}
@@ -35,6 +37,10 @@ pub interval-rows : (codes : List ℤ) (m b c e r : ℕ) (tree : List ℕ) (xs y
 unfolding intervalAt
 interval-rows codes m b c e r tree xs ys zs narrow above ex ey ez is =
     rw (is, ex, ey, ez, row-128 codes m b narrow, row-128 codes m c narrow, row-128 codes m e narrow, above)
+
+-- a node with an immediate ancestor is in the tree
+pub has-above : (tree : List ℕ) (c above : ℕ) → above ≡ ancestor tree c → above ≢ 0 → inTree tree c ≡ true
+has-above tree c above is some = inTree-iff tree c .1 (inr (by-cases (decLe 1 (ancestor tree c)) (λ h. h) (λ h. absurd (some (omega arith)))))
 
 -- before the first node no interval is found
 pub nearest-start : (codes : List ℤ) (m : ℕ) (tree : List ℕ) (b : ℕ) → NearestBelow codes m tree b 2 (record { lower = 0; added = 0 })

@@ -1,16 +1,14 @@
--- The walk over a branching: how it grows by one node, that it grows to its end, and what follows for the descendants of a node.
+-- The walk over a branching: how it grows by one node, when it has grown to its end, and what follows for the descendants of a node.
 use mathlib.Core.Path.{_≡_, refl, sym, ap, _∙_}
 use mathlib.Core.Logic.{_≢_, _⊎_, inl, inr, ⊎-elim, by-cases}
 use mathlib.Core.List.{List}
-use mathlib.Core.Bool.{Bool, true, false, not, _&&_, false≢true}
-use Prim.Native.Nat.{ℕ, _+_, _*_, _-_, _≤_, _<_, min}
+use mathlib.Core.Bool.{Bool, true, false, not, false≢true}
+use Prim.Native.Nat.{ℕ, _+_, _*_, _-_, _≤_, _<_}
 use native.Mathlib.Omega.{arith}
 use native.Mathlib.Decide.{decLe, decLt, ℕ-discrete}
-use lib.ListN.{length, set, replicate}
+use lib.ListN.{length, set, replicate, getD}
 use lib.Seq.{getD-set-same, getD-set-other}
-use lib.Dec.{leb}
-use borrow.Author.Tests.{leb-true, not-true}
-use Rattle.lists.proofs.Both.{and-left, and-right}
+use borrow.Author.Tests.{not-true}
 use Rattle.lists.specs.Filters.{keep}
 use Rattle.lists.specs.Numbers.{numbers}
 use Rattle.lists.proofs.Keep.{keep-mem, mem-keep, mem-length, length-mem, keep-all}
@@ -18,15 +16,16 @@ use Rattle.lists.proofs.Numbers.{numbers-within, numbers-among, length-numbers}
 use Rattle.lists.proofs.Sums.{counted, length-keep, sum-changed}
 use Rattle.matrix.specs.Shape.{lastNode}
 use Rattle.branching.specs.Ancestors.{ancestor}
-use Rattle.branching.specs.declared.walk.Walk.{Walk}
 use Rattle.branching.specs.Growing.{branching}
-use Rattle.branching.specs.Within.{branchingWithin}
 use Rattle.branching.specs.Facts.{ReachesRoot, root, up, Branching}
-use Rattle.branching.specs.Walks.{nodeAt, WalkOf, Walking}
-use Rattle.branching.specs.Steps.{stands, readyNode, NextNode}
+use Rattle.branching.specs.Walks.{nodeAt, WalkOf}
 use Rattle.branching.proofs.Nodes.{same-everywhere}
 use Rattle.branching.proofs.Test.{branching-iff}
 use Rattle.branching.proofs.Whole.{branching-nodes, branching-reaches, growing-ancestor-le}
+
+-- node v stands in the walk so far: its place in the list of marks is true
+unfoldable pub stands : List Bool → ℕ → Bool
+stands placed v = getD placed v false
 
 -- nodes 2 to `last` have their immediate ancestors among nodes 1 to `last`, and going up from each reaches node 1
 pub record Rooted (last : ℕ) (tree : List ℕ) : Type 0 where
@@ -50,65 +49,43 @@ pub record Walked (last count : ℕ) (tree nodes : List ℕ) (placed : List Bool
   pub left : outside last placed + count ≡ last
 
 -- a place of a list of nodes that is set holds the node
-node-new : (nodes : List ℕ) (i v : ℕ) → i < length nodes → nodeAt (set nodes i v) i ≡ v
+pub node-new : (nodes : List ℕ) (i v : ℕ) → i < length nodes → nodeAt (set nodes i v) i ≡ v
 unfolding nodeAt
 node-new nodes i v h = getD-set-same nodes i v 0 h
 
 -- any other keeps its own
-node-old : (nodes : List ℕ) (i v j : ℕ) → j ≢ i → nodeAt (set nodes i v) j ≡ nodeAt nodes j
+pub node-old : (nodes : List ℕ) (i v j : ℕ) → j ≢ i → nodeAt (set nodes i v) j ≡ nodeAt nodes j
 unfolding nodeAt
 node-old nodes i v j ne = getD-set-other nodes i j v 0 ne
 
 -- a node that is marked stands
-stands-new : (placed : List Bool) (v : ℕ) → v < length placed → stands (set placed v true) v ≡ true
+pub stands-new : (placed : List Bool) (v : ℕ) → v < length placed → stands (set placed v true) v ≡ true
 unfolding stands
 stands-new placed v h = getD-set-same placed v true false h
 
 -- for any other nothing changes
-stands-old : (placed : List Bool) (v u : ℕ) → u ≢ v → stands (set placed v true) u ≡ stands placed u
+pub stands-old : (placed : List Bool) (v u : ℕ) → u ≢ v → stands (set placed v true) u ≡ stands placed u
 unfolding stands
 stands-old placed v u ne = getD-set-other placed v u true false ne
 
--- a ready node does not stand, and its immediate ancestor does
-ready-facts : (tree : List ℕ) (placed : List Bool) (u : ℕ) → readyNode tree placed u ≡ true
-    → (stands placed u ≡ false) × (stands placed (ancestor tree u) ≡ true)
-unfolding readyNode
-ready-facts tree placed u e = go (stands placed u) (stands placed (ancestor tree u)) refl refl e
-  where
-    go : (a b : Bool) → stands placed u ≡ a → stands placed (ancestor tree u) ≡ b → (not a && b) ≡ true
-        → (stands placed u ≡ false) × (stands placed (ancestor tree u) ≡ true)
-    go true b p q r = absurd (false≢true r)
-    go false true p q r = (p, q)
-    go false false p q r = absurd (false≢true r)
-
--- and such a node is ready
-facts-ready : (tree : List ℕ) (placed : List Bool) (u : ℕ) → stands placed u ≡ false → stands placed (ancestor tree u) ≡ true
-    → readyNode tree placed u ≡ true
-unfolding readyNode
-facts-ready tree placed u p q = rw (p, q)
-
 -- a mark is true or false
-mark : (placed : List Bool) (v : ℕ) → (stands placed v ≡ true) ⊎ (stands placed v ≡ false)
+pub mark : (placed : List Bool) (v : ℕ) → (stands placed v ≡ true) ⊎ (stands placed v ≡ false)
 mark placed v = go (stands placed v) refl
   where
     go : (b : Bool) → stands placed v ≡ b → (stands placed v ≡ true) ⊎ (stands placed v ≡ false)
     go true e = inl e
     go false e = inr e
 
-module _ (last : ℕ) (tree : List ℕ) (placed : List Bool) (rooted : Rooted last tree) where
-  module _ (one : stands placed 1 ≡ true)
-      (none : (u : ℕ) → 2 ≤ u → u ≤ last → readyNode tree placed u ≡ false) where
-    -- if no node is ready, each from which going up reaches node 1 stands
-    all-stand : {v : ℕ} → ReachesRoot tree v → 1 ≤ v → v ≤ last → stands placed v ≡ true
-    all-stand root l h = one
-    all-stand (up v r) l h =
-        by-cases (ℕ-discrete v 1) (λ e. rw e one) λ ne.
-        let a = rooted .above v (omega arith) h in
-        let above = all-stand r (a .0) (a .1) in
-        ⊎-elim
-        (λ t. t)
-        (λ f. absurd (false≢true (sym (none v (omega arith) h) ∙ facts-ready tree placed v f above)))
-        (mark placed v)
+module _ (last : ℕ) (tree : List ℕ) (placed : List Bool) where
+  -- if each node whose immediate ancestor stands stands too, each from which going up reaches node 1 does
+  all-stand : Rooted last tree → stands placed 1 ≡ true
+      → ((u : ℕ) → 2 ≤ u → u ≤ last → stands placed (ancestor tree u) ≡ true → stands placed u ≡ true)
+      → {v : ℕ} → ReachesRoot tree v → 1 ≤ v → v ≤ last → stands placed v ≡ true
+  all-stand rooted one closed root l h = one
+  all-stand rooted one closed (up v r) l h =
+      by-cases (ℕ-discrete v 1) (λ e. rw e one) λ ne.
+      let a = rooted .above v (omega arith) h in
+      closed v (omega arith) h (all-stand rooted one closed r (a .0) (a .1))
 
   -- if not all nodes stand, one does not
   some-outside : 1 ≤ outside last placed → (v : ℕ) × (2 ≤ v) × (v ≤ last) × (stands placed v ≡ false)
@@ -118,113 +95,117 @@ module _ (last : ℕ) (tree : List ℕ) (placed : List Bool) (rooted : Rooted la
       let w = numbers-within 2 (last - 1) (m .0) (k .0) in
       (m .0, w .0, omega arith, not-true (stands placed (m .0)) (k .1))
 
+-- a walk is whole once each node whose immediate ancestor stands stands too
+pub walked-whole : (last count : ℕ) (tree nodes : List ℕ) (placed : List Bool) → Rooted last tree → Walked last count tree nodes placed
+    → ((u : ℕ) → 2 ≤ u → u ≤ last → stands placed (ancestor tree u) ≡ true → stands placed u ≡ true)
+    → count ≡ last
+walked-whole last count tree nodes placed rooted w closed =
+    let left = w .left in
+    by-cases (decLe 1 (outside last placed)) (λ h. absurd (missing (some-outside last tree placed h))) (λ h. omega arith)
+  where
+    one : stands placed 1 ≡ true
+    one = rw (w .first) at (w .marked 0 (w .some))
+
+    missing : (v : ℕ) × (2 ≤ v) × (v ≤ last) × (stands placed v ≡ false) → ⊥
+    missing out =
+        let least = out .1 in
+        let stand = all-stand last tree placed rooted one closed (rooted .reaches (out .0) (out .1) (out .2)) (omega arith) (out .2) in
+        false≢true (sym (out .3) ∙ stand)
+
+-- as long as a node does not stand, the walk is not at its end
+pub walked-less : (last count : ℕ) (tree nodes : List ℕ) (placed : List Bool) → Walked last count tree nodes placed
+    → (v : ℕ) → 2 ≤ v → v ≤ last → stands placed v ≡ false → count < last
+walked-less last count tree nodes placed w v l h free =
+    let all = w .left in
+    let m = numbers-among 2 (last - 1) v l (omega arith) in
+    omega (arith, mem-length (mem-keep (λ u. not (stands placed u)) (numbers 2 (last - 1)) v m (ap not free)))
+
 module _ (last count : ℕ) (tree nodes : List ℕ) (placed : List Bool) (most : last ≤ 126)
     (places : length nodes ≡ 127) (marks : length placed ≡ 127)
-    (rooted : Rooted last tree) (w : Walked last count tree nodes placed) (more : count < last) where
-  -- before the end of the walk a node is ready
-  next-ready : (v : ℕ) → NextNode tree placed last v → (2 ≤ v) × (v ≤ last) × (readyNode tree placed v ≡ true)
-  next-ready v next = ⊎-elim (λ e. absurd (not-none (next .none e))) (λ r. r) (next .among)
+    (w : Walked last count tree nodes placed) (more : count < last)
+    (v : ℕ) (low : 2 ≤ v) (high : v ≤ last) (free : stands placed v ≡ false) where
+  -- what stood in the walk stands in it still
+  pub still : (u : ℕ) → stands placed u ≡ true → stands (set placed v true) u ≡ true
+  still u t =
+      by-cases (ℕ-discrete u v) (λ e. rw e (stands-new placed v (omega arith))) (λ ne. stands-old placed v u ne ∙ t)
+
+  -- one node less is outside
+  one-less : outside last (set placed v true) + 1 ≡ outside last placed
+  one-less =
+      let before = length-keep (λ u. not (stands placed u)) (numbers 2 (last - 1)) in
+      let after = length-keep (λ u. not (stands (set placed v true) u)) (numbers 2 (last - 1)) in
+      let gone : counted (not (stands (set placed v true) v)) ≡ 0 =
+      ap (λ (b : Bool). counted (not b)) (stands-new placed v (omega arith)) in
+      let there : counted (not (stands placed v)) ≡ 1 = ap (λ (b : Bool). counted (not b)) free in
+      let change =
+      sum-changed
+      (λ u. counted (not (stands (set placed v true) u)))
+      (λ u. counted (not (stands placed u)))
+      v
+      2
+      (last - 1)
+      low
+      (omega arith)
+      (λ u m ne. ap (λ (b : Bool). counted (not b)) (stands-old placed v u ne)) in
+      omega arith
+
+  -- the nodes before it keep their places
+  kept : (i : ℕ) → i < count → nodeAt (set nodes count v) i ≡ nodeAt nodes i
+  kept i h = node-old nodes count v i (λ e. omega arith)
+
+  -- it stands behind them
+  here : nodeAt (set nodes count v) count ≡ v
+  here = node-new nodes count v (omega arith)
+
+  -- a place up to it is an earlier one or its own
+  upto : {P : ℕ → Type 0} → ((i : ℕ) → i < count → P i) → P count → (i : ℕ) → i < count + 1 → P i
+  upto {P} earlier own i h =
+      by-cases (decLt i count) (earlier i) (λ ne. let same : i ≡ count = omega arith in rw same own)
+
+  -- with a node behind the others whose immediate ancestor stands, the walk has grown by one
+  pub grows : stands placed (ancestor tree v) ≡ true → Walked last (count + 1) tree (set nodes count v) (set placed v true)
+  grows above = record {
+    some = omega arith;
+    first = kept 0 (w .some) ∙ w .first;
+    within = upto (λ i h. rw (kept i h) (w .within i h)) (rw here (omega arith, high));
+    marked = upto (λ i h. rw (kept i h) (still (nodeAt nodes i) (w .marked i h))) (rw here (stands-new placed v (omega arith)));
+    found = found;
+    once = once;
+    behind = λ i l h. upto earlier own i h l;
+    rest = λ i h. node-old nodes count v i (λ e. omega arith) ∙ w .rest i (omega arith);
+    left = let before = w .left in let less = one-less in omega arith;
+  }
     where
-      one : stands placed 1 ≡ true
-      one = rw (w .first) at (w .marked 0 (w .some))
+      found : (u : ℕ) → stands (set placed v true) u ≡ true → (i : ℕ) × (i < count + 1) × (nodeAt (set nodes count v) i ≡ u)
+      found u t =
+          by-cases
+          (ℕ-discrete u v)
+          (λ e. (count, omega arith, here ∙ sym e))
+          (λ ne.
+          let old = w .found u (sym (stands-old placed v u ne) ∙ t) in
+          (old .0, omega arith, kept (old .0) (old .1) ∙ old .2))
 
-      not-none : ((u : ℕ) → 2 ≤ u → u ≤ last → readyNode tree placed u ≡ false) → ⊥
-      not-none none =
-          let count-left = w .left in
-          let out = some-outside last tree placed rooted (omega arith) in
-          let stand = all-stand last tree placed rooted one none (rooted .reaches (out .0) (out .1) (out .2)) (omega arith) (out .2) in
-          false≢true (sym (out .3) ∙ stand)
+      once : (i j : ℕ) → i < j → j < count + 1 → nodeAt (set nodes count v) i ≢ nodeAt (set nodes count v) j
+      once i j less h e =
+          by-cases
+          (decLt j count)
+          (λ l. w .once i j less l (sym (kept i (omega arith)) ∙ e ∙ kept j l))
+          (λ l.
+          let same : j ≡ count = omega arith in
+          let is : nodeAt nodes i ≡ v = sym (kept i (omega arith)) ∙ e ∙ ap (nodeAt (set nodes count v)) same ∙ here in
+          false≢true (sym free ∙ (rw is at (w .marked i (omega arith)))))
 
-  module _ (v : ℕ) (low : 2 ≤ v) (high : v ≤ last) (free : stands placed v ≡ false) where
-    -- what stood in the walk stands in it still
-    still : (u : ℕ) → stands placed u ≡ true → stands (set placed v true) u ≡ true
-    still u t =
-        by-cases (ℕ-discrete u v) (λ e. rw e (stands-new placed v (omega arith))) (λ ne. stands-old placed v u ne ∙ t)
+      earlier : (i : ℕ) → i < count → 1 ≤ i
+          → (j : ℕ) × (j < i) × (nodeAt (set nodes count v) j ≡ ancestor tree (nodeAt (set nodes count v) i))
+      earlier i h l =
+          let old = w .behind i l h in
+          (old .0, old .1, kept (old .0) (omega arith) ∙ old .2 ∙ ap (ancestor tree) (sym (kept i h)))
 
-    -- one node less is outside
-    one-less : outside last (set placed v true) + 1 ≡ outside last placed
-    one-less =
-        let before = length-keep (λ u. not (stands placed u)) (numbers 2 (last - 1)) in
-        let after = length-keep (λ u. not (stands (set placed v true) u)) (numbers 2 (last - 1)) in
-        let gone : counted (not (stands (set placed v true) v)) ≡ 0 =
-        ap (λ (b : Bool). counted (not b)) (stands-new placed v (omega arith)) in
-        let there : counted (not (stands placed v)) ≡ 1 = ap (λ (b : Bool). counted (not b)) free in
-        let change =
-        sum-changed
-        (λ u. counted (not (stands (set placed v true) u)))
-        (λ u. counted (not (stands placed u)))
-        v
-        2
-        (last - 1)
-        low
-        (omega arith)
-        (λ u m ne. ap (λ (b : Bool). counted (not b)) (stands-old placed v u ne)) in
-        omega arith
-
-    -- the nodes before it keep their places
-    kept : (i : ℕ) → i < count → nodeAt (set nodes count v) i ≡ nodeAt nodes i
-    kept i h = node-old nodes count v i (λ e. omega arith)
-
-    -- it stands behind them
-    here : nodeAt (set nodes count v) count ≡ v
-    here = node-new nodes count v (omega arith)
-
-    -- a place up to it is an earlier one or its own
-    upto : {P : ℕ → Type 0} → ((i : ℕ) → i < count → P i) → P count → (i : ℕ) → i < count + 1 → P i
-    upto {P} earlier own i h =
-        by-cases (decLt i count) (earlier i) (λ ne. let same : i ≡ count = omega arith in rw same own)
-
-    -- with a node behind the others whose immediate ancestor stands, the walk has grown by one
-    grows : stands placed (ancestor tree v) ≡ true → Walked last (count + 1) tree (set nodes count v) (set placed v true)
-    grows above = record {
-      some = omega arith;
-      first = kept 0 (w .some) ∙ w .first;
-      within = upto (λ i h. rw (kept i h) (w .within i h)) (rw here (omega arith, high));
-      marked = upto (λ i h. rw (kept i h) (still (nodeAt nodes i) (w .marked i h))) (rw here (stands-new placed v (omega arith)));
-      found = found;
-      once = once;
-      behind = λ i l h. upto earlier own i h l;
-      rest = λ i h. node-old nodes count v i (λ e. omega arith) ∙ w .rest i (omega arith);
-      left = let before = w .left in let less = one-less in omega arith;
-    }
-      where
-        found : (u : ℕ) → stands (set placed v true) u ≡ true → (i : ℕ) × (i < count + 1) × (nodeAt (set nodes count v) i ≡ u)
-        found u t =
-            by-cases
-            (ℕ-discrete u v)
-            (λ e. (count, omega arith, here ∙ sym e))
-            (λ ne.
-            let old = w .found u (sym (stands-old placed v u ne) ∙ t) in
-            (old .0, omega arith, kept (old .0) (old .1) ∙ old .2))
-
-        once : (i j : ℕ) → i < j → j < count + 1 → nodeAt (set nodes count v) i ≢ nodeAt (set nodes count v) j
-        once i j less h e =
-            by-cases
-            (decLt j count)
-            (λ l. w .once i j less l (sym (kept i (omega arith)) ∙ e ∙ kept j l))
-            (λ l.
-            let same : j ≡ count = omega arith in
-            let is : nodeAt nodes i ≡ v = sym (kept i (omega arith)) ∙ e ∙ ap (nodeAt (set nodes count v)) same ∙ here in
-            false≢true (sym free ∙ (rw is at (w .marked i (omega arith)))))
-
-        earlier : (i : ℕ) → i < count → 1 ≤ i
-            → (j : ℕ) × (j < i) × (nodeAt (set nodes count v) j ≡ ancestor tree (nodeAt (set nodes count v) i))
-        earlier i h l =
-            let old = w .behind i l h in
-            (old .0, old .1, kept (old .0) (omega arith) ∙ old .2 ∙ ap (ancestor tree) (sym (kept i h)))
-
-        own : 1 ≤ count
-            → (j : ℕ) × (j < count) × (nodeAt (set nodes count v) j ≡ ancestor tree (nodeAt (set nodes count v) count))
-        own l =
-            let at = w .found (ancestor tree v) above in
-            (at .0, at .1, kept (at .0) (at .1) ∙ at .2 ∙ ap (ancestor tree) (sym here))
-
-  -- and with it the walk has grown by one
-  pub walked-next : (v : ℕ) → NextNode tree placed last v → Walked last (count + 1) tree (set nodes count v) (set placed v true)
-  walked-next v next =
-      let r = next-ready v next in
-      let f = ready-facts tree placed v (r .2) in
-      grows v (r .0) (r .1) (f .0) (f .1)
+      own : 1 ≤ count
+          → (j : ℕ) × (j < count) × (nodeAt (set nodes count v) j ≡ ancestor tree (nodeAt (set nodes count v) count))
+      own l =
+          let at = w .found (ancestor tree v) above in
+          (at .0, at .1, kept (at .0) (at .1) ∙ at .2 ∙ ap (ancestor tree) (sym here))
 
 -- a walk that has grown to its last node has every node
 all-found : (last : ℕ) (tree nodes : List ℕ) (placed : List Bool) → Walked last last tree nodes placed
@@ -236,10 +217,7 @@ all-found last tree nodes placed w v l h =
     (λ ne. w .found v (⊎-elim (λ t. t) (λ f. absurd (missing ne f)) (mark placed v)))
   where
     missing : v ≢ 1 → stands placed v ≡ false → ⊥
-    missing ne f =
-        let all = w .left in
-        let m = numbers-among 2 (last - 1) v (omega arith) (omega arith) in
-        omega (arith, mem-length (mem-keep (λ u. not (stands placed u)) (numbers 2 (last - 1)) v m (ap not f)))
+    missing ne f = omega (arith, walked-less last last tree nodes placed w v (omega arith) h f)
 
 -- a walk that has grown to its last node is a walk over the branching
 pub walked-all : (n : ℕ) (tree nodes : List ℕ) (placed : List Bool) → Walked (lastNode n) (lastNode n) tree nodes placed
@@ -329,10 +307,6 @@ walk-later n tree nodes w i j hi hj other e =
     omega arith)
     (λ l. let same : j ≡ 0 = omega arith in absurd (other (ap (nodeAt nodes) same ∙ w .first)))
 
--- the node that stands next has a place in a tree
-pub next-most : (tree : List ℕ) (placed : List Bool) (last v : ℕ) → last ≤ 126 → NextNode tree placed last v → v ≤ 126
-next-most tree placed last v most next = ⊎-elim (λ e. omega arith) (λ r. let h = r .1 in omega arith) (next .among)
-
 -- a list of nodes that have a place in a tree stays one with one more of them
 pub places-set : (nodes : List ℕ) (k v : ℕ) → k < length nodes → v ≤ 126 → ((i : ℕ) → nodeAt nodes i ≤ 126)
     → (i : ℕ) → nodeAt (set nodes k v) i ≤ 126
@@ -342,22 +316,3 @@ places-set nodes k v h most all i =
 -- the list with node 1 alone is one
 pub places-start : (i : ℕ) → nodeAt (set (replicate 127 0) 0 1) i ≤ 126
 places-start = places-set (replicate 127 0) 0 1 (omega arith) (omega arith) (λ i. rw (empty i) (omega arith))
-
--- what is handed back of any tree, from what is known where the walk ends
-pub walking : (n : ℕ) (tree : List ℕ) (walk : Walk) (placed : List Bool) (last : ℕ) → last ≡ min (lastNode n) 126 → walk .count ≡ last
-    → ((i : ℕ) → nodeAt (walk .nodes) i ≤ 126)
-    → (Rooted last tree → Walked last last tree (walk .nodes) placed)
-    → Walking n tree walk
-unfolding branchingWithin lastNode
-walking n tree walk placed last is count all walked = record {
-  atMost = omega arith;
-  places = all;
-  count = λ e. count ∙ plain e;
-  walks = λ e. walked-all n tree (walk .nodes) placed (rw (plain e) at (walked (rw (plain e) (branching-rooted n tree (split e .1)))));
-}
-  where
-    split : branchingWithin n tree ≡ true → (leb n 64 ≡ true) × (branching n tree ≡ true)
-    split e = (and-left (leb n 64) (branching n tree) e, and-right (leb n 64) (branching n tree) e)
-
-    plain : branchingWithin n tree ≡ true → last ≡ lastNode n
-    plain e = let most = leb-true n 64 (split e .0) in omega arith

@@ -1,7 +1,8 @@
 -- A tree is a list of immediate ancestors by node number: place v holds the ancestor of node v, and 0 where node v has none or is not
 -- in the tree. Place 0 is that of no node, and holds 0.
+use mathlib.Core.Path.{_≡_}
 use mathlib.Core.List.{List}
-use Prim.Native.Nat.{ℕ}
+use Prim.Native.Nat.{ℕ, _≤_, _<_}
 use lib.Dec.{eqb}
 use lib.ListN.{getD}
 use Rattle.lists.specs.Filters.{keep}
@@ -22,3 +23,9 @@ ancestor tree v = getD tree v 0
 -- of a list of nodes, those whose immediate ancestor is v
 unfoldable pub descendants : List ℕ → List ℕ → ℕ → List ℕ
 descendants tree nodes v = keep (λ u. eqb (ancestor tree u) v) nodes
+
+-- r is v if v has a place in a tree, else 0
+pub record PlaceOf (v r : ℕ) : Type 0 where
+  pub most : r ≤ 126
+  pub is : v ≤ 126 → r ≡ v
+  pub beyond : 126 < v → r ≡ 0

@@ -12,13 +12,14 @@ use matrix::rows::row;
 use matrix::rows::row_copy;
 use matrix::rows::row_start;
 ghost use mathlib.Core.Path.{_≡_};
-ghost use Prim.Native.Nat.{_+_, _*_, _-_, _≤_};
+ghost use mathlib.Core.List.{List};
+ghost use Prim.Native.Nat.{ℕ, _+_, _*_, _-_, _≤_};
 ghost use lib.ListN.{length, take};
 ghost use Rattle.lists.specs.Over.{over};
 ghost use Rattle.matrix.specs.Shape.{mostTaxa, mostCharacters, row};
 ghost use Rattle.matrix.specs.NodeRows.{withRow};
 ghost use Rattle.difference.specs.Rows.{difference, medians};
-ghost use Rattle.branching.specs.Ancestors.{ancestors};
+ghost use Rattle.branching.specs.Ancestors.{ancestors, ancestor};
 ghost use Rattle.branching.specs.Unasked.{intervalAt, mediansAt, linkedAt, hungAt, UnaskedDone};
 ghost use Rattle.branching.specs.Placing.{noPlacement};
 ghost use Rattle.branching.specs.Nearest.{NearestBelow, NearestOf, Leaves};
@@ -77,25 +78,25 @@ fn nodes_end(n: usize) -> usize
     2 * n - 1
 }
 
-// The interval difference of taxon b from the interval between c and its immediate ancestor.
-fn from_interval(matrix: &[i32], m: usize, tree: Tree, b: usize, c: usize) -> u64
+// The interval difference of taxon b from the interval between c and its immediate ancestor, the node above.
+fn from_interval(matrix: &[i32], m: usize, b: usize, c: usize, above: usize) -> u64
     requires { ⌜ m ≤ mostCharacters ⌝ }
-    ensures { λ r. ⌜ r ≡ intervalAt (now (matrix .entry)) m (ancestors tree) b c ⌝ }
+    ensures { λ r. ⌜ ((tree : List ℕ) → above ≡ ancestor tree c → r ≡ intervalAt (now (matrix .entry)) m tree b c) ⌝ }
 {
-    let above = tree.ancestor(c);
     interval_difference(row(matrix, m, b), row(matrix, m, c), row(matrix, m, above))
 }
 
-// Of the nearest interval of those gone through and that of node c, the nearer one: that of c if c is in the tree and nearer.
-fn nearer(best: Nearest, matrix: &[i32], m: usize, tree: Tree, b: usize, c: usize) -> Nearest
+// Of the nearest interval of those gone through and that of node c, the nearer one: that of c if c has an immediate ancestor, the node
+// above, and is nearer.
+fn nearer(best: Nearest, matrix: &[i32], m: usize, b: usize, c: usize, above: usize) -> Nearest
     requires { ⌜ (m ≤ mostCharacters) × (2 ≤ c) ⌝ }
-    ensures { λ r. ⌜ (NearestBelow (now (matrix .entry)) m (ancestors tree) b c best
-        → NearestBelow (now (matrix .entry)) m (ancestors tree) b (c + 1) r) ⌝ }
+    ensures { λ r. ⌜ ((tree : List ℕ) → above ≡ ancestor tree c → NearestBelow (now (matrix .entry)) m tree b c best
+        → NearestBelow (now (matrix .entry)) m tree b (c + 1) r) ⌝ }
 {
-    if !tree.in_tree(c) {
+    if above == 0 {
         return best;
     }
-    let added = from_interval(matrix, m, tree, b, c);
+    let added = from_interval(matrix, m, b, c, above);
     if best.lower == 0 {
         return Nearest { lower: c, added };
     }
@@ -110,11 +111,12 @@ fn nearest_interval(matrix: &[i32], n: usize, m: usize, tree: Tree, b: usize) ->
     requires { ⌜ (n ≤ mostTaxa) × (m ≤ mostCharacters) ⌝ }
     ensures { λ r. ⌜ NearestOf (now (matrix .entry)) n m (ancestors tree) b r ⌝ }
 {
+    let places = tree.ancestors;
     let end = nodes_end(n);
     let mut best = Nearest { lower: 0, added: 0 };
     let mut c = 2;
     while c < end {
-        best = nearer(best, matrix, m, tree, b, c);
+        best = nearer(best, matrix, m, b, c, places[c]);
         c += 1;
     }
     best

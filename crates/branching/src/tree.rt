@@ -4,7 +4,7 @@ ghost use mathlib.Core.Path.{_≡_};
 ghost use Prim.Native.Nat.{_≤_, min};
 ghost use lib.ListN.{set};
 ghost use Rattle.matrix.specs.Shape.{mostTaxa};
-ghost use Rattle.branching.specs.Ancestors.{ancestors, ancestor};
+ghost use Rattle.branching.specs.Ancestors.{ancestors, ancestor, PlaceOf};
 ghost use Rattle.branching.specs.Nodes.{inTree, taxaPlaced};
 ghost use Rattle.branching.specs.Growing.{descendantCount, descendantsWanted, climbs, rowOneAlone, grown};
 ghost use Rattle.branching.specs.Testing.{nodeRight, placeRight};
@@ -228,6 +228,16 @@ impl Tree {
         }
         self.taxa_placed(n) == n
     }
+}
+
+// Node v, or 0 for a number beyond the places of a tree.
+pub fn place_of(v: usize) -> usize
+    ensures { λ r. ⌜ PlaceOf v r ⌝ }
+{
+    if v < PLACES {
+        return v;
+    }
+    0
 }
 
 // The last of the taxa 1 to n that has a place.

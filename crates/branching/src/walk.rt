@@ -1,18 +1,32 @@
-// The walk over a branching: its nodes in an order in which each stands behind its immediate ancestor.
+// The walk over a branching: its nodes in an order in which each stands behind its immediate ancestor; and the descendants of each node.
 use crate::tree::PLACES;
 use crate::tree::Tree;
+use crate::tree::place_of;
 use matrix::MOST_TAXA;
 ghost use mathlib.Core.Path.{_≡_};
-ghost use Prim.Native.Nat.{_≤_, min};
+ghost use mathlib.Core.List.{List};
+ghost use Prim.Native.Nat.{ℕ, min};
 ghost use Rattle.matrix.specs.Shape.{lastNode};
 ghost use Rattle.branching.specs.Ancestors.{ancestors};
-ghost use Rattle.branching.specs.Walks.{Walking};
-ghost use Rattle.branching.specs.Steps.{stands, readyNode, NextNode};
+ghost use Rattle.branching.specs.Walks.{Walking, Belows, Descending};
+ghost use Rattle.branching.specs.Steps.{withDescendant, PlacesBelow, OneMore};
+
+// The descendants of a node, by rising number; 0 for none.
+pub struct Below {
+    pub first: usize,
+    pub second: usize,
+}
 
 // A walk: how many nodes it has, and the nodes in order, from node 1 down. Behind the last of them stand zeros.
 pub struct Walk {
     pub count: usize,
     pub nodes: [usize; 127],
+}
+
+// A walk, and the descendants of each node by node number.
+pub struct Descent {
+    pub walk: Walk,
+    pub below: [Below; 127],
 }
 
 // The last node of a tree of n taxa, as far as a tree has places.
@@ -28,56 +42,94 @@ fn last_node(n: usize) -> usize
     2 * n - 2
 }
 
-// Whether node v stands in the walk so far.
-fn stands(placed: [bool; 127], v: usize) -> bool
-    ensures { λ r. ⌜ r ≡ stands placed v ⌝ }
+// The descendants of a node, with one more behind them as far as there are two.
+fn with_descendant(below: Below, u: usize) -> Below
+    ensures { λ r. ⌜ r ≡ withDescendant below u ⌝ }
 {
-    if v < PLACES {
-        return placed[v];
+    if below.first == 0 {
+        return Below {
+            first: u,
+            second: below.second,
+        };
     }
-    false
+    if below.second == 0 {
+        return Below {
+            first: below.first,
+            second: u,
+        };
+    }
+    below
 }
 
-// Whether node u does not stand in the walk so far, but its immediate ancestor does.
-fn ready(tree: Tree, placed: [bool; 127], u: usize) -> bool
-    ensures { λ r. ⌜ r ≡ readyNode (ancestors tree) placed u ⌝ }
+// The descendants of each node of a tree, as far as there are two.
+fn below_of(tree: Tree, n: usize) -> [Below; 127]
+    ensures { λ r. ⌜ Belows n (ancestors tree) r ⌝ }
 {
-    if stands(placed, u) {
-        return false;
-    }
-    stands(placed, tree.ancestor(u))
-}
-
-// The node to stand next in the walk: the least of 2 to `last` that is ready, and 0 for none.
-fn next_node(tree: Tree, placed: [bool; 127], last: usize) -> usize
-    requires { ⌜ last ≤ 126 ⌝ }
-    ensures { λ r. ⌜ NextNode (ancestors tree) placed last r ⌝ }
-{
+    let places = tree.ancestors;
+    let none = Below {
+        first: 0,
+        second: 0,
+    };
+    let mut below = [none; PLACES];
+    let last = last_node(n);
     let mut u = 2;
     while u <= last {
-        if ready(tree, placed, u) {
-            return u;
-        }
+        let above = place_of(places[u]);
+        let before = below[above];
+        below[above] = with_descendant(before, u);
         u += 1;
     }
-    0
+    below
+}
+
+// How many nodes a walk has with node v behind its `count` nodes. 0 is no node, and beyond `last` nodes none is counted.
+fn one_more(last: usize, count: usize, v: usize) -> usize
+    ensures { λ r. ⌜ OneMore last count v r ⌝ }
+{
+    if v == 0 {
+        return count;
+    }
+    if count < last {
+        return count + 1;
+    }
+    count
+}
+
+// The walk from node 1 down: behind the nodes that stand in it, the descendants of its first node, of its second, and so on.
+fn walk_down(below: [Below; 127], n: usize) -> Walk
+    requires { ⌜ PlacesBelow below ⌝ }
+    ensures { λ r. ⌜ ((tree : List ℕ) → Belows n tree below → Walking n tree r) ⌝ }
+{
+    let last = last_node(n);
+    let mut nodes = [0; PLACES];
+    nodes[0] = 1;
+    let mut count = 1;
+    let mut i = 0;
+    while i < count {
+        let v = nodes[i];
+        let pair = below[v];
+        nodes[count] = pair.first;
+        count = one_more(last, count, pair.first);
+        nodes[count] = pair.second;
+        count = one_more(last, count, pair.second);
+        i += 1;
+    }
+    Walk { count, nodes }
+}
+
+// The walk over a branching of n taxa, and the descendants of each of its nodes.
+pub fn descent_over(tree: Tree, n: usize) -> Descent
+    ensures { λ r. ⌜ Descending n (ancestors tree) r ⌝ }
+{
+    let below = below_of(tree, n);
+    let walk = walk_down(below, n);
+    Descent { walk, below }
 }
 
 // The walk over a branching of n taxa.
 pub fn walk_over(tree: Tree, n: usize) -> Walk
     ensures { λ r. ⌜ Walking n (ancestors tree) r ⌝ }
 {
-    let last = last_node(n);
-    let mut nodes = [0; PLACES];
-    let mut placed = [false; PLACES];
-    nodes[0] = 1;
-    placed[1] = true;
-    let mut count = 1;
-    while count < last {
-        let v = next_node(tree, placed, last);
-        nodes[count] = v;
-        placed[v] = true;
-        count += 1;
-    }
-    Walk { count, nodes }
+    let descent = descent_over(tree, n);
+    descent.walk
 }

@@ -2,7 +2,6 @@
 pub mod Bits
 pub mod Cases
 pub mod Filling
-pub mod Descending
 pub mod Sets
 pub mod Clades
 pub mod OneCharacter

@@ -2,7 +2,6 @@
 // ranges from both.
 use crate::planning::Plan;
 use crate::planning::nodes_end;
-use crate::planning::place_of;
 use crate::planning::sister;
 use crate::spans::Span;
 use crate::spans::gap;
@@ -11,6 +10,7 @@ use crate::spans::middle;
 use crate::spans::nearest_member;
 use crate::spans::only;
 use branching::tree::PLACES;
+use branching::tree::place_of;
 use matrix::COLUMNS;
 use std::num::wrapping_add_u64;
 ghost use mathlib.Core.Path.{_≡_};
@@ -148,6 +148,7 @@ fn seen_down(codes: [i32; 127], n: usize, plan: Plan, parts: [Part; 127]) -> [Se
     ensures { λ r. ⌜ SeenDown n (ancestors (plan .tree)) codes parts r ⌝ }
 {
     let tree = plan.tree;
+    let places = tree.ancestors;
     let walk = plan.walk;
     let below = plan.below;
     let row1 = codes[1];
@@ -159,7 +160,7 @@ fn seen_down(codes: [i32; 127], n: usize, plan: Plan, parts: [Part; 127]) -> [Se
     let mut i = 1;
     while i < walk.count {
         let v = walk.nodes[i];
-        let u = place_of(tree.ancestor(v));
+        let u = place_of(places[v]);
         let w = sister(below[u], v);
         let above = seen[u];
         let part = parts[v];

@@ -5,10 +5,10 @@ use crate::characters::fit_character;
 use crate::characters::plus;
 use crate::planning::Plan;
 use crate::planning::nodes_end;
-use crate::planning::place_of;
 use crate::planning::plan_of;
 use branching::tree::PLACES;
 use branching::tree::Tree;
+use branching::tree::place_of;
 use difference::codes::apart;
 use matrix::COLUMNS;
 use matrix::ROWS;
@@ -98,10 +98,11 @@ fn add_lengths(
     requires { ⌜ n ≤ 64 ⌝ }
     ensures { λ r. ⌜ Lengthened n (ancestors tree) states branches r ⌝ }
 {
+    let places = tree.ancestors;
     let end = nodes_end(n);
     let mut v = 2;
     while v < end {
-        let u = place_of(tree.ancestor(v));
+        let u = place_of(places[v]);
         let before = branches[v];
         branches[v] = lengthened(before, states[v], states[u]);
         v += 1;

@@ -3,9 +3,12 @@
 use branching::tree::Tree;
 use difference::rows::difference;
 use matrix::rows::row;
-ghost use Prim.Native.Nat.{_+_, _≤_};
+ghost use mathlib.Core.Path.{_≡_};
+ghost use mathlib.Core.List.{List};
+ghost use Prim.Native.Nat.{ℕ, _≤_};
 ghost use Rattle.matrix.specs.Shape.{mostTaxa, mostCharacters};
-ghost use Rattle.branching.specs.Ancestors.{ancestors};
+ghost use Rattle.branching.specs.Ancestors.{ancestors, ancestor};
+ghost use Rattle.branching.specs.Nodes.{inTree};
 ghost use Rattle.wagner.specs.Order.{keyOf, Advancements, Sooner, NextTaxon};
 
 // A place for the key of each taxon, by row; place 0 is that of no taxon.
@@ -25,19 +28,30 @@ pub(crate) fn advancements(matrix: &[i32], n: usize, m: usize) -> [u64; 65]
     keys
 }
 
-// Of the taxon to place next among those gone through (0: none yet) and taxon v, the one to place next: v if it is not placed and its key
-// is less.
-fn sooner(best: usize, keys: [u64; 65], tree: Tree, v: usize) -> usize
-    requires { ⌜ (best ≤ mostTaxa) × (1 ≤ v) × (v ≤ mostTaxa) ⌝ }
-    ensures { λ r. ⌜ Sooner (keyOf keys) (ancestors tree) best v r ⌝ }
+// Whether taxon v is placed, by its immediate ancestor, the node above: it is row 1, or it has one.
+fn is_placed(v: usize, above: usize) -> bool
+    ensures { λ r. ⌜ ((tree : List ℕ) → above ≡ ancestor tree v → r ≡ inTree tree v) ⌝ }
 {
-    if tree.in_tree(v) {
+    if v == 1 {
+        return true;
+    }
+    1 <= above
+}
+
+// Of the taxon to place next among those gone through (0: none yet) and taxon v, the one to place next: v if it is not placed and its own
+// key is less than the least so far.
+fn sooner(best: usize, v: usize, placed: bool, own: u64, least: u64) -> usize
+    requires { ⌜ (best ≤ mostTaxa) × (1 ≤ v) × (v ≤ mostTaxa) ⌝ }
+    ensures { λ r. ⌜ ((key : ℕ → ℕ) (tree : List ℕ) → placed ≡ inTree tree v → own ≡ key v → least ≡ key best
+        → Sooner key tree best v r) ⌝ }
+{
+    if placed {
         return best;
     }
     if best == 0 {
         return v;
     }
-    if keys[v] < keys[best] {
+    if own < least {
         return v;
     }
     best
@@ -48,10 +62,12 @@ pub(crate) fn next_taxon(tree: Tree, keys: [u64; 65], n: usize) -> usize
     requires { ⌜ n ≤ mostTaxa ⌝ }
     ensures { λ r. ⌜ NextTaxon (keyOf keys) n (ancestors tree) r ⌝ }
 {
+    let places = tree.ancestors;
     let mut best = 0;
     let mut v = 1;
     while v <= n {
-        best = sooner(best, keys, tree, v);
+        let placed = is_placed(v, places[v]);
+        best = sooner(best, v, placed, keys[v], keys[best]);
         v += 1;
     }
     best

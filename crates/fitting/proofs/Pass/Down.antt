@@ -12,17 +12,17 @@ use lib.ListN.{length, getD, set}
 use lib.Seq.{getD-set-same, getD-set-other}
 use borrow.Author.Tests.{le-leb, lt-leb, eq-eqb, ne-eqb}
 use Rattle.matrix.specs.Shape.{lastNode}
-use Rattle.branching.specs.Ancestors.{ancestor}
+use Rattle.branching.specs.Ancestors.{ancestor, PlaceOf}
 use Rattle.branching.specs.Facts.{Grown}
 use Rattle.branching.specs.Within.{branchingWithin}
-use Rattle.branching.specs.Walks.{WalkOf, nodeAt}
+use Rattle.branching.specs.Walks.{WalkOf, nodeAt, Belows, belowAt}
 use Rattle.fitting.specs.Sets.{only, join, nearestMember}
 use Rattle.fitting.specs.Assignments.{character}
 use Rattle.fitting.specs.Fit.{chosenState}
-use Rattle.fitting.specs.Plans.{Belows, belowAt, sisterIn, PlaceOf}
+use Rattle.fitting.specs.Plans.{sisterIn}
 use Rattle.fitting.specs.Steps.{Codes, PartsAre, partAt, setOf, outsideOf, stateOf, outsideFrom, seenAt, SeenIs}
 use Rattle.fitting.specs.declared.spans.Span.{Span}
-use Rattle.fitting.specs.declared.planning.Below.{Below}
+use Rattle.branching.specs.declared.walk.Below.{Below}
 use Rattle.fitting.specs.declared.characters.Part.{Part}
 use Rattle.fitting.specs.declared.characters.Seen.{Seen}
 use Rattle.fitting.proofs.Cases.{either}

@@ -13,10 +13,10 @@ use Rattle.branching.specs.Within.{branchingWithin}
 use Rattle.fitting.specs.Sets.{only, middle}
 use Rattle.fitting.specs.Assignments.{character}
 use Rattle.fitting.specs.Fit.{chosenState, range, statesIn}
-use Rattle.fitting.specs.Plans.{Belows, belowAt}
+use Rattle.branching.specs.Walks.{Belows, belowAt}
 use Rattle.fitting.specs.Steps.{Codes, PartsAre, partAt, setOf, SeenIs, statesFrom}
 use Rattle.fitting.specs.declared.spans.Span.{Span}
-use Rattle.fitting.specs.declared.planning.Below.{Below}
+use Rattle.branching.specs.declared.walk.Below.{Below}
 use Rattle.fitting.specs.declared.characters.Part.{Part}
 use Rattle.fitting.specs.declared.characters.Seen.{Seen}
 use Rattle.fitting.proofs.Cases.{either}

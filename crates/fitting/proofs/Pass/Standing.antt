@@ -17,19 +17,19 @@ use Rattle.branching.specs.Nodes.{otherNodes}
 use Rattle.branching.specs.Growing.{branching}
 use Rattle.branching.specs.Facts.{Grown}
 use Rattle.branching.specs.Within.{branchingWithin}
-use Rattle.branching.specs.Walks.{WalkOf, nodeAt}
+use Rattle.branching.specs.Walks.{WalkOf, nodeAt, Belows, belowAt, firstTwo}
 use Rattle.lists.proofs.Numbers.{numbers-within}
 use Rattle.branching.proofs.Descendants.{mem-descendants}
 use Rattle.branching.proofs.Test.{branching-iff}
 use Rattle.branching.proofs.Whole.{branching-grown}
 use Rattle.branching.proofs.Walks.{walk-later}
-use Rattle.fitting.specs.Plans.{Planned, Belows, belowAt, firstTwo, sisterIn}
+use Rattle.fitting.specs.Plans.{Planned, sisterIn}
 use Rattle.fitting.specs.Sets.{only}
 use Rattle.fitting.specs.Clades.{cladesBelow}
 use Rattle.fitting.specs.Character.{valueAt}
 use Rattle.fitting.specs.Assignments.{character}
 use Rattle.fitting.specs.Fit.{chosenState, range}
-use Rattle.fitting.specs.declared.planning.Below.{Below}
+use Rattle.branching.specs.declared.walk.Below.{Below}
 use Rattle.fitting.specs.declared.planning.Plan.{Plan}
 use Rattle.fitting.proofs.Clades.Sides.{Side, left, right, on, other}
 use Rattle.fitting.proofs.Clades.Built.{Htu, htu-descends}
@@ -116,6 +116,15 @@ sister-on right a b = go (eqb a b) refl
     go : (t : Bool) → eqb a b ≡ t → cond t b a ≡ a
     go true e = sym (eqb-true a b e)
     go false e = refl
+
+-- the other one of two descendants with a place in a tree has one
+pub sister-within : (below : Below) (v : ℕ) → (below .first ≤ 126) × (below .second ≤ 126) → sisterIn below v ≤ 126
+unfolding sisterIn
+sister-within below v w = go (eqb (below .first) v)
+  where
+    go : (t : Bool) → cond t (below .second) (below .first) ≤ 126
+    go true = w .1
+    go false = w .0
 
 -- the one descendant of row 1 is a node below row 1
 pub root-within : (n : ℕ) (tree : List ℕ) (grown : Grown n n tree) → (2 ≤ cladeOf n tree grown .root) ×

@@ -14,13 +14,12 @@ use borrow.Author.Tests.{le-leb, lt-leb}
 use Rattle.matrix.specs.Shape.{lastNode}
 use Rattle.branching.specs.Facts.{Grown}
 use Rattle.branching.specs.Within.{branchingWithin}
-use Rattle.branching.specs.Walks.{WalkOf, nodeAt}
+use Rattle.branching.specs.Walks.{WalkOf, nodeAt, Belows, belowAt}
 use Rattle.fitting.specs.Sets.{only, join, gap}
 use Rattle.fitting.specs.Assignments.{character}
-use Rattle.fitting.specs.Plans.{Belows, belowAt}
 use Rattle.fitting.specs.Steps.{Codes, PartOf, tipPart, partAt, partFor, PartsAre, setOf, costOf}
 use Rattle.fitting.specs.declared.spans.Span.{Span}
-use Rattle.fitting.specs.declared.planning.Below.{Below}
+use Rattle.branching.specs.declared.walk.Below.{Below}
 use Rattle.fitting.specs.declared.characters.Part.{Part}
 use Rattle.fitting.proofs.Cases.{either}
 use Rattle.fitting.proofs.Clades.Sides.{Side, left, right, on}

@@ -4,9 +4,6 @@ use borrow.Author.Needs.{needs}
 use Rattle.branching.proofs.placement.from_interval.Statement.{statement}
 use Rattle.branching.proofs.placement.from_interval.Tie as tie
 
-ancestor-requires : tie.Need-ancestor-requires
-ancestor-requires c κs = search needs
-
 row-requires : tie.Need-row-requires
 row-requires c κs = search needs
 
@@ -20,9 +17,9 @@ interval-difference-requires : tie.Need-interval-difference-requires
 interval-difference-requires c κs = search needs
 
 returns : tie.Need-returns
-returns c =
-    let start = c .before .before .before .before .before in
-    interval-rows _ _ _ _ _ _ _ _ _ _ (start .pre) (c .before .before .before .before .ancestor .ensures)
+returns c tree above =
+    let start = c .before .before .before .before in
+    interval-rows _ _ _ _ _ _ tree _ _ _ (start .pre) above
     (c .before .before .before .row .ensures)
     (c .before .before .row2 .ensures) (c .before .row3 .ensures) (c .interval-difference .ensures)
 
@@ -30,7 +27,6 @@ pub from-interval-spec : {M : Type 1} → statement M
 from-interval-spec =
     tie.close
     (tie.spec
-    ancestor-requires
     row-requires
     row-requires-2
     row-requires-3

@@ -1,43 +1,43 @@
 -- `branching::placement::nearer` meets its contract. Assumes nothing.
-use borrow.Author.Tests.{not-true, not-false}
-use Rattle.branching.proofs.Searching.{nearer-out, nearer-moves, nearer-first, nearer-stays}
+use Rattle.branching.proofs.Nodes.{false-inTree}
+use Rattle.branching.proofs.Searching.{has-above, nearer-out, nearer-moves, nearer-first, nearer-stays}
 use mathlib.Core.Path.{sym, _∙_}
 use borrow.Author.Needs.{needs}
 use Rattle.branching.proofs.placement.nearer.Statement.{statement}
 use Rattle.branching.proofs.placement.nearer.Tie as tie
 
-in-tree-requires : tie.Need-in-tree-requires
-in-tree-requires c κs = search needs
-
 returns : tie.Need-returns
-returns c =
-    λ below. nearer-out _ _ _ _ _ (c .before .before .pre .1) _ below (sym (c .before .in-tree .ensures) ∙ not-true _ (c .if1 .taken))
+returns c tree above below =
+    let low = c .before .pre .1 in
+    let none = c .if1 .taken in
+    nearer-out _ _ tree _ _ low _ below (false-inTree tree _ low (sym above ∙ none))
 
 from-interval-requires : tie.Need-from-interval-requires
 from-interval-requires c κs = search needs
 
 returns-2 : tie.Need-returns-2
-returns-2 c =
+returns-2 c tree above below =
     let asked = c .before .before .before in
-    let inside = sym (asked .before .in-tree .ensures) ∙ not-false _ (asked .if1 .left) in
-    λ below. nearer-first _ _ _ _ _ (asked .before .before .pre .1) _ below inside _ (c .before .before .from-interval .ensures)
+    let some = asked .if1 .left in
+    let inside = has-above tree _ _ above (λ e. some e) in
+    nearer-first _ _ tree _ _ (asked .before .pre .1) _ below inside _ (c .before .before .from-interval .ensures tree above)
     (c .if2 .taken)
 
 returns-3 : tie.Need-returns-3
-returns-3 c =
+returns-3 c tree above below =
     let asked = c .before .before .before .before .before in
-    let inside = sym (asked .before .in-tree .ensures) ∙ not-false _ (asked .if1 .left) in
-    λ below. nearer-moves _ _ _ _ _ (asked .before .before .pre .1) _ below inside _
-    (c .before .before .before .before .from-interval .ensures) (c .before .before .if2 .left) (c .if3 .taken)
+    let some = asked .if1 .left in
+    let inside = has-above tree _ _ above (λ e. some e) in
+    nearer-moves _ _ tree _ _ (asked .before .pre .1) _ below inside _
+    (c .before .before .before .before .from-interval .ensures tree above) (c .before .before .if2 .left) (c .if3 .taken)
 
 returns-4 : tie.Need-returns-4
-returns-4 c =
+returns-4 c tree above below =
     let asked = c .before .before .before .before .before in
-    let inside = sym (asked .before .in-tree .ensures) ∙ not-false _ (asked .if1 .left) in
-    λ below. nearer-stays _ _ _ _ _ (asked .before .before .pre .1) _ below inside _
-    (c .before .before .before .before .from-interval .ensures) (c .before .before .if2 .left) (c .if3 .left)
+    let some = asked .if1 .left in
+    let inside = has-above tree _ _ above (λ e. some e) in
+    nearer-stays _ _ tree _ _ (asked .before .pre .1) _ below inside _
+    (c .before .before .before .before .from-interval .ensures tree above) (c .before .before .if2 .left) (c .if3 .left)
 
 pub nearer-spec : {M : Type 1} → statement M
-nearer-spec =
-    tie.close
-    (tie.spec in-tree-requires returns from-interval-requires returns-2 returns-3 returns-4)
+nearer-spec = tie.close (tie.spec returns from-interval-requires returns-2 returns-3 returns-4)

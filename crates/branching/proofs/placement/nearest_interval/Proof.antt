@@ -1,29 +1,35 @@
 -- `branching::placement::nearest_interval` meets its contract. Assumes nothing.
-use Rattle.branching.specs.Ancestors.{ancestors}
+use Rattle.branching.specs.Ancestors.{ancestor}
 use Rattle.branching.specs.Nearest.{NearestBelow}
 use Rattle.branching.proofs.Searching.{nearest-end, nearest-start}
 use native.Mathlib.Omega.{arith}
 use Prim.Native.Nat.{_-_, _≤_, _+_, _*_}
-use mathlib.Core.Path.{_≡_, _∙_}
+use mathlib.Core.Path.{_≡_, refl, _∙_}
 use borrow.Author.Needs.{needs}
 use Rattle.branching.proofs.placement.nearest_interval.Statement.{statement}
 use Rattle.branching.proofs.placement.nearest_interval.Tie as tie
 
 abbrev Inv-loop : tie.InvT-loop
-Inv-loop matrix n m tree b end best₀ c₀ best c =
-    (2 ≤ c) × (c ≤ end) × (end ≡ 2 + (2 * n - 3)) × (m ≤ 128) × (end ≤ 127) × NearestBelow matrix m (ancestors tree) b c best
+Inv-loop matrix n m b places end best₀ c₀ best c =
+    (2 ≤ c) × (c ≤ end) × (end ≡ 2 + (2 * n - 3)) × (m ≤ 128) × (end ≤ 127) × NearestBelow matrix m places b c best
 
 abbrev μ-loop : tie.MeasureT-loop
-μ-loop matrix n m tree b end best₀ c₀ best c = end - c
+μ-loop matrix n m b places end best₀ c₀ best c = end - c
 
 nodes-end-requires : tie.Need-nodes-end-requires Inv-loop μ-loop
 nodes-end-requires c κs = search needs
 
 loop-holds : tie.Need-loop-holds Inv-loop μ-loop
 loop-holds c =
-    let pre = c .before .pre in
+    let pre = c .before .before .pre in
     let end = c .nodes-end .ensures in
     (omega arith, omega arith, end, pre .1, omega arith, nearest-start _ _ _ _)
+
+mul-nearer : tie.Need-mul-nearer Inv-loop μ-loop
+mul-nearer c = search needs
+
+array-read-nearer : tie.Need-array-read-nearer Inv-loop μ-loop
+array-read-nearer c = search needs
 
 nearer-requires : tie.Need-nearer-requires Inv-loop μ-loop
 nearer-requires c κs = search needs
@@ -35,9 +41,10 @@ loop-less : tie.Need-loop-less Inv-loop μ-loop
 loop-less c = search needs
 
 loop-again : tie.Need-loop-again Inv-loop μ-loop
+unfolding ancestor
 loop-again c =
     let inv = c .before .before .loop .inv in
-    (omega arith, omega arith, inv .2, inv .3, inv .4, c .nearer .ensures (inv .5))
+    (omega arith, omega arith, inv .2, inv .3, inv .4, c .nearer .ensures _ refl (inv .5))
 
 returns : tie.Need-returns Inv-loop μ-loop
 returns c =
@@ -53,6 +60,8 @@ nearest-interval-spec =
     μ-loop
     nodes-end-requires
     loop-holds
+    mul-nearer
+    array-read-nearer
     nearer-requires
     add-c
     loop-less

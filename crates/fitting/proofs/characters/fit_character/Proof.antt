@@ -11,7 +11,7 @@ use mir.Syntax.{w32}
 use mir.Val.{toZ, ofZ}
 use mir.Facts.{toZ-ofZ}
 use Rattle.matrix.specs.Shape.{lastNode}
-use Rattle.fitting.specs.Plans.{belowAt}
+use Rattle.branching.specs.Walks.{belowAt}
 use Rattle.fitting.specs.Steps.{partAt, seenAt, statesAt, statesFrom}
 use Rattle.fitting.proofs.Filling.{filled-next}
 use Rattle.fitting.proofs.Pass.Found.{states-found}

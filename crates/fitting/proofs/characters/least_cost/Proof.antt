@@ -11,9 +11,9 @@ use Rattle.lists.specs.Sums.{sumOver}
 use Rattle.branching.specs.Nodes.{otherNodes}
 use Rattle.fitting.specs.Sets.{only, gap}
 use Rattle.fitting.specs.Assignments.{character}
-use Rattle.fitting.specs.Plans.{Belows, belowAt}
+use Rattle.branching.specs.Walks.{Belows, belowAt}
 use Rattle.fitting.specs.Steps.{PartsUp, partAt, GapOf, PlusOf, LeastCost, setOf, costOf, characterLength}
-use Rattle.fitting.specs.declared.planning.Below.{Below}
+use Rattle.branching.specs.declared.walk.Below.{Below}
 use Rattle.fitting.specs.declared.characters.Part.{Part}
 use Rattle.fitting.proofs.Clades.Hanging.{cladeOf}
 use Rattle.fitting.proofs.Matrix.LeastCost.{character-cost, cost-most, gap-row1}

@@ -11,10 +11,9 @@ use mir.Syntax.{w32}
 use mir.Val.{toZ, ofZ}
 use mir.Facts.{toZ-ofZ}
 use Rattle.matrix.specs.Shape.{lastNode}
-use Rattle.branching.specs.Walks.{WalkOf, nodeAt}
+use Rattle.branching.specs.Walks.{WalkOf, nodeAt, Belows, belowAt}
 use Rattle.branching.specs.Within.{branchingWithin}
 use Rattle.fitting.specs.Assignments.{character}
-use Rattle.fitting.specs.Plans.{Belows, belowAt}
 use Rattle.fitting.specs.Steps.{Codes}
 use Rattle.fitting.proofs.Pass.Up.{UpFrom, up-next, up-all}
 use Rattle.fitting.proofs.characters.parts_up.Statement.{statement}

@@ -12,18 +12,18 @@ use Rattle.fitting.proofs.whole.add_lengths.Statement.{statement}
 use Rattle.fitting.proofs.whole.add_lengths.Tie as tie
 
 abbrev Inv-loop : tie.InvT-loop
-Inv-loop tree n branches₀ states end v₀ branches v =
+Inv-loop n branches₀ states places end v₀ branches v =
     (2 ≤ v)
     × (v ≤ end)
     × (end ≤ 127)
     × (length branches ≡ 127)
     × FilledTo
-    (λ u b. ancestor (ancestors tree) u ≤ 126 → Longer (statesAt states u) (statesAt states (ancestor (ancestors tree) u))
+    (λ u b. ancestor places u ≤ 126 → Longer (statesAt states u) (statesAt states (ancestor places u))
     (branchAt branches₀ u) b)
     (λ u b. b ≡ branchAt branches₀ u) noBranch 2 v branches
 
 abbrev μ-loop : tie.MeasureT-loop
-μ-loop tree n branches₀ states end v₀ branches v = end - v
+μ-loop n branches₀ states places end v₀ branches v = end - v
 
 nodes-end-requires : tie.Need-nodes-end-requires Inv-loop μ-loop
 nodes-end-requires c κs = search needs
@@ -33,8 +33,11 @@ loop-holds c =
     let end = c .nodes-end .ensures in
     (omega arith, omega arith, omega arith, search needs, record { inside = λ u l h. absurd (omega arith); outside = λ u out. refl })
 
-ancestor-requires : tie.Need-ancestor-requires Inv-loop μ-loop
-ancestor-requires c κs = search needs
+mul-place-of : tie.Need-mul-place-of Inv-loop μ-loop
+mul-place-of c = search needs
+
+array-read-place-of : tie.Need-array-read-place-of Inv-loop μ-loop
+array-read-place-of c = search needs
 
 place-of-requires : tie.Need-place-of-requires Inv-loop μ-loop
 place-of-requires c κs = search needs
@@ -73,14 +76,14 @@ loop-less : tie.Need-loop-less Inv-loop μ-loop
 loop-less c = search needs
 
 loop-again : tie.Need-loop-again Inv-loop μ-loop
+unfolding ancestor
 loop-again c =
-    let loop = c .before .before .before .before .before .before .before .loop in
+    let loop = c .before .before .before .before .before .before .loop in
     let inv = loop .inv in
     let start = c .before .before .before .before .before .before .before .before .before in
     let tree = ancestors (start .args .tree) in
     let states = start .args .t4 in
-    let place = rw (c .before .before .before .before .before .ancestor .ensures) at
-    (c .before .before .before .before .place-of .ensures) in
+    let place = c .before .before .before .before .place-of .ensures in
     let above = statesAt states (c .before .before .before .before .place-of .result) in
     let more : Longer (statesAt states (loop .v)) above (branchAt (loop .branches) (loop .v))
     (c .lengthened .result) = c .lengthened .ensures in
@@ -112,7 +115,8 @@ add-lengths-spec =
     μ-loop
     nodes-end-requires
     loop-holds
-    ancestor-requires
+    mul-place-of
+    array-read-place-of
     place-of-requires
     mul-before
     array-copy-out-before

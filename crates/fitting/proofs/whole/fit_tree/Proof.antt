@@ -24,7 +24,7 @@ shaped : (c : tie.Else1) → Shaped (length (c .before .before .args .matrix .no
 shaped c = shapes-true _ _ _ _ _ _ (sym (c .before .fit-shapes .ensures) ∙ not-false _ (c .if1 .left))
 
 plan-of-requires : tie.Need-plan-of-requires
-plan-of-requires c κs = shaped c .taxa
+plan-of-requires c κs = search needs
 
 fit-columns-requires : tie.Need-fit-columns-requires
 fit-columns-requires c κs =

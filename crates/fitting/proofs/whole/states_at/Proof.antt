@@ -44,7 +44,7 @@ shaped : (c : tie.Else1) → Shaped (length (c .before .before .args .matrix .no
 shaped c = shapes-true _ _ _ _ _ _ (sym (c .before .fit-shapes .ensures) ∙ not-false _ (c .if1 .left))
 
 plan-of-requires : tie.Need-plan-of-requires
-plan-of-requires c κs = shaped (c .before .before .before) .taxa
+plan-of-requires c κs = search needs
 
 codes-of-requires : tie.Need-codes-of-requires
 codes-of-requires c κs =

@@ -1,8 +1,8 @@
--- `fitting::planning::with_descendant` meets its contract: its tests are the definition's. Assumes nothing.
+-- `branching::walk::with_descendant` meets its contract: its tests are the definition's. Assumes nothing.
 use borrow.Author.Tests.{eq-eqb, ne-eqb}
-use Rattle.fitting.specs.Plans.{withDescendant}
-use Rattle.fitting.proofs.planning.with_descendant.Statement.{statement}
-use Rattle.fitting.proofs.planning.with_descendant.Tie as tie
+use Rattle.branching.specs.Steps.{withDescendant}
+use Rattle.branching.proofs.walk.with_descendant.Statement.{statement}
+use Rattle.branching.proofs.walk.with_descendant.Tie as tie
 
 returns : tie.Need-returns
 unfolding withDescendant

@@ -3,7 +3,7 @@ use mathlib.Core.Path.{_≡_, refl, sym, _∙_, ap}
 use mathlib.Core.Logic.{_≢_, by-cases}
 use mathlib.Core.List.{List, [], _∷_, _++_, append-nil, List·Memᴰ, List·Memᴰ·head, List·Memᴰ·tail}
 use mathlib.Core.Bool.{Bool, true, false, cond}
-use Prim.Native.Nat.{ℕ, suc, _+_, _-_, _≤_, _<_}
+use Prim.Native.Nat.{ℕ, suc, _+_, _*_, _-_, _≤_, _<_, min}
 use native.Mathlib.Omega.{arith}
 use native.Mathlib.Decide.{ℕ-discrete, decLe}
 use lib.Dec.{eqb}
@@ -13,23 +13,21 @@ use borrow.Author.Tests.{eq-eqb, ne-eqb}
 use Rattle.lists.specs.Filters.{keep}
 use Rattle.lists.specs.Numbers.{numbers}
 use Rattle.lists.proofs.Filled.{getD-replicate}
-use Rattle.lists.proofs.Numbers.{numbers-within, numbers-snoc}
-use Rattle.branching.specs.Ancestors.{ancestor, descendants}
+use Rattle.lists.proofs.Numbers.{numbers-within, numbers-append, numbers-snoc}
+use Rattle.matrix.specs.Shape.{lastNode}
+use Rattle.branching.specs.Ancestors.{ancestor, descendants, PlaceOf}
+use Rattle.branching.specs.Nodes.{otherNodes}
+use Rattle.branching.proofs.Nodes.{ancestor-place}
+use Rattle.branching.proofs.Places.{keep-append}
 use Rattle.branching.proofs.Descendants.{mem-descendants}
-use Rattle.fitting.specs.Plans.{firstTwo, belowAt, withDescendant, sisterIn, PlaceOf}
-use Rattle.fitting.specs.declared.planning.Below.{Below}
+use Rattle.branching.specs.Walks.{firstTwo, belowAt}
+use Rattle.branching.specs.Steps.{withDescendant, PlacesBelow}
+use Rattle.branching.specs.declared.walk.Below.{Below}
 
 -- the elements kept of a list with one more behind it
 keep-snoc : (test : ℕ → Bool) (us : List ℕ) (u : ℕ) → keep test (us ++ (u ∷ [])) ≡ keep test us ++ cond (test u) (u ∷ []) []
 unfolding keep
-keep-snoc test [] u = refl
-keep-snoc test (x ∷ us) u = go (test x) (keep-snoc test us u)
-  where
-    go : (t : Bool) → keep test (us ++ (u ∷ [])) ≡ keep test us ++ cond (test u) (u ∷ []) []
-        → cond t (x ∷ keep test (us ++ (u ∷ []))) (keep test (us ++ (u ∷ []))) ≡ cond t (x ∷ keep test us) (keep test us) ++ cond (test u)
-        (u ∷ []) []
-    go true h = ap (λ (rest : List ℕ). x ∷ rest) h
-    go false h = h
+keep-snoc test us u = keep-append test us (u ∷ [])
 
 module _ (tree us : List ℕ) (u : ℕ) where
   -- a node that has v as its ancestor is one more of v's descendants
@@ -45,6 +43,16 @@ module _ (tree us : List ℕ) (u : ℕ) where
   descendants-same v ne = keep-snoc (λ w. eqb (ancestor tree w) v) us u
       ∙ ap (λ (t : Bool). keep (λ w. eqb (ancestor tree w) v) us ++ cond t (u ∷ []) []) (ne-eqb (ancestor tree u) v ne)
       ∙ append-nil (keep (λ w. eqb (ancestor tree w) v) us)
+
+-- the descendants among two lists of nodes, one after the other
+descendants-append : (tree us vs : List ℕ) (v : ℕ) → descendants tree (us ++ vs) v ≡ descendants tree us v ++ descendants tree vs v
+unfolding descendants
+descendants-append tree us vs v = keep-append (λ w. eqb (ancestor tree w) v) us vs
+
+-- a list without members is empty
+no-members : (us : List ℕ) → ((u : ℕ) → List·Memᴰ u us → ⊥) → us ≡ []
+no-members [] none = refl
+no-members (u ∷ us) none = absurd (none u (List·Memᴰ·head refl))
 
 -- one descendant more behind those of a list, none of which is 0
 first-two-more : (us : List ℕ) (u : ℕ) → ((w : ℕ) → List·Memᴰ w us → 1 ≤ w) → withDescendant (firstTwo us) u ≡ firstTwo (us ++ (u ∷ []))
@@ -81,8 +89,7 @@ unfolding numbers descendants keep firstTwo
 below-start tree v l h = getD-replicate (record { first = 0; second = 0 }) 127 v
 
 -- and each of these is 0
-pub none-within : (v : ℕ) → (belowAt (replicate 127 (record { first = 0; second = 0 })) v .first ≤ 126)
-    × (belowAt (replicate 127 (record { first = 0; second = 0 })) v .second ≤ 126)
+pub none-within : PlacesBelow (replicate 127 (record { first = 0; second = 0 }))
 none-within v = rw (getD-replicate {A = Below} (record { first = 0; second = 0 }) 127 v) (omega arith, omega arith)
 
 -- the descendants kept when node u has been gone through besides
@@ -129,9 +136,7 @@ module _ (tree : List ℕ) (below : List Below) (u above : ℕ) (size : length b
           (getD-set-other below above v (withDescendant (belowAt below above) u) (record { first = 0; second = 0 }) elsewhere ∙ inv v l h)
 
   -- each with a place in a tree
-  pub all-within : above ≤ 126 → u ≤ 126 → ((v : ℕ) → (belowAt below v .first ≤ 126) × (belowAt below v .second ≤ 126))
-      → (v : ℕ) → (belowAt (set below above (withDescendant (belowAt below above) u)) v .first ≤ 126)
-      × (belowAt (set below above (withDescendant (belowAt below above) u)) v .second ≤ 126)
+  pub all-within : above ≤ 126 → u ≤ 126 → PlacesBelow below → PlacesBelow (set below above (withDescendant (belowAt below above) u))
   all-within room high inv v =
       let inside : above < length below = omega arith in
       by-cases (ℕ-discrete v above)
@@ -139,11 +144,28 @@ module _ (tree : List ℕ) (below : List Below) (u above : ℕ) (size : length b
       (within-more (belowAt below above) u high (inv above)))
       (λ ne. rw (getD-set-other below above v (withDescendant (belowAt below above) u) (record { first = 0; second = 0 }) ne) (inv v))
 
--- the other one of two descendants with a place in a tree has one
-pub sister-within : (below : Below) (v : ℕ) → (below .first ≤ 126) × (below .second ≤ 126) → sisterIn below v ≤ 126
-unfolding sisterIn
-sister-within below v w = go (eqb (below .first) v)
+-- no node beyond the places has an ancestor, so that the nodes up to the last that has a place give all descendants
+pub descendants-places : (n last : ℕ) (tree : List ℕ) → length tree ≡ 127 → last ≡ min (lastNode n) 126 → (v : ℕ) → 1 ≤ v
+    → descendants tree (otherNodes n) v ≡ descendants tree (numbers 2 (last - 1)) v
+unfolding otherNodes lastNode
+descendants-places n last tree size is v some =
+    by-cases (decLe (2 * n - 2) 126) (λ h. let all : 2 * n - 3 ≡ last - 1 = omega arith in rw all) beyond
   where
-    go : (t : Bool) → cond t (below .second) (below .first) ≤ 126
-    go true = w .1
-    go false = w .0
+    none : (u : ℕ) → List·Memᴰ u (descendants tree (numbers (2 + 125) (2 * n - 3 - 125)) v) → ⊥
+    none u m =
+        let d = mem-descendants tree (numbers (2 + 125) (2 * n - 3 - 125)) v u .0 m in
+        let far = numbers-within (2 + 125) (2 * n - 3 - 125) u (d .0) in
+        let up = d .1 in
+        omega (arith, ancestor-place tree u (omega arith))
+
+    beyond : ¬ (2 * n - 2 ≤ 126) → descendants tree (numbers 2 (2 * n - 3)) v ≡ descendants tree (numbers 2 (last - 1)) v
+    beyond h =
+        let all : 2 * n - 3 ≡ 125 + (2 * n - 3 - 125) = omega arith in
+        let near : last - 1 ≡ 125 = omega arith in
+        ap (λ (k : ℕ). descendants tree (numbers 2 k) v) all
+        ∙ ap (λ (us : List ℕ). descendants tree us v) (numbers-append 2 125 (2 * n - 3 - 125))
+        ∙ descendants-append tree (numbers 2 125) (numbers (2 + 125) (2 * n - 3 - 125)) v
+        ∙ ap (λ (us : List ℕ). descendants tree (numbers 2 125) v ++ us)
+        (no-members (descendants tree (numbers (2 + 125) (2 * n - 3 - 125)) v) none)
+        ∙ append-nil (descendants tree (numbers 2 125) v)
+        ∙ ap (λ (k : ℕ). descendants tree (numbers 2 k) v) (sym near)
