@@ -40,7 +40,8 @@ interval-rows codes m b c e r tree xs ys zs narrow above ex ey ez is =
 
 -- a node with an immediate ancestor is in the tree
 pub has-above : (tree : List ℕ) (c above : ℕ) → above ≡ ancestor tree c → above ≢ 0 → inTree tree c ≡ true
-has-above tree c above is some = inTree-iff tree c .1 (inr (by-cases (decLe 1 (ancestor tree c)) (λ h. h) (λ h. absurd (some (omega arith)))))
+has-above tree c above is some =
+    inTree-iff tree c .1 (inr (by-cases (decLe 1 (ancestor tree c)) (λ h. h) (λ h. absurd (some (omega arith)))))
 
 -- before the first node no interval is found
 pub nearest-start : (codes : List ℤ) (m : ℕ) (tree : List ℕ) (b : ℕ) → NearestBelow codes m tree b 2 (record { lower = 0; added = 0 })

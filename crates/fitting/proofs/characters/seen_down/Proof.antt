@@ -62,7 +62,8 @@ element-copy-out-v c = search needs
 
 -- the node at the place of the walk that is gone to, in a turn of the loop
 abbrev node : tie.After-v Inv-loop μ-loop → ℕ
-node c = getD (c .before .before .before .before .before .before .before .before .before .args .plan .walk .nodes) (c .before .before .loop .i) 0
+node c =
+    getD (c .before .before .before .before .before .before .before .before .before .args .plan .walk .nodes) (c .before .before .loop .i) 0
 
 -- it has a place in a tree
 node-most : (c : tie.After-v Inv-loop μ-loop) → node c ≤ 126
