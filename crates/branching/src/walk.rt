@@ -125,11 +125,3 @@ pub fn descent_over(tree: Tree, n: usize) -> Descent
     let walk = walk_down(below, n);
     Descent { walk, below }
 }
-
-// The walk over a branching of n taxa.
-pub fn walk_over(tree: Tree, n: usize) -> Walk
-    ensures { λ r. ⌜ Walking n (ancestors tree) r ⌝ }
-{
-    let descent = descent_over(tree, n);
-    descent.walk
-}
