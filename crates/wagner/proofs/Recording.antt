@@ -23,7 +23,7 @@ use Rattle.branching.specs.Nodes.{otherNodes}
 use Rattle.branching.specs.Growing.{branching}
 use Rattle.branching.specs.Asking.{branchesSize, htusOf, askRecords}
 use Rattle.branching.specs.Branches.{branchOf, branchRecords, withRecords}
-use Rattle.wagner.specs.declared.written.Listed.{Listed}
+use Rattle.wagner.specs.declared.written.BranchList.{BranchList}
 use Rattle.wagner.specs.Records.{lengthIn}
 use Rattle.wagner.specs.Written.{codeDifference, recordsSay, noBranch, noRecords, Recorded, RecordsWritten}
 use Rattle.wagner.proofs.Lengths.{records-agree, lengthIn-plain}
@@ -98,7 +98,7 @@ module _ (codes : List ℤ) (n m : ℕ) (tree : List ℕ) (room : ℕ) where
           ∙ records-first (codeDifference codes m) n tree noRecords (omega (arith, length-replicate 125 noBranch, asked .lent .taxa))
 
 -- what was listed, written over the first records of the lent list
-pub writes : (codes : List ℤ) (n m : ℕ) (tree : List ℕ) (old : List Branch) (r : Listed) → Recorded codes n m tree (length old) r
+pub writes : (codes : List ℤ) (n m : ℕ) (tree : List ℕ) (old : List Branch) (r : BranchList) → Recorded codes n m tree (length old) r
     → RecordsWritten codes n m tree old (over 0 (take (r .count) (r .records)) old) (r .asked)
 writes codes n m tree old r listed = record {
   says = listed .says;

@@ -11,7 +11,7 @@ use Rattle.difference.specs.Rows.{difference, nodeDifference}
 use Rattle.branching.specs.declared.branch.Branch.{Branch}
 use Rattle.branching.specs.Asking.{branchesSize, askRecords}
 use Rattle.branching.specs.Branches.{branchRecords, withRecords}
-use Rattle.wagner.specs.declared.written.Listed.{Listed}
+use Rattle.wagner.specs.declared.written.BranchList.{BranchList}
 
 -- the difference of two nodes by the codes of the matrix, those of an HTU among them
 unfoldable pub codeDifference : List ℤ → ℕ → ℕ → ℕ → ℕ
@@ -35,7 +35,7 @@ abbrev pub noRecords : List Branch
 noRecords = replicate branchesSize noBranch
 
 -- what is listed before it is written: the answer, and the records, as many as are to be written
-pub record Recorded (codes : List ℤ) (n m : ℕ) (tree : List ℕ) (room : ℕ) (r : Listed) : Type 0 where
+pub record Recorded (codes : List ℤ) (n m : ℕ) (tree : List ℕ) (room : ℕ) (r : BranchList) : Type 0 where
   pub says : askedSays (r .asked) ≡ recordsSay codes n m tree room
   pub records : take (r .count) (r .records) ≡ afterwards (recordsSay codes n m tree room) (branchRecords (codeDifference codes m) n tree) []
   pub most : r .count ≤ branchesSize

@@ -11,7 +11,7 @@ ghost use Rattle.branching.specs.Ancestors.{ancestors};
 ghost use Rattle.wagner.specs.Written.{noRecords, Recorded, RecordsWritten};
 
 // What the questions answered, how many records are to be written, which is none if they refused, and the records.
-struct Listed {
+struct BranchList {
     asked: Asked,
     count: usize,
     records: [Branch; 125],
@@ -30,16 +30,16 @@ fn no_records() -> [Branch; 125]
 }
 
 // The records of a finished tree of n taxa, for a lent list of `room` records, with the questions of the call.
-fn list_branches(matrix: &[i32], n: usize, m: usize, tree: Tree, room: usize) -> Listed
+fn list_branches(matrix: &[i32], n: usize, m: usize, tree: Tree, room: usize) -> BranchList
     ensures { λ r. ⌜ Recorded (now (matrix .entry)) n m (ancestors tree) room r ⌝ }
 {
     match ask_records(matrix, n, m, tree, room) {
-        Asked::Refused(refusal) => Listed {
+        Asked::Refused(refusal) => BranchList {
             asked: Asked::Refused(refusal),
             count: 0,
             records: no_records(),
         },
-        Asked::Passed => Listed {
+        Asked::Passed => BranchList {
             asked: Asked::Passed,
             count: record_count(n),
             records: branches(matrix, n, m, tree, no_records()),
@@ -48,7 +48,7 @@ fn list_branches(matrix: &[i32], n: usize, m: usize, tree: Tree, room: usize) ->
 }
 
 // The records listed.
-fn records_of(listed: Listed) -> [Branch; 125]
+fn records_of(listed: BranchList) -> [Branch; 125]
     ensures { λ r. ⌜ r ≡ listed .records ⌝ }
 {
     let records = listed.records;

@@ -56,10 +56,10 @@ use Rattle.branching.specs.Ancestors.{ancestors}
 use Rattle.branching.proofs.tree.Tree as T
 use Rattle.branching.proofs.tree.Tree.Laws as T′
 use Rattle.branching.proofs.RecordRows.{R, typed, typed-all, front-none, apart}
-use Rattle.wagner.specs.declared.written.Listed.{Listed}
+use Rattle.wagner.specs.declared.written.BranchList.{BranchList}
 use Rattle.wagner.specs.Written.{Recorded}
-use Rattle.wagner.proofs.written.Listed as N
-use Rattle.wagner.proofs.written.Listed.Laws as N′
+use Rattle.wagner.proofs.written.BranchList as N
+use Rattle.wagner.proofs.written.BranchList.Laws as N′
 use Rattle.wagner.proofs.written.list_branches as ask
 use Rattle.wagner.proofs.written.list_branches.Symbol as ask-def
 use Rattle.wagner.proofs.written.list_branches.Symbol.{name as #wagner·written·list-branches}
@@ -153,7 +153,7 @@ module _ {M : Type 1} (𝓤 : URA M) (H : Heap 𝓤) (A : Atoms 𝓤) (W : Given
       (and-then ! (load ! (from ! (stop !)) (look ! 34 refl)) (and-then ! (load ! (from ! (stop !)) (look ! 32 refl))
       (and-then ! (load ! (from ! (stop !)) (look ! 30 refl)) (and-then ! (load ! (from ! (stop !)) (look ! 20 refl))
       (no-more !)))))) (λ w₁.
-      use1 W (later (some (λ (r : Listed). ((‵ (flft κ′ q′) ⊛ ‵ ftrue) ⊛ ‵ (N.the-row .own r (w₁ ∷ []))) ⊛ raw (ensured 𝓤 H A ask.ended
+      use1 W (later (some (λ (r : BranchList). ((‵ (flft κ′ q′) ⊛ ‵ ftrue) ⊛ ‵ (N.the-row .own r (w₁ ∷ []))) ⊛ raw (ensured 𝓤 H A ask.ended
       (ask.clauses 𝓤 H A at-mem run) (κ′, tt) (lent, (n, (m, (h, (length ys, tt))))) tt r)))) (id⊢ 𝓤 _) $ await ! tt $ pick ! (λ r.
       split ! $ move ! (1 ∷ []) $
       use1 W (raw (fact 𝓤 (Recorded (lent .now) n m (ancestors h) (length ys) r))) (asked-of 𝓤 H A at-mem run κ′ lent n m h (length ys)

@@ -42,11 +42,11 @@ use Rattle.branching.specs.Ancestors.{ancestors}
 use Rattle.branching.proofs.tree.Tree as T
 use Rattle.branching.proofs.tree.Tree.Laws as T′
 use Rattle.branching.proofs.RecordRows.{R, typed}
-use Rattle.wagner.specs.declared.written.Listed.{Listed}
+use Rattle.wagner.specs.declared.written.BranchList.{BranchList}
 use Rattle.wagner.specs.Written.{noBranch, Recorded, RecordsWritten}
 use Rattle.wagner.proofs.Recording.{writes}
-use Rattle.wagner.proofs.written.Listed as N
-use Rattle.wagner.proofs.written.Listed.Laws as N′
+use Rattle.wagner.proofs.written.BranchList as N
+use Rattle.wagner.proofs.written.BranchList.Laws as N′
 use Rattle.wagner.proofs.written.list_branches as ask
 use Rattle.wagner.proofs.written.records_of as records
 use Rattle.wagner.proofs.written.write_branches as write
@@ -69,7 +69,7 @@ abbrev pub tvals : Tree → List Val
 tvals = LL.vals T.the-type T′.the-laws
 
 -- of what is listed
-abbrev pub cvals : Listed → List Val
+abbrev pub cvals : BranchList → List Val
 cvals = LL.vals N.the-type N′.the-laws
 
 -- of an answer
@@ -118,7 +118,7 @@ abbrev pub mslice : Ty
 mslice = sliceTy (tyRef (named 0) imm (tyInt w32))
 
 -- what was written, from what `list_branches` and `records_of` answered
-pub answers : (codes : List ℤ) (n m : ℕ) (tree : Tree) (ys rs : List Branch) (r : Listed)
+pub answers : (codes : List ℤ) (n m : ℕ) (tree : Tree) (ys rs : List Branch) (r : BranchList)
     → Recorded codes n m (ancestors tree) (length ys) r → rs ≡ r .records → RecordsWritten codes n m (ancestors tree) ys
     (over 0 (take (r .count) rs) ys) (r .asked)
 answers codes n m tree ys rs r c e = subst (λ (list : List Branch). RecordsWritten codes n m (ancestors tree) ys
@@ -134,14 +134,14 @@ module _ {M : Type 1} (𝓤 : URA M) (H : Heap 𝓤) (A : Atoms 𝓤) (mem : Mem
   Records = tripleOf 𝓤 H A records.signature (records.spec 𝓤 H A mem run)
 
   -- of each callee's `ensured`, the clause alone
-  pub asked-of : (κ : Lft) (lent : RefT (List ℤ)) (n m : ℕ) (h : Tree) (room : ℕ) (r : Listed)
+  pub asked-of : (κ : Lft) (lent : RefT (List ℤ)) (n m : ℕ) (h : Tree) (room : ℕ) (r : BranchList)
       → ent 𝓤 (ensured 𝓤 H A ask.ended (ask.clauses 𝓤 H A mem run) (κ, tt) (lent, (n, (m, (h, (room, tt))))) tt r)
       (fact 𝓤 (Recorded (lent .now) n m (ancestors h) room r))
   asked-of κ lent n m h room r = exE 𝓤 _ (λ ws. snd∗ 𝓤 (sem 𝓤 H A (lasts ask.ended (κ, tt) (lent, (n, (m, (h, (room, tt))))) ws))
       (fact 𝓤 (Recorded (lent .now) n m (ancestors h) room r)))
 
   -- and of `records_of`
-  pub records-of : (r : Listed) (rs : List Branch)
+  pub records-of : (r : BranchList) (rs : List Branch)
       → ent 𝓤 (ensured 𝓤 H A records.ended (records.clauses 𝓤 H A mem run) tt (r, tt) tt rs) (fact 𝓤 (rs ≡ r .records))
   records-of r rs = exE 𝓤 _ (λ ws. snd∗ 𝓤 (sem 𝓤 H A (lasts records.ended tt (r, tt) ws)) (fact 𝓤 (rs ≡ r .records)))
 
@@ -157,15 +157,15 @@ module _ {M : Type 1} (𝓤 : URA M) (H : Heap 𝓤) (A : Atoms 𝓤) (W : Given
 
 module _ {M : Type 1} (𝓤 : URA M) (H : Heap 𝓤) (A : Atoms 𝓤) (W : Given 𝓤 H A) (at-mem : Memory → SProp 𝓤) (run : Routine → Fun 𝓤) where
   -- what `records_of`'s triple binds outside
-  abbrev pub to-records : (r : Listed) → Records 𝓤 H A at-mem run .Ghost
+  abbrev pub to-records : (r : BranchList) → Records 𝓤 H A at-mem run .Ghost
   to-records r = ((tt, tt, tt, (r, tt), (cvals r, tt)), tt)
 
   -- and that the caller has what it asks
-  pub goes-records : (r : Listed) → Is N.the-row r (cvals r) → ent 𝓤 (sem 𝓤 H A ftrue) (Records 𝓤 H A at-mem run .pre (to-records r))
+  pub goes-records : (r : BranchList) → Is N.the-row r (cvals r) → ent 𝓤 (sem 𝓤 H A ftrue) (Records 𝓤 H A at-mem run .pre (to-records r))
   goes-records r r-is = qed W (‵ ftrue ∷ []) ∵ nothing ! $
       owned ! N.the-row (Is N.the-row) (LL.makes N.the-type N′.the-plain 𝓤 H A) r _ r-is $ fjoin ! $ move ! (1 ∷ 0 ∷ []) $ join ! $
       frame ! $ done !
 
 -- what is listed, by its own machine value
-pub spelled : (r : Listed) (w : Val) → Is N.the-row r (w ∷ []) → Is N.the-row r (cvals r)
+pub spelled : (r : BranchList) (w : Val) → Is N.the-row r (w ∷ []) → Is N.the-row r (cvals r)
 spelled r w is = subst (Is N.the-row r) (LL.tells N.the-type N′.the-laws r _ is) is

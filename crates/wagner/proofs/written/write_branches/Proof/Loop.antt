@@ -51,10 +51,10 @@ use Rattle.branching.proofs.tree.Tree as T
 use Rattle.branching.proofs.tree.Tree.Laws as T′
 use Rattle.branching.proofs.RecordRows.{R, bvals, rec, arr, btells, typed, bmakes, front-more, together, Upto, Nearer, Nearer-wf}
 use Rattle.branching.proofs.RecordRows.{while-holds}
-use Rattle.wagner.specs.declared.written.Listed.{Listed}
+use Rattle.wagner.specs.declared.written.BranchList.{BranchList}
 use Rattle.wagner.specs.Written.{Recorded, RecordsWritten}
-use Rattle.wagner.proofs.written.Listed as N
-use Rattle.wagner.proofs.written.Listed.Laws as N′
+use Rattle.wagner.proofs.written.BranchList as N
+use Rattle.wagner.proofs.written.BranchList.Laws as N′
 use Rattle.wagner.proofs.written.write_branches as write
 use Rattle.wagner.proofs.written.write_branches.Code.Mir as body
 use Rattle.wagner.proofs.written.write_branches.Proof.Callees.{stayed, tvals, cvals, qvals, val, Arg, args, Vals, machine, posts}
@@ -99,7 +99,7 @@ module _ {M : Type 1} (𝓤 : URA M) (H : Heap 𝓤) (A : Atoms 𝓤) (W : Given
       owned ! usize (Is usize) (uint-makes 𝓤 H A W w64) n _ (refl, n-fits) $ fjoin ! $ move ! (1 ∷ 0 ∷ []) $ fjoin ! $
       owned ! Q.the-row (Is Q.the-row) (EL.makes Q.the-type Q′.the-plain 𝓤 H A) k _ is $ move ! (1 ∷ 0 ∷ []) $ done !
 
-  module _ (𝓣 : Tables 𝓤 H) (r : Listed) (r-is : Is N.the-row r (cvals r)) (c : Recorded (lent .now) n m (ancestors h) (length ys) r)
+  module _ (𝓣 : Tables 𝓤 H) (r : BranchList) (r-is : Is N.the-row r (cvals r)) (c : Recorded (lent .now) n m (ancestors h) (length ys) r)
       (rs : List Branch) (rs-is : length rs ≡ 125) (same : rs ≡ r .records)
       (l₀ l₁ l₂ l₃ l₄ l₅ l₆ l₇ l₈ l₉ l₁₀ l₁₁ l₁₂ l₁₃ l₁₄ l₁₅ l₁₆ l₁₇ : ℕ) where
     -- the table of calls
