@@ -1,8 +1,8 @@
--- `worked_fits::show_characters` is safe. Assumes nothing.
+-- `worked_fits::showing::show_characters` is safe. Assumes nothing.
 use Prim.Native.Nat.{_≤_, _-_}
 use borrow.Author.Needs.{needs}
-use Rattle.worked_fits.proofs.show_characters.Statement.{statement}
-use Rattle.worked_fits.proofs.show_characters.Tie as tie
+use Rattle.worked_fits.proofs.showing.show_characters.Statement.{statement}
+use Rattle.worked_fits.proofs.showing.show_characters.Tie as tie
 
 abbrev Inv-loop : tie.InvT-loop
 Inv-loop codes n m records v j₀ j = j ≤ 129

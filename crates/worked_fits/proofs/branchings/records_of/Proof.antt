@@ -1,8 +1,8 @@
--- `worked_fits::records_of` is safe. Assumes nothing.
+-- `worked_fits::branchings::records_of` is safe. Assumes nothing.
 use Prim.Native.Nat.{_≤_, _-_}
 use borrow.Author.Needs.{needs}
-use Rattle.worked_fits.proofs.records_of.Statement.{statement}
-use Rattle.worked_fits.proofs.records_of.Tie as tie
+use Rattle.worked_fits.proofs.branchings.records_of.Statement.{statement}
+use Rattle.worked_fits.proofs.branchings.records_of.Tie as tie
 
 abbrev Inv-loop : tie.InvT-loop
 Inv-loop ancestors records₀ i₀ records i = i ≤ 125

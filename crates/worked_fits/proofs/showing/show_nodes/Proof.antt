@@ -1,8 +1,8 @@
--- `worked_fits::show_nodes` is safe. Assumes nothing.
+-- `worked_fits::showing::show_nodes` is safe. Assumes nothing.
 use Prim.Native.Nat.{_≤_, _-_}
 use borrow.Author.Needs.{needs}
-use Rattle.worked_fits.proofs.show_nodes.Statement.{statement}
-use Rattle.worked_fits.proofs.show_nodes.Tie as tie
+use Rattle.worked_fits.proofs.showing.show_nodes.Statement.{statement}
+use Rattle.worked_fits.proofs.showing.show_nodes.Tie as tie
 
 abbrev Inv-loop : tie.InvT-loop
 Inv-loop codes n m records last v₀ v = v ≤ 127
