@@ -1,7 +1,7 @@
 -- Laws of `firstLeast`, the first of a list with the least key, and of `leastOf`, which is 0 of an empty list.
 use mathlib.Core.Path.{_≡_, refl, sym, ap, _∙_}
 use mathlib.Core.Bool.{Bool, true, false, cond}
-use mathlib.Core.List.{List, [], _∷_, _++_, List·Memᴰ, List·Memᴰ·head, List·Memᴰ·tail, List·Memᴰ·not-nil, List·Memᴰ·cases-cons}
+use mathlib.Core.List.{List, [], _∷_, _++_, map, List·Memᴰ, List·Memᴰ·head, List·Memᴰ·tail, List·Memᴰ·not-nil, List·Memᴰ·cases-cons}
 use mathlib.Core.Logic.{_⊎_, inl, inr, _≢_}
 use Prim.Native.Nat.{ℕ, suc, _+_, _-_, _≤_, _<_}
 use native.Mathlib.Nat.{le-refl, le-trans}
@@ -43,7 +43,7 @@ module _ {A : Type 0} where
     take-later x z h = rw (lt-leb (key x) (key z) h)
 
     -- a fact about the choice between x and a later one, from the fact in each of the two cases
-    choice-cases : (P : A → Type 0) (x z : A) → (key x ≤ key z → P x) → (key z < key x → P z) → P (earlier x z)
+    pub choice-cases : (P : A → Type 0) (x z : A) → (key x ≤ key z → P x) → (key z < key x → P z) → P (earlier x z)
     choice-cases P x z low high = go (leb (key x) (key z)) refl
       where
         go : (b : Bool) → leb (key x) (key z) ≡ b → P (cond b x z)
@@ -151,21 +151,28 @@ module _ {A : Type 0} where
             let h₂ : key y < key z = leb-false (key z) (key y) e₂ in
             take-later x y (omega arith) ∙ sym (take-later z y h₂)
 
-    -- one more at the end is compared with the one chosen so far
-    snoc-earlier : (x : A) (xs : List A) (y : A) → firstLeast key x (xs ++ (y ∷ [])) ≡ earlier (firstLeast key x xs) y
+    -- what is chosen of two lists in turn is one of the two choices, the earlier one among equals
+    pub firstLeast-append : (x : A) (xs : List A) (y : A) (ys : List A)
+        → firstLeast key x (xs ++ y ∷ ys) ≡ earlier (firstLeast key x xs) (firstLeast key y ys)
     unfolding firstLeast
-    snoc-earlier x [] y = refl
-    snoc-earlier x (v ∷ vs) y = rw (snoc-earlier v vs y) (choice-assoc x (firstLeast key v vs) y)
+    firstLeast-append x [] y ys = refl
+    firstLeast-append x (v ∷ vs) y ys =
+        rw (firstLeast-append v vs y ys) (choice-assoc x (firstLeast key v vs) (firstLeast key y ys))
+
+    -- one more at the end is compared with the one chosen so far
+    one-more : (x : A) (xs : List A) (y : A) → firstLeast key x (xs ++ (y ∷ [])) ≡ earlier (firstLeast key x xs) y
+    unfolding firstLeast
+    one-more x xs y = firstLeast-append x xs y []
 
     -- one more at the end is chosen if its key is below the key of the one chosen so far
     pub firstLeast-snoc-less : (x : A) (xs : List A) (y : A) → key y < key (firstLeast key x xs) → firstLeast key x (xs ++ (y ∷ [])) ≡ y
-    firstLeast-snoc-less x xs y h = snoc-earlier x xs y ∙ take-later (firstLeast key x xs) y h
+    firstLeast-snoc-less x xs y h = one-more x xs y ∙ take-later (firstLeast key x xs) y h
 
     -- otherwise the one chosen so far stays
     pub firstLeast-snoc-stays : (x : A) (xs : List A) (y : A)
         → key (firstLeast key x xs) ≤ key y
         → firstLeast key x (xs ++ (y ∷ [])) ≡ firstLeast key x xs
-    firstLeast-snoc-stays x xs y h = snoc-earlier x xs y ∙ take-head (firstLeast key x xs) y h
+    firstLeast-snoc-stays x xs y h = one-more x xs y ∙ take-head (firstLeast key x xs) y h
 
     -- the two in one: one more at the end is chosen exactly if its key is below the key of the one chosen so far
     pub firstLeast-snoc : (x : A) (xs : List A) (y : A)
@@ -188,6 +195,19 @@ module _ {A : Type 0} where
       let at-later : key (firstLeast key′ v vs) ≡ key′ (firstLeast key′ v vs) =
       h (firstLeast key′ v vs) (List·Memᴰ·tail (firstLeast-mem key′ v vs)) in
       rw (same, at-x, at-later)
+
+-- the choice from what a function makes of a list is what it makes of the choice
+pub firstLeast-map : {A B : Type 0} (f : A → B) (key : B → ℕ) (x : A) (xs : List A)
+    → firstLeast key (f x) (map f xs) ≡ f (firstLeast (λ (z : A). key (f z)) x xs)
+unfolding firstLeast
+firstLeast-map f key x [] = refl
+firstLeast-map {A = A} f key x (v ∷ vs) =
+    let w : A = firstLeast (λ z. key (f z)) v vs in
+    rw (firstLeast-map f key v vs) (through (leb (key (f x)) (key (f w))) w)
+  where
+    through : (t : Bool) (w : A) → cond t (f x) (f w) ≡ f (cond t x w)
+    through true w = refl
+    through false w = refl
 
 -- the choice from a list that is not empty is one of it
 pub leastOf-mem : (key : ℕ → ℕ) (vs : List ℕ) (u : ℕ) → List·Memᴰ u vs → List·Memᴰ (leastOf key vs) vs

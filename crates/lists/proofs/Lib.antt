@@ -8,3 +8,5 @@ pub mod Least
 pub mod Over
 pub mod Stripes
 pub mod Filled
+pub mod Pairs
+pub mod Foremost

@@ -6,3 +6,4 @@ pub mod Numbers
 pub mod Least
 pub mod Over
 pub mod Filled
+pub mod Pairs
