@@ -62,7 +62,7 @@ module _ (codes : List ℤ) (n m : ℕ) (tree : List ℕ) (b : ℕ) where
 
   module _ (most : n ≤ 64) (narrow : m ≤ 128) where
     -- otherwise the taxon is placed on its interval
-    unasked-plain : unasked codes n m tree b ≡ placedAt codes m n tree b (nearestAt codes m n tree b)
+    pub unasked-plain : unasked codes n m tree b ≡ placedAt codes m n tree b (nearestAt codes m n tree b)
     unfolding unasked
     unasked-plain = rw (le-leb n 64 most, le-leb m 128 narrow)
 

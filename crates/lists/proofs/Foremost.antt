@@ -1,21 +1,16 @@
 -- The first of the least among numbers in rising order, by pairs of numbers: it comes before every other one.
-use mathlib.Core.Path.{_≡_}
+use mathlib.Core.Path.{_≡_, refl}
 use mathlib.Core.Bool.{Bool, true, false, cond}
 use mathlib.Core.List.{List, [], _∷_, List·Memᴰ, List·Memᴰ·head, List·Memᴰ·tail, List·Memᴰ·not-nil, List·Memᴰ·cases-cons}
 use mathlib.Core.Logic.{⊎-elim}
 use Prim.Native.Nat.{ℕ, zero, suc, _≤_, _<_}
 use native.Mathlib.Omega.{arith}
 use Rattle.lists.specs.Filters.{keep}
-use Rattle.lists.specs.Least.{firstLeast, leastOf}
+use Rattle.lists.specs.Least.{firstLeast, leastOf, Before, Foremost}
 use Rattle.lists.specs.Numbers.{numbers}
 use Rattle.lists.proofs.Keep.{keep-mem}
 use Rattle.lists.proofs.Least.{choice-cases, firstLeast-least, leastOf-mem}
 use Rattle.lists.proofs.Numbers.{numbers-within}
-
--- by a key, u comes before v or is v: its key is less, or the same and u is not higher
-pub record Before (key : ℕ → ℕ) (u v : ℕ) : Type 0 where
-  pub least : key u ≤ key v
-  pub first : key v ≤ key u → u ≤ v
 
 -- one that comes before another comes before what that one comes before
 pub before-trans : (key : ℕ → ℕ) (u v w : ℕ) → Before key u v → Before key v w → Before key u w
@@ -32,10 +27,21 @@ itself key v = record { least = omega arith; first = λ h. omega arith }
 before-same : (key : ℕ → ℕ) (u v : ℕ) → Before key u v → Before key v u → u ≡ v
 before-same key u v a b = omega (arith, a .first (b .least), b .first (a .least))
 
--- r is one of a list of numbers and comes before all others
-pub record Foremost (key : ℕ → ℕ) (vs : List ℕ) (r : ℕ) : Type 0 where
-  pub mem : List·Memᴰ r vs
-  pub before : (u : ℕ) → List·Memᴰ u vs → Before key r u
+-- one number more, behind which the first comes, or which comes before the first
+module _ (key : ℕ → ℕ) (vs : List ℕ) (r v : ℕ) (f : Foremost key vs r) where
+  -- the first stays
+  pub foremost-stays : Before key r v → Foremost key (v ∷ vs) r
+  foremost-stays b = record {
+    mem = List·Memᴰ·tail (f .mem);
+    before = λ u m. ⊎-elim (λ e. rw e b) (λ later. f .before u later) (List·Memᴰ·cases-cons m);
+  }
+
+  -- it is the first now
+  pub foremost-moves : Before key v r → Foremost key (v ∷ vs) v
+  foremost-moves b = record {
+    mem = List·Memᴰ·head refl;
+    before = λ u m. ⊎-elim (λ e. rw e (itself key v)) (λ later. before-trans key v r u b (f .before u later)) (List·Memᴰ·cases-cons m);
+  }
 
 -- numbers in rising order
 data Rises : List ℕ → Type 0 where

@@ -9,6 +9,12 @@ use Rattle.lists.specs.Least.{firstLeast}
 use Rattle.lists.specs.Pairs.{pairs}
 use Rattle.lists.proofs.Least.{firstLeast-map, firstLeast-append}
 
+-- with no second item there is no pair
+pub pairs-none : {A B : Type 0} (xs : List A) → pairs {B = B} xs [] ≡ []
+unfolding pairs flatMap
+pairs-none [] = refl
+pairs-none (x ∷ xs) = pairs-none xs
+
 module _ {A B : Type 0} (key : A × B → ℕ) (y : B) (ys : List B) where
   -- of the second items, the first that is least with x
   abbrev pub reached : A → B

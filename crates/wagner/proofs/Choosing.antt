@@ -8,31 +8,45 @@ use mathlib.Core.List.{List}
 use Prim.Native.Nat.{ℕ, _+_, _-_, _≤_, _<_}
 use native.Mathlib.Omega.{arith}
 use lib.IntN.{ℤ}
-use lib.ListN.{length, set}
+use lib.ListN.{length, getD, set}
 use Rattle.lists.specs.Filters.{keep}
 use Rattle.lists.specs.Least.{leastOf, scanned}
 use Rattle.lists.specs.Numbers.{numbers}
-use Rattle.lists.proofs.Least.{leastOf-congr, scan-start, step-fails, step-first, step-less, step-stays}
+use Rattle.lists.proofs.Least.{leastOf-congr, leastOf-none, scan-start, step-fails, step-first, step-less, step-stays}
 use Rattle.lists.proofs.Keep.{keep-mem}
 use Rattle.lists.proofs.Numbers.{numbers-within}
 use Rattle.matrix.specs.Shape.{row}
 use Rattle.matrix.specs.NodeRows.{rowOf, rowsOf}
 use Rattle.matrix.proofs.NodeRows.{rowOf-rowsOf}
 use Rattle.difference.specs.Rows.{difference, nodeDifference}
-use Rattle.branching.specs.Nodes.{inTree, nodesOut}
-use Rattle.wagner.specs.Build.{advancement, byAdvancement}
-use Rattle.wagner.specs.Order.{keyOf, unplacedTest, Advancements, Sooner, NextTaxon}
+use Rattle.branching.specs.Nodes.{inTree, nodesIn, nodesOut, otherNodes, Unplaced}
+use Rattle.branching.specs.Hanging.{noBranches}
+use Rattle.branching.proofs.Nodes.{node-nodesIn, noBranches-none}
+use Rattle.branching.specs.declared.placement.Nearest.{Nearest}
+use Rattle.branching.specs.declared.placement.Placement.{Placement}
+use Rattle.branching.specs.Placed.{lastRow, placeIn}
+use Rattle.branching.specs.Unasked.{noInterval, AfterUnasked, intervalAt, linkedAt, nearestAt, placedAt}
+use Rattle.branching.proofs.Counts.{unplaced-taxon}
+use Rattle.branching.proofs.Unasked.{unasked-plain, unasked-placed}
+use Rattle.branching.proofs.Standing.{Standing, standing-test, last-is}
+use Rattle.wagner.specs.declared.order.Order.{Order}
+use Rattle.wagner.specs.declared.order.Order.the-variants.{Advance, Closest}
+use Rattle.wagner.specs.Next.{advancement, byAdvancement, nextBy}
+use Rattle.wagner.specs.Order.{keyOf, unplacedTest, keyBy, Right, Keys, Sooner, NextTaxon}
+use Rattle.wagner.proofs.Closest.{adds, closeness-least}
 
 -- one advancement more is kept
-pub key-next : (codes : List ℤ) (m : ℕ) (keys : List ℕ) (v x : ℕ) → v < length keys → x ≡ difference (row codes m v) (row codes m 1)
-    → ((u : ℕ) → 1 ≤ u → u < v → keyOf keys u ≡ nodeDifference difference (row codes m) u 1)
-    → (u : ℕ) → 1 ≤ u → u < v + 1 → keyOf (set keys v x) u ≡ nodeDifference difference (row codes m) u 1
-unfolding keyOf nodeDifference
+pub key-next : (codes : List ℤ) (m : ℕ) (keys : List Nearest) (v x : ℕ) → v < length keys → x ≡ difference (row codes m v) (row codes m 1)
+    → ((u : ℕ) → 1 ≤ u → u < v → getD keys u noInterval ≡ record { lower = 0; added = nodeDifference difference (row codes m) u 1 })
+    → (u : ℕ) → 1 ≤ u → u < v + 1
+    → getD (set keys v (record { lower = 0; added = x })) u noInterval
+    ≡ record { lower = 0; added = nodeDifference difference (row codes m) u 1 }
+unfolding nodeDifference
 key-next codes m keys v x room is before u low high =
     by-cases
     (ℕ-discrete u v)
-    (λ e. rw e (getD-set-same keys v x 0 room ∙ is))
-    (λ ne. getD-set-other keys v u x 0 ne ∙ before u low (omega arith))
+    (λ e. rw (e, is) (getD-set-same keys v (record { lower = 0; added = difference (row codes m v) (row codes m 1) }) noInterval room))
+    (λ ne. getD-set-other keys v u (record { lower = 0; added = x }) noInterval ne ∙ before u low (omega arith))
 
 -- from the taxon to place next of those before v to that of those up to v
 module _ (key : ℕ → ℕ) (tree : List ℕ) (best v : ℕ) (within : best ≤ 64) (low : 1 ≤ v) (high : v ≤ 64) where
@@ -71,14 +85,60 @@ next-end key n tree v r end among is =
     let count : v - 1 ≡ n = omega arith in
     record { among = among; is = is ∙ ap (λ (k : ℕ). leastOf key (keep (λ u. not (inTree tree u)) (numbers 1 k))) count }
 
--- by keys that are the advancements of the taxa, the taxon to place next is that of least advancement
-pub next-advancement : (codes now : List ℤ) (n m last : ℕ) (keys tree : List ℕ) → Advancements codes n m keys → n ≤ last
-    → ((v : ℕ) → 1 ≤ v → v ≤ n → row now m v ≡ row codes m v)
-    → leastOf (keyOf keys) (nodesOut tree (numbers 1 n)) ≡ byAdvancement difference n tree (rowsOf now m last)
-unfolding byAdvancement advancement nodeDifference nodesOut
-next-advancement codes now n m last keys tree known reach same =
-    leastOf-congr (keyOf keys) (advancement difference (rowsOf now m last)) (nodesOut tree (numbers 1 n)) λ v mem.
-    let w = numbers-within 1 n v (keep-mem (λ u. not (inTree tree u)) (numbers 1 n) v mem .0) in
-    let of : (u : ℕ) → 1 ≤ u → u ≤ n → row codes m u ≡ rowOf (rowsOf now m last) u =
-    λ u low high. sym (rowOf-rowsOf now m last u low (omega arith) ∙ same u low high) in
-    known .each v (w .0) (omega arith) ∙ ap₂ difference (of v (w .0) (omega arith)) (of 1 (omega arith) (omega arith))
+-- before the first link there is no interval, and in both orders the key of a taxon is its advancement
+pub alone-right : (order : Order) (codes : List ℤ) (n m v : ℕ) (kept : Nearest)
+    → kept ≡ record { lower = 0; added = nodeDifference difference (row codes m) v 1 } → Right order codes n m noBranches v kept
+unfolding keyBy nearestAt placedAt linkedAt nodeDifference
+alone-right Advance codes n m v kept is = record { key = ap (λ (k : Nearest). k .added) is; interval = λ other. none-then other }
+  where
+    none-then : Advance ≡ Closest → kept .lower ≡ nearestAt codes m n noBranches v
+    none-then e = let never : _≡_ {A = ℕ} 0 1 = cc in absurd (omega arith)
+alone-right Closest codes n m v kept is = record {
+  key = ap (λ (k : Nearest). k .added) is ∙ ap (λ (c : ℕ). placedAt codes m n noBranches v c .placement .added) (sym none);
+  interval = λ _. ap (λ (k : Nearest). k .lower) is ∙ sym none;
+}
+  where
+    none : nearestAt codes m n noBranches v ≡ 0
+    none =
+        leastOf-none (intervalAt codes m noBranches v) (nodesIn noBranches (otherNodes n))
+        (λ e mem. omega (arith, node-nodesIn noBranches n e mem, noBranches-none e))
+
+-- a growing tree that stands in a matrix
+module _ (now : List ℤ) (n m placed : ℕ) (tree : List ℕ) (stands : Standing now n m placed tree) where
+  -- the rows of its nodes
+  abbrev rows : List (List ℤ)
+  rows = rowsOf now m (lastRow n tree)
+
+  -- the row of a taxon
+  taxon-row : (v : ℕ) → 1 ≤ v → v ≤ n → row now m v ≡ rowOf rows v
+  taxon-row v low high = sym (rowOf-rowsOf now m (lastRow n tree) v low (omega (arith, last-is now n m placed tree stands)))
+
+  -- the key of a taxon that is not placed, by the rows: its advancement
+  advance-key : (v : ℕ) → Unplaced n tree v → keyBy Advance now n m tree v ≡ advancement difference rows v
+  unfolding keyBy advancement nodeDifference
+  advance-key v u =
+      ap₂ difference (taxon-row v (omega (arith, u .other)) (u .taxon)) (taxon-row 1 (omega arith) (omega (arith, u .other, u .taxon)))
+
+  -- or the length that its placement adds
+  closest-key : (v : ℕ) → Unplaced n tree v → keyBy Closest now n m tree v ≡ adds difference n tree rows v
+  unfolding keyBy placeIn
+  closest-key v u =
+      let most = stands .matrix .taxa in
+      let narrow = stands .matrix .characters in
+      ap (λ (after : AfterUnasked). after .placement .added) (sym (unasked-plain now n m tree v most narrow))
+      ∙ ap (λ (p : Placement). p .added)
+      (unasked-placed now n m most narrow tree v u (standing-test now n m placed tree stands) .placement)
+
+  -- by what is kept of the taxa, the taxon to place next is that of the order of placing
+  pub next-right : (order : Order) (keys : List Nearest) → Keys order now n m tree keys
+      → leastOf (keyOf keys) (nodesOut tree (numbers 1 n)) ≡ nextBy difference order n tree rows
+  unfolding nextBy byAdvancement keyOf
+  next-right Advance keys known =
+      leastOf-congr (keyOf keys) (advancement difference rows) (nodesOut tree (numbers 1 n)) λ v mem.
+      let u = unplaced-taxon n tree v mem in
+      known .each v u .key ∙ advance-key v u
+  next-right Closest keys known =
+      leastOf-congr (keyOf keys) (adds difference n tree rows) (nodesOut tree (numbers 1 n)) (λ v mem.
+      let u = unplaced-taxon n tree v mem in
+      known .each v u .key ∙ closest-key v u)
+      ∙ sym (closeness-least difference n tree rows)

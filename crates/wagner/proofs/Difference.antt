@@ -6,22 +6,24 @@ use lib.IntN.{ℤ}
 use lib.ListN.{length}
 use Rattle.difference.specs.Rows.{difference}
 use Rattle.branching.specs.Hanging.{noBranches}
-use Rattle.wagner.specs.Build.{byAdvancement, addedLength, wagner, wagnerLength}
-use Rattle.wagner.proofs.Whole.{advancement-chooses}
+use Rattle.wagner.specs.declared.order.Order.{Order}
+use Rattle.wagner.specs.Next.{nextBy}
+use Rattle.wagner.specs.Build.{addedLength, wagner, wagnerLength}
+use Rattle.wagner.proofs.Whole.{order-chooses}
 use Rattle.branching.proofs.RowLengths.{OfLength}
 use Rattle.branching.proofs.Rival.{difference-laws}
 use Rattle.wagner.proofs.BuildLength.{Sound, build-sound, build-length}
 
 -- n rows of m codes, n from 1 to 64
-module _ (n m : ℕ) (taxa : 1 ≤ n) (most : n ≤ 64) (rows : List (List ℤ)) (all : length rows ≡ n) (each : OfLength m rows) where
+module _ (order : Order) (n m : ℕ) (taxa : 1 ≤ n) (most : n ≤ 64) (rows : List (List ℤ)) (all : length rows ≡ n) (each : OfLength m rows) where
   -- the Wagner tree: its tree, its rows and its length
-  pub wagner-sound : Sound difference n m n noBranches rows (wagner difference n rows)
+  pub wagner-sound : Sound difference n m n noBranches rows (wagner difference order n rows)
   unfolding wagner
   wagner-sound =
-      build-sound difference (byAdvancement difference) n m taxa (advancement-chooses difference n) (difference-laws m) most rows all each
+      build-sound difference (nextBy difference order) n m taxa (order-chooses difference order n) (difference-laws m) most rows all each
 
   -- its length is the sum of the lengths added
-  pub wagner-length : wagnerLength difference n (wagner difference n rows) ≡ addedLength (wagner difference n rows .placements)
+  pub wagner-length : wagnerLength difference n (wagner difference order n rows) ≡ addedLength (wagner difference order n rows .placements)
   unfolding wagner wagnerLength
   wagner-length =
-      build-length difference (byAdvancement difference) n m taxa (advancement-chooses difference n) (difference-laws m) most rows all each
+      build-length difference (nextBy difference order) n m taxa (order-chooses difference order n) (difference-laws m) most rows all each

@@ -1,6 +1,6 @@
 -- The build computed on examples: document 01's listing, one and two taxa, a tie for each rule, and a tree handed in.
 use mathlib.Core.Path.{_≡_, refl}
-use mathlib.Core.List.{List, [], _∷_, _++_}
+use mathlib.Core.List.{List, [], _∷_, _++_, flatMap}
 use mathlib.Core.Bool.{Bool, true}
 use Prim.Native.Nat.{ℕ, _*_, _-_}
 use lib.IntN.{ℤ, pos, negsuc}
@@ -9,6 +9,7 @@ use Rattle.matrix.specs.NodeRows.{rowOf}
 use Rattle.difference.specs.Rows.{intervalBy, apart, lower, higher, median, medians, difference, nodeDifference}
 use Rattle.lists.specs.Numbers.{numbers}
 use Rattle.lists.specs.Least.{firstLeast, leastOf}
+use Rattle.lists.specs.Pairs.{pairs}
 use Rattle.matrix.specs.Shape.{lastNode}
 use Rattle.lists.specs.Tests.{every, sameNumbers}
 use Rattle.branching.specs.declared.placement.Placement.{Placement}
@@ -22,7 +23,10 @@ use Rattle.branching.specs.Hanging.{noBranches, linked, hung, nextHtu}
 use Rattle.branching.specs.Branches.{treeLength, branchOf, branchRecords, branchesRead, ancestorsOf, namedInOrder, lentBranching}
 use Rattle.lists.specs.Sums.{sumOver}
 use Rattle.branching.specs.RowLengths.{nodeInterval, lengthUnder}
-use Rattle.wagner.specs.Build.{advancement, Built, byAdvancement, buildOn, build, wagner, wagnerLength, wagnerBranches}
+use Rattle.wagner.specs.declared.order.Order.{Order}
+use Rattle.wagner.specs.declared.order.Order.the-variants.{Advance, Closest}
+use Rattle.wagner.specs.Next.{hangings, taxonOf, advancement, byAdvancement, byCloseness, nextBy}
+use Rattle.wagner.specs.Build.{Built, buildOn, build, wagner, wagnerLength, wagnerBranches}
 use Rattle.branching.specs.Placing.{AfterPlacing, medianRow, fromInterval, nearestInterval, linkFirst, hang, placeOn, place}
 
 -- taxon, lower end, upper end, HTU, length added
@@ -36,22 +40,27 @@ record Shown : Type 0 where
   total : ℕ
   isBranching : Bool
 
--- the Wagner tree of n rows as such a listing shows it
-shown : ℕ → List (List ℤ) → Shown
-unfolding apart lower higher median medians difference numbers firstLeast lastNode ancestor descendants hasAncestor inTree keep
+-- the Wagner tree of n rows in an order of placing, as such a listing shows it
+shownBy : Order → ℕ → List (List ℤ) → Shown
+unfolding flatMap pairs hangings taxonOf byCloseness nextBy apart lower higher median medians difference numbers firstLeast lastNode ancestor descendants hasAncestor inTree keep
     nodesIn nodesOut otherNodes taxaPlaced every descendantCount descendantsWanted climbs rowOneAlone nodesOnly htusIn ancestorsIn
     descendantsRight allClimb grown growingTree branching noBranches linked hung nextHtu sumOver treeLength branchOf branchRecords
     branchesRead ancestorsOf sameNumbers namedInOrder lentBranching rowOf leastOf nodeDifference intervalBy nodeInterval advancement
     lengthUnder medianRow fromInterval nearestInterval linkFirst hang placeOn place byAdvancement buildOn build wagner wagnerLength
     wagnerBranches
-shown n rows =
-    let built : Built = wagner difference n rows in
+shownBy order n rows =
+    let built : Built = wagner difference order n rows in
     record {
       placements = built .placements;
       ancestors = take (2 * n - 1) (built .tree);
       total = wagnerLength difference n built;
       isBranching = branching n (built .tree);
     }
+
+-- by advancement
+shown : ℕ → List (List ℤ) → Shown
+unfolding shownBy
+shown n rows = shownBy Advance n rows
 
 -- the matrix of document 01: A, B, C, D
 abbrev fourTaxa : List (List ℤ)
@@ -109,7 +118,7 @@ equally-near = refl
 
 -- a tree handed in: taxa 1, 2 and 4 of document 01's matrix, with an HTU 5 whose codes are not the medians
 handed : ℕ → AfterPlacing
-unfolding shown
+unfolding shownBy
 handed b =
     place difference 4 (0 ∷ 0 ∷ 5 ∷ 0 ∷ 5 ∷ 1 ∷ 0 ∷ []) (take 4 fourTaxa ++ (pos 1 ∷ pos 1 ∷ pos 1 ∷ []) ∷ []) b
 
@@ -128,8 +137,8 @@ handed-row = refl
 
 -- the branches of document 01's tree, with their lengths under the median codes; handed back, they are a branching
 branches : List Branch
-unfolding shown
-branches = wagnerBranches difference 4 (wagner difference 4 fourTaxa)
+unfolding shownBy
+branches = wagnerBranches difference 4 (wagner difference Advance 4 fourTaxa)
 
 abbrev branch : ℕ → ℕ → ℕ → Branch
 branch v a l = record { node = v; ancestor = a; length = l }

@@ -35,7 +35,9 @@ use Rattle.branching.specs.Asking.{branchesSize, htusOf, askRecords}
 use Rattle.branching.specs.Branches.{withRecords}
 use Rattle.branching.specs.Placing.{AfterPlacing, medianRow, nearestInterval, linkFirst, hang, placeOn, place}
 use Rattle.branching.proofs.Test.{branching-iff}
-use Rattle.wagner.specs.Build.{Built, byAdvancement, buildOn, build, wagner, wagnerBranches}
+use Rattle.wagner.specs.declared.order.Order.{Order}
+use Rattle.wagner.specs.Next.{nextBy}
+use Rattle.wagner.specs.Build.{Built, buildOn, build, wagner, wagnerBranches}
 use Rattle.wagner.specs.Answers.{wagnerIn}
 use Rattle.wagner.specs.Matrix.{matrixAfter}
 use Rattle.wagner.specs.Records.{lengthIn}
@@ -73,10 +75,10 @@ module _ (d : List ℤ → List ℤ → ℕ) (n : ℕ) where
       (placed-known tree rows (next n tree rows) (nearestInterval d n tree rows (next n tree rows)) known)
 
 -- the Wagner tree of a lent matrix
-module _ (codes : List ℤ) (n m : ℕ) (lent : LentMatrix codes n m) where
+module _ (order : Order) (codes : List ℤ) (n m : ℕ) (lent : LentMatrix codes n m) where
   -- the build, and the matrix after it
   abbrev ours : Built
-  ours = wagnerIn codes n m
+  ours = wagnerIn order codes n m
 
   abbrev after : List ℤ
   after = matrixAfter codes n ours
@@ -85,7 +87,7 @@ module _ (codes : List ℤ) (n m : ℕ) (lent : LentMatrix codes n m) where
   ours-known : every allInRange (ours .rows) ≡ true
   unfolding wagnerIn wagner build
   ours-known =
-      built-known difference n (byAdvancement difference) (n - 1) _ (rowsOf codes m n) (every-from allInRange [] (rowsOf codes m n) each)
+      built-known difference n (nextBy difference order) (n - 1) _ (rowsOf codes m n) (every-from allInRange [] (rowsOf codes m n) each)
     where
       each : (i : ℕ) → i < length (rowsOf codes m n) → allInRange (getD (rowsOf codes m n) i []) ≡ true
       each i h =
@@ -99,13 +101,13 @@ module _ (codes : List ℤ) (n m : ℕ) (lent : LentMatrix codes n m) where
       rw
       (sym (rowOf-rowsOf after m (n + (n - 2)) v low high)
       ∙ ap (λ (rows : List (List ℤ)). rowOf rows v)
-      (after-rows difference codes n m (lent .characters) (ours-room codes n m lent) ours (ours-sound codes n m lent)))
+      (after-rows difference codes n m (lent .characters) (ours-room order codes n m lent) ours (ours-sound order codes n m lent)))
       (row-known (ours .rows) ours-known v)
 
   -- the matrix after the build is a lent matrix
   pub after-lent : LentMatrix after n m
   after-lent = record {
-    full = after-size difference codes n m (lent .characters) (ours-room codes n m lent) ours (ours-sound codes n m lent) ∙ lent .full;
+    full = after-size difference codes n m (lent .characters) (ours-room order codes n m lent) ours (ours-sound order codes n m lent) ∙ lent .full;
     taxon = lent .taxon;
     taxa = lent .taxa;
     character = lent .character;
@@ -117,7 +119,7 @@ module _ (codes : List ℤ) (n m : ℕ) (lent : LentMatrix codes n m) where
   pub built-passes : askRecords after n m (ours .tree) branchesSize ≡ Passed
   unfolding askRecords htusInRange htusOf htuInRange branching
   built-passes =
-      let test : branching n (ours .tree) ≡ true = branching-iff (ours .tree) n (lent .taxon) .1 (ours-branching codes n m lent) in
+      let test : branching n (ours .tree) ≡ true = branching-iff (ours .tree) n (lent .taxon) .1 (ours-branching order codes n m lent) in
       let all : taxaPlaced n (ours .tree) ≡ n =
       eqb-true _ _ (and-eq-true-iff (growingTree n (ours .tree)) (eqb (taxaPlaced n (ours .tree)) n) .0 test .1) in
       let htus : every (htuInRange after n m) (numbers (n + 1) (taxaPlaced n (ours .tree) - 2)) ≡ true =
@@ -133,7 +135,7 @@ module _ (codes : List ℤ) (n m : ℕ) (lent : LentMatrix codes n m) where
   built-written old new r size written =
       let says : recordsSay after n m (ours .tree) (length old) ≡ value tt = rw (size, built-passes) in
       let records : new ≡ withRecords (codeDifference after m) n (ours .tree) old = rw says at (written .records) in
-      (written .says ∙ says, records ∙ same ∙ built-branches codes n m lent old size)
+      (written .says ∙ says, records ∙ same ∙ built-branches order codes n m lent old size)
     where
       same : withRecords (codeDifference after m) n (ours .tree) old ≡ withRecords (lengthIn after m) n (ours .tree) old
       same =

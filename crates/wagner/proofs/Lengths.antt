@@ -31,6 +31,7 @@ use Rattle.branching.proofs.Records.{records-length}
 use Rattle.branching.proofs.Whole.{branching-nodes, growing-ancestor-le}
 use Rattle.wagner.specs.Build.{Built, wagnerLength, wagnerBranches}
 use Rattle.wagner.specs.Records.{lengthIn, LengthsOf}
+use Rattle.wagner.specs.declared.order.Order.{Order}
 use Rattle.wagner.specs.Answers.{wagnerIn}
 use Rattle.wagner.specs.Matrix.{matrixAfter}
 use Rattle.wagner.proofs.Whole.{wagner-branching}
@@ -106,22 +107,22 @@ records-sum d n tree whole =
     sum-map (λ (branch : Branch). branch .length) (branchOf d tree) (otherNodes n) ∙ sym (records-length d n tree whole)
 
 -- the Wagner tree of a lent matrix
-module _ (codes : List ℤ) (n m : ℕ) (lent : LentMatrix codes n m) where
+module _ (order : Order) (codes : List ℤ) (n m : ℕ) (lent : LentMatrix codes n m) where
   -- the build
   abbrev ours : Built
-  ours = wagnerIn codes n m
+  ours = wagnerIn order codes n m
 
   -- its tree, its rows and its length
   pub ours-sound : Sound difference n m n noBranches (rowsOf codes m n) ours
   unfolding wagnerIn
   ours-sound =
-      wagner-sound n m (lent .taxon) (lent .taxa) (rowsOf codes m n) (length-rowsOf codes m n)
+      wagner-sound order n m (lent .taxon) (lent .taxa) (rowsOf codes m n) (length-rowsOf codes m n)
       (rowsOf-each codes m n (lent .characters) (omega (arith, lent .full, lent .taxa)))
 
   -- it is a branching
   pub ours-branching : Branching n (ours .tree)
   unfolding wagnerIn
-  ours-branching = wagner-branching difference n (lent .taxon) (lent .taxa) (rowsOf codes m n)
+  ours-branching = wagner-branching difference order n (lent .taxon) (lent .taxa) (rowsOf codes m n)
 
   -- there is room for all its rows
   pub ours-room : rowStart (suc (n + (n - 2))) ≤ length codes

@@ -1,4 +1,4 @@
--- The Wagner tree's placements are in the order of rising advancement, the lower row first among equals.
+-- By advancement the Wagner tree's placements are in the order of rising advancement, the lower row first among equals.
 use mathlib.Core.Path.{_≡_, refl, sym, ap, ap₂, _∙_}
 use mathlib.Core.Logic.{_≢_, by-cases}
 use mathlib.Core.Bool.{Bool, true, false, not, cond, _&&_, _||_}
@@ -31,9 +31,11 @@ use Rattle.branching.proofs.Test.{growing-placed}
 use Rattle.branching.proofs.Placing.{place-only, place-in, place-taxon}
 use Rattle.branching.proofs.RowLengths.{OfLength, Growth}
 use Rattle.branching.proofs.Rival.{difference-laws}
-use Rattle.wagner.specs.Build.{advancement, byAdvancement, buildOn, build, wagner}
+use Rattle.wagner.specs.declared.order.Order.the-variants.{Advance}
+use Rattle.wagner.specs.Next.{advancement, byAdvancement, nextBy}
+use Rattle.wagner.specs.Build.{buildOn, build, wagner}
 use Rattle.wagner.specs.Rising.{InOrder, allPlaced, placedNext, Rising, none, one, more}
-use Rattle.wagner.proofs.Whole.{advancement-chooses}
+use Rattle.wagner.proofs.Whole.{order-chooses}
 use Rattle.wagner.proofs.BuildLength.{place-growth, place-rows}
 
 -- taxa in order have rising keys
@@ -92,7 +94,7 @@ module _ (n m : ℕ) (taxa : 1 ≤ n) (key : ℕ → ℕ) where
   order-on (suc count) k tree rows g all keys =
       let b : ℕ = byAdvancement difference n tree rows in
       let less : taxaPlaced n tree < n = omega (arith, growing-placed tree n taxa (g .growing)) in
-      let u : Unplaced n tree b = advancement-chooses difference n tree rows less in
+      let u : Unplaced n tree b = unfold nextBy in order-chooses difference Advance n tree rows less in
       let placed : AfterPlacing = place difference n tree rows b in
       let after = place-growth difference n m k tree rows g (difference-laws m) b u in
       let kept = place-rows difference n m k tree rows g (difference-laws m) b u in
@@ -144,8 +146,8 @@ all-left (suc k) h =
 -- n rows of m codes, n from 1 to 64
 module _ (n m : ℕ) (taxa : 1 ≤ n) (most : n ≤ 64) (rows : List (List ℤ)) (all : length rows ≡ n) (each : OfLength m rows) where
   -- of the taxa 2 to n each placed taxon is, of those not yet placed, by rising row, the first of least advancement
-  pub wagner-order : InOrder (advancement difference rows) (numbers 2 (n - 1)) (taxaOf (wagner difference n rows .placements))
-  unfolding wagner build
+  pub wagner-order : InOrder (advancement difference rows) (numbers 2 (n - 1)) (taxaOf (wagner difference Advance n rows .placements))
+  unfolding wagner build nextBy
   wagner-order =
       let start : Growth n m 1 noBranches rows =
       record { growing = alone noBranches-none; room = rw noBranches-places (omega arith); full = omega arith; each = each } in
@@ -153,5 +155,5 @@ module _ (n m : ℕ) (taxa : 1 ≤ n) (most : n ≤ 64) (rows : List (List ℤ))
       (order-on n m taxa (advancement difference rows) (n - 1) 1 noBranches rows start (omega arith) (λ v low high. refl))
 
   -- so the advancements rise along the placements
-  pub wagner-rises : Rising (advancement difference rows) (taxaOf (wagner difference n rows .placements))
+  pub wagner-rises : Rising (advancement difference rows) (taxaOf (wagner difference Advance n rows .placements))
   wagner-rises = order-rises (advancement difference rows) wagner-order

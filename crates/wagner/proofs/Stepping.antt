@@ -10,6 +10,7 @@ use Rattle.matrix.specs.Questions.{askMatrix}
 use Rattle.matrix.specs.declared.refusal.Refusal.{Refusal}
 use Rattle.matrix.specs.declared.refusal.Asked.{Asked}
 use Rattle.matrix.specs.declared.refusal.Asked.the-variants.{Passed, Refused}
+use Rattle.branching.specs.declared.placement.Nearest.{Nearest}
 use Rattle.branching.specs.declared.placement.Placement.{Placement}
 use Rattle.branching.specs.declared.placement.Unasked.{Unasked}
 use Rattle.branching.specs.Ancestors.{ancestors}
@@ -17,28 +18,35 @@ use Rattle.branching.specs.Nodes.{nodesOut}
 use Rattle.branching.specs.Unasked.{UnaskedDone, unasked}
 use Rattle.wagner.specs.declared.build.Building.{Building}
 use Rattle.wagner.specs.declared.build.WagnerTree.{WagnerTree}
+use Rattle.wagner.specs.declared.order.Order.{Order}
 use Rattle.wagner.specs.Answers.{buildSays, placementsIn, BuildDone}
-use Rattle.wagner.specs.Steps.{Begun, nextPlacement, WithPlacement, OneMore, BuiltFrom}
+use Rattle.wagner.specs.Order.{keyOf, Keys}
+use Rattle.wagner.specs.Closeness.{AllChanged}
+use Rattle.wagner.specs.Steps.{Begun, nextOf, nextPlacement, WithPlacement, OneMore, BuiltFrom}
 
 -- the unplaced taxon of least key placed
-module _ (now new : List ℤ) (n m : ℕ) (key : ℕ → ℕ) (before : Building) (b : ℕ) (done : Unasked)
-    (chosen : b ≡ leastOf key (nodesOut (ancestors (before .tree)) (numbers 1 n)))
+module _ (now new : List ℤ) (n m : ℕ) (before : Building) (b : ℕ) (done : Unasked)
+    (chosen : b ≡ leastOf (keyOf (before .keys)) (nodesOut (ancestors (before .tree)) (numbers 1 n)))
     (placed : UnaskedDone now new n m (ancestors (before .tree)) b done) where
   -- what was done
-  pub next-done : done .placement ≡ nextPlacement now n m key before .placement
-  unfolding nextPlacement
+  pub next-done : done .placement ≡ nextPlacement now n m before .placement
+  unfolding nextPlacement nextOf
   next-done = placed .placement ∙ ap (λ (v : ℕ). unasked now n m (ancestors (before .tree)) v .placement) chosen
 
-  -- the build with it
-  pub next-more : (r : Building) → WithPlacement before done r → OneMore now new n m key before r
-  unfolding nextPlacement
-  next-more r more =
+  -- the build with it, and the keys that were found
+  pub next-more : (order : Order) (keys : List Nearest)
+      → ((codes : List ℤ) (old : List ℕ) → AllChanged codes new n m old (ancestors (done .tree)) (done .placement)
+      → Keys order codes n m old (before .keys) → Keys order new n m (ancestors (done .tree)) keys)
+      → (r : Building) → WithPlacement before done keys r → OneMore order now new n m before r
+  unfolding nextPlacement nextOf
+  next-more order keys renewed r more =
       record {
         tree = ap ancestors (more .tree) ∙ placed .tree ∙ ap (λ (v : ℕ). unasked now n m (ancestors (before .tree)) v .tree) chosen;
         placements = more .placements ∙ ap (λ (p : Placement). set (before .placements) (before .count) p) next-done;
         count = more .count;
         more = more .more ∙ ap (λ (p : Placement). before .length + p .added) next-done;
         matrix = placed .matrix ∙ ap (λ (v : ℕ). unasked now n m (ancestors (before .tree)) v .codes) chosen;
+        keys = λ changed kept. rw (more .tree, more .keys) (renewed now (ancestors (before .tree)) (rw (more .tree, ← next-done) at changed) kept);
       }
 
 -- what is handed back of a build, with what the questions answered
@@ -51,12 +59,12 @@ handed building asked = record {
   length = building .length;
 }
 
-module _ (codes : List ℤ) (n m : ℕ) (building : Building) where
+module _ (order : Order) (codes : List ℤ) (n m : ℕ) (building : Building) where
   -- a refusal: row 1 alone, no placement, and the matrix as before
-  pub build-refused : (refusal : Refusal) → askMatrix codes n m ≡ Refused refusal → Begun building
-      → BuildDone codes codes n m (handed building (Refused refusal))
+  pub build-refused : (refusal : Refusal) → askMatrix codes n m ≡ Refused refusal → (keys : List Nearest) → Begun keys building
+      → BuildDone order codes codes n m (handed building (Refused refusal))
   unfolding buildSays placementsIn
-  build-refused refusal told begun =
+  build-refused refusal told keys begun =
       record {
         says = rw told;
         tree = rw told (begun .tree);
@@ -67,8 +75,8 @@ module _ (codes : List ℤ) (n m : ℕ) (building : Building) where
       }
 
   -- where the questions pass: the Wagner tree
-  pub build-passed : (new : List ℤ) → askMatrix codes n m ≡ Passed → BuiltFrom codes new n m building
-      → BuildDone codes new n m (handed building Passed)
+  pub build-passed : (new : List ℤ) → askMatrix codes n m ≡ Passed → BuiltFrom order codes new n m building
+      → BuildDone order codes new n m (handed building Passed)
   unfolding buildSays placementsIn
   build-passed new told built =
       record {

@@ -4,11 +4,9 @@ use mathlib.Core.List.{List, [], _∷_, _++_, append-assoc, append-nil}
 use Prim.Native.Nat.{ℕ, suc, _+_, _*_, _-_, _≤_, _<_}
 use native.Mathlib.Omega.{arith}
 use lib.IntN.{ℤ}
-use lib.ListN.{length, set, drop, length-append, length-drop, drop-of-length-le}
+use lib.ListN.{length, getD, set, drop, length-append, length-drop, drop-of-length-le}
 use lib.Seq.{drop-append-le}
 use Rattle.lists.specs.Filled.{filled}
-use Rattle.lists.specs.Least.{leastOf}
-use Rattle.lists.specs.Numbers.{numbers}
 use Rattle.lists.specs.Over.{over, stripes}
 use Rattle.lists.specs.Sums.{sumOver}
 use Rattle.lists.proofs.Filled.{filled-snoc}
@@ -19,26 +17,30 @@ use Rattle.matrix.specs.NodeRows.{rowsOf, withRow, withRows}
 use Rattle.matrix.specs.Questions.{LentMatrix}
 use Rattle.matrix.proofs.NodeRows.{length-rowsOf}
 use Rattle.difference.specs.Rows.{difference}
+use Rattle.branching.specs.declared.placement.Nearest.{Nearest}
 use Rattle.branching.specs.declared.placement.Placement.{Placement}
 use Rattle.branching.specs.Ancestors.{ancestors}
-use Rattle.branching.specs.Nodes.{nodesOut, Unplaced}
+use Rattle.branching.specs.Nodes.{Unplaced}
 use Rattle.branching.specs.Facts.{alone}
 use Rattle.branching.specs.Hanging.{noBranches}
 use Rattle.branching.specs.Placing.{AfterPlacing, place}
 use Rattle.branching.specs.Placed.{lastRow, placeIn, matrixPlaced}
-use Rattle.branching.specs.Unasked.{noPlacement, unasked}
+use Rattle.branching.specs.Unasked.{noPlacement, noInterval, unasked}
 use Rattle.branching.proofs.Nodes.{noBranches-none, noBranches-places}
 use Rattle.branching.proofs.Unasked.{AsPlaced, unasked-placed, no-row}
 use Rattle.branching.proofs.Standing.{Standing, standing-placed, standing-test, last-is, Step, first, later, placed-step, added-most}
 use Rattle.branching.proofs.Standing.{placed-other, placed-rows, placed-standing}
 use Rattle.wagner.specs.declared.build.Building.{Building}
-use Rattle.wagner.specs.Build.{Built, addedLength, byAdvancement, buildOn, build, wagner, wagnerLength}
+use Rattle.wagner.specs.declared.order.Order.{Order}
+use Rattle.wagner.specs.Next.{nextBy}
+use Rattle.wagner.specs.Build.{Built, addedLength, buildOn, build, wagner, wagnerLength}
 use Rattle.wagner.specs.Matrix.{matrixAfter}
 use Rattle.wagner.specs.Answers.{mostPlacements, wagnerIn}
-use Rattle.wagner.specs.Order.{keyOf, Advancements}
-use Rattle.wagner.specs.Steps.{Begun, nextPlacement, OneMore, BuiltFrom}
-use Rattle.wagner.proofs.Choosing.{next-advancement}
-use Rattle.wagner.proofs.Whole.{advancement-chooses}
+use Rattle.wagner.specs.Order.{Keys, Advancements}
+use Rattle.wagner.specs.Steps.{Begun, nextOf, nextPlacement, OneMore, BuiltFrom}
+use Rattle.wagner.proofs.Choosing.{alone-right, next-right}
+use Rattle.wagner.proofs.Changing.{placed-changed}
+use Rattle.wagner.proofs.Whole.{order-chooses}
 use Rattle.wagner.proofs.Difference.{wagner-length}
 use Rattle.wagner.proofs.Matrix.{rowsOf-each}
 
@@ -47,11 +49,11 @@ abbrev pub rowsNow : List ℤ → ℕ → ℕ → List ℕ → List (List ℤ)
 rowsNow now n m tree = rowsOf now m (lastRow n tree)
 
 -- what is left of a build
-abbrev pub left : List ℤ → ℕ → ℕ → ℕ → List ℕ → Built
-left now n m placed tree = buildOn difference (byAdvancement difference) n (n - placed) tree (rowsNow now n m tree)
+abbrev pub left : Order → List ℤ → ℕ → ℕ → ℕ → List ℕ → Built
+left order now n m placed tree = buildOn difference (nextBy difference order) n (n - placed) tree (rowsNow now n m tree)
 
 -- of a build from the matrix `codes`, so many taxa are placed by the placements `done`, and the matrix now is `now`
-pub record UnderWay (codes now : List ℤ) (n m placed : ℕ) (building : Building) (done : List Placement) : Type 0 where
+pub record UnderWay (order : Order) (codes now : List ℤ) (n m placed : ℕ) (building : Building) (done : List Placement) : Type 0 where
   pub standing : Standing now n m placed (ancestors (building .tree))
   pub taxa : (v : ℕ) → 1 ≤ v → v ≤ n → row now m v ≡ row codes m v
   pub written : now ≡ withRows codes (suc n) (drop n (rowsNow now n m (ancestors (building .tree))))
@@ -60,12 +62,13 @@ pub record UnderWay (codes now : List ℤ) (n m placed : ℕ) (building : Buildi
   pub many : suc (length done) ≡ placed
   pub whole : building .length ≡ addedLength done
   pub most : building .length ≤ length done * 255744
-  pub leftTree : wagnerIn codes n m .tree ≡ left now n m placed (ancestors (building .tree)) .tree
-  pub leftRows : wagnerIn codes n m .rows ≡ left now n m placed (ancestors (building .tree)) .rows
-  pub leftPlacements : wagnerIn codes n m .placements ≡ done ++ left now n m placed (ancestors (building .tree)) .placements
+  pub keys : Keys order now n m (ancestors (building .tree)) (building .keys)
+  pub leftTree : wagnerIn order codes n m .tree ≡ left order now n m placed (ancestors (building .tree)) .tree
+  pub leftRows : wagnerIn order codes n m .rows ≡ left order now n m placed (ancestors (building .tree)) .rows
+  pub leftPlacements : wagnerIn order codes n m .placements ≡ done ++ left order now n m placed (ancestors (building .tree)) .placements
 
 -- before the first placement
-module _ (codes : List ℤ) (n m : ℕ) (lent : LentMatrix codes n m) where
+module _ (order : Order) (codes : List ℤ) (n m : ℕ) (lent : LentMatrix codes n m) where
   -- row 1 alone stands in the matrix
   alone-standing : Standing codes n m 1 noBranches
   alone-standing =
@@ -82,13 +85,21 @@ module _ (codes : List ℤ) (n m : ℕ) (lent : LentMatrix codes n m) where
       sym (ap (withRows codes (suc n)) (drop-of-length-le (rowsNow codes n m noBranches) past) ∙ no-row codes (suc n))
 
   -- all is left
-  alone-left : wagnerIn codes n m ≡ left codes n m 1 noBranches
+  alone-left : wagnerIn order codes n m ≡ left order codes n m 1 noBranches
   unfolding wagnerIn wagner build
-  alone-left = ap (λ (last : ℕ). buildOn difference (byAdvancement difference) n (n - 1) noBranches (rowsOf codes m last)) (sym alone-last)
+  alone-left = ap (λ (last : ℕ). buildOn difference (nextBy difference order) n (n - 1) noBranches (rowsOf codes m last)) (sym alone-last)
 
-  pub begun-underWay : (building : Building) → Begun building → UnderWay codes codes n m 1 building []
+  -- by advancement or closeness, the keys before the first link are the advancements
+  alone-keys : (keys : List Nearest) → Advancements codes n m keys → Keys order codes n m noBranches keys
+  alone-keys keys known = record {
+    size = known .size;
+    each = λ v u. alone-right order codes n m v (getD keys v noInterval) (known .each v (omega (arith, u .other)) (u .taxon));
+  }
+
+  pub begun-underWay : (keys : List Nearest) → Advancements codes n m keys → (building : Building) → Begun keys building
+      → UnderWay order codes codes n m 1 building []
   unfolding addedLength sumOver
-  begun-underWay building begun =
+  begun-underWay keys known building begun =
       record {
         standing = rw (begun .tree) alone-standing;
         taxa = λ v low high. refl;
@@ -98,6 +109,7 @@ module _ (codes : List ℤ) (n m : ℕ) (lent : LentMatrix codes n m) where
         many = refl;
         whole = begun .none;
         most = omega (arith, begun .none);
+        keys = rw (begun .tree, begun .keys) (alone-keys keys known);
         leftTree = rw (begun .tree) (ap (λ (built : Built). built .tree) alone-left);
         leftRows = rw (begun .tree) (ap (λ (built : Built). built .rows) alone-left);
         leftPlacements = rw (begun .tree) (ap (λ (built : Built). built .placements) alone-left);
@@ -112,26 +124,26 @@ one-behind codes n last hs r h e =
     ap (λ (p : ℕ). over p r (stripes columns (rowStart (suc n)) hs codes)) place ∙ sym (stripes-snoc columns (rowStart (suc n)) hs r codes)
 
 -- one placement more
-module _ (codes now : List ℤ) (n m placed : ℕ) (before : Building) (done : List Placement) (w : UnderWay codes now n m placed before done)
-    (less : placed < n) (keys : List ℕ) (known : Advancements codes n m keys) where
+module _ (order : Order) (codes now : List ℤ) (n m placed : ℕ) (before : Building) (done : List Placement)
+    (w : UnderWay order codes now n m placed before done) (less : placed < n) where
   -- the tree before it
   abbrev tree : List ℕ
   tree = ancestors (before .tree)
 
   -- the taxon to place
   abbrev b : ℕ
-  b = leastOf (keyOf keys) (nodesOut tree (numbers 1 n))
+  b = nextOf n before
 
-  -- it is the one of least advancement
-  chosen : b ≡ byAdvancement difference n tree (rowsNow now n m tree)
-  chosen =
-      next-advancement codes now n m (lastRow n tree) keys tree known (omega (arith, last-is now n m placed tree (w .standing))) (w .taxa)
+  -- it is the next one in the order of placing
+  chosen : b ≡ nextBy difference order n tree (rowsNow now n m tree)
+  unfolding nextOf
+  chosen = next-right now n m placed tree (w .standing) order (before .keys) (w .keys)
 
   -- which is not placed
   fresh : Unplaced n tree b
   fresh =
       rw chosen
-      (advancement-chooses difference n tree (rowsNow now n m tree) (omega (arith, standing-placed now n m placed tree (w .standing))))
+      (order-chooses difference order n tree (rowsNow now n m tree) (omega (arith, standing-placed now n m placed tree (w .standing))))
 
   -- the placement is the one by the rows of the tree's nodes
   same : AsPlaced now n m tree b (unasked now n m tree b)
@@ -144,7 +156,7 @@ module _ (codes now : List ℤ) (n m placed : ℕ) (before : Building) (done : L
   ours = placeIn now n m tree b
 
   -- it adds at most 255,744
-  pub next-most : nextPlacement now n m (keyOf keys) before .placement .added ≤ 255744
+  pub next-most : nextPlacement now n m before .placement .added ≤ 255744
   unfolding nextPlacement
   next-most = rw (same .placement) (added-most now n m placed tree (w .standing) b fresh)
 
@@ -171,28 +183,28 @@ module _ (codes now : List ℤ) (n m placed : ℕ) (before : Building) (done : L
 
   -- what is left behind the placement
   abbrev rest : Built
-  rest = left (matrixPlaced now n m tree b) n m (placed + 1) (ours .tree)
+  rest = left order (matrixPlaced now n m tree b) n m (placed + 1) (ours .tree)
 
   -- what was left is the placement, and what is left behind it
-  left-next : left now n m placed tree ≡ record { tree = rest .tree; rows = rest .rows; placements = ours .placement ∷ rest .placements }
+  left-next : left order now n m placed tree ≡ record { tree = rest .tree; rows = rest .rows; placements = ours .placement ∷ rest .placements }
   unfolding buildOn placeIn
   left-next =
       let count : n - placed ≡ suc (n - (placed + 1)) = omega arith in
       let rows : List (List ℤ) = rowsNow now n m tree in
-      let rule : ℕ → List ℕ → List (List ℤ) → ℕ = byAdvancement difference in
+      let rule : ℕ → List ℕ → List (List ℤ) → ℕ = nextBy difference order in
       ap (λ (k : ℕ). buildOn difference rule n k tree rows) count
       ∙ ap (λ (v : ℕ). goesOn (n - (placed + 1)) (place difference n tree rows v) (place difference n tree rows v .rows)) (sym chosen)
       ∙ ap (goesOn (n - (placed + 1)) (place difference n tree rows b)) (sym rows-next)
     where
       goesOn : ℕ → AfterPlacing → List (List ℤ) → Built
       goesOn count p rows = record {
-        tree = buildOn difference (byAdvancement difference) n count (p .tree) rows .tree;
-        rows = buildOn difference (byAdvancement difference) n count (p .tree) rows .rows;
-        placements = p .placement ∷ buildOn difference (byAdvancement difference) n count (p .tree) rows .placements;
+        tree = buildOn difference (nextBy difference order) n count (p .tree) rows .tree;
+        rows = buildOn difference (nextBy difference order) n count (p .tree) rows .rows;
+        placements = p .placement ∷ buildOn difference (nextBy difference order) n count (p .tree) rows .placements;
       }
 
-  pub next-underWay : (new : List ℤ) (r : Building) → OneMore now new n m (keyOf keys) before r
-      → UnderWay codes new n m (placed + 1) r (done ++ (ours .placement ∷ []))
+  pub next-underWay : (new : List ℤ) (r : Building) → OneMore order now new n m before r
+      → UnderWay order codes new n m (placed + 1) r (done ++ (ours .placement ∷ []))
   unfolding nextPlacement addedLength
   next-underWay new r more =
       let grown : ancestors (r .tree) ≡ ours .tree = more .tree ∙ same .tree in
@@ -221,6 +233,8 @@ module _ (codes now : List ℤ) (n m placed : ℕ) (before : Building) (done : L
             added ∙ ap (λ (k : ℕ). k + ours .placement .added) (w .whole)
             ∙ sym (sum-snoc (λ (p : Placement). p .added) done (ours .placement));
         most = omega arith;
+        keys =
+            more .keys (rw (grown, held, same .placement) (placed-changed now n m placed tree (w .standing) b fresh)) (w .keys);
         leftTree = rw (grown, held) (w .leftTree ∙ ap (λ (built : Built). built .tree) left-next);
         leftRows = rw (grown, held) (w .leftRows ∙ ap (λ (built : Built). built .rows) left-next);
         leftPlacements = rw (grown, held)
@@ -230,15 +244,15 @@ module _ (codes now : List ℤ) (n m placed : ℕ) (before : Building) (done : L
       }
 
 -- all taxa placed, the build is done
-pub done-underWay : (codes now : List ℤ) (n m placed : ℕ) (building : Building) (done : List Placement) → LentMatrix codes n m
-    → UnderWay codes now n m placed building done → placed ≡ n → BuiltFrom codes now n m building
+pub done-underWay : (order : Order) (codes now : List ℤ) (n m placed : ℕ) (building : Building) (done : List Placement) → LentMatrix codes n m
+    → UnderWay order codes now n m placed building done → placed ≡ n → BuiltFrom order codes now n m building
 unfolding buildOn matrixAfter
-done-underWay codes now n m placed building done lent w all =
+done-underWay order codes now n m placed building done lent w all =
     let tree : List ℕ = ancestors (building .tree) in
     let none : n - placed ≡ 0 = omega arith in
-    let nothing : left now n m placed tree ≡ record { tree = tree; rows = rowsNow now n m tree; placements = [] } =
-    ap (λ (k : ℕ). buildOn difference (byAdvancement difference) n k tree (rowsNow now n m tree)) none in
-    let list : wagnerIn codes n m .placements ≡ done =
+    let nothing : left order now n m placed tree ≡ record { tree = tree; rows = rowsNow now n m tree; placements = [] } =
+    ap (λ (k : ℕ). buildOn difference (nextBy difference order) n k tree (rowsNow now n m tree)) none in
+    let list : wagnerIn order codes n m .placements ≡ done =
     w .leftPlacements ∙ ap (λ (built : Built). done ++ built .placements) nothing ∙ append-nil done in
     let rows = w .leftRows ∙ ap (λ (built : Built). built .rows) nothing in
     record {
@@ -249,8 +263,8 @@ done-underWay codes now n m placed building done lent w all =
       whole = w .whole ∙ ap addedLength (sym list) ∙ sym length-is;
     }
   where
-    length-is : wagnerLength difference n (wagnerIn codes n m) ≡ addedLength (wagnerIn codes n m .placements)
+    length-is : wagnerLength difference n (wagnerIn order codes n m) ≡ addedLength (wagnerIn order codes n m .placements)
     length-is =
         unfold wagnerIn in
-        wagner-length n m (lent .taxon) (lent .taxa) (rowsOf codes m n) (length-rowsOf codes m n)
+        wagner-length order n m (lent .taxon) (lent .taxa) (rowsOf codes m n) (length-rowsOf codes m n)
         (rowsOf-each codes m n (lent .characters) (omega (arith, lent .full, lent .taxa)))

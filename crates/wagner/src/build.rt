@@ -1,6 +1,10 @@
-// The whole build: from row 1 alone, taxon after taxon is placed by rising advancement, the lower row first among equals.
+// The whole build: from row 1 alone, taxon after taxon is placed, by rising advancement or the closest first.
+use crate::closeness::next_keys;
+use crate::order::Order;
 use crate::order::advancements;
 use crate::order::next_taxon;
+use crate::order::no_keys;
+use branching::placement::Nearest;
 use branching::placement::Placement;
 use branching::placement::Unasked;
 use branching::placement::no_placement;
@@ -10,9 +14,8 @@ use matrix::refusal::Asked;
 ghost use mathlib.Core.Path.{_≡_};
 ghost use Prim.Native.Nat.{_+_, _≤_, _<_, _^_};
 ghost use lib.ListN.{length};
-ghost use Rattle.matrix.specs.Shape.{mostTaxa};
+ghost use Rattle.matrix.specs.Shape.{mostTaxa, mostCharacters};
 ghost use Rattle.matrix.specs.Questions.{LentMatrix, askMatrix};
-ghost use Rattle.wagner.specs.Order.{keyOf};
 ghost use Rattle.wagner.specs.Steps.{Begun, nextPlacement, WithPlacement, OneMore, BuiltFrom};
 ghost use Rattle.wagner.specs.Answers.{BuildDone};
 
@@ -29,17 +32,18 @@ pub struct WagnerTree {
     pub length: u64,
 }
 
-// A build under way.
+// A build under way: what is placed, and the keys of the taxa by which the next one is chosen.
 struct Building {
     tree: Tree,
     count: usize,
     placements: [Placement; 63],
     length: u64,
+    keys: [Nearest; 65],
 }
 
-// A build before the first placement.
-fn begun() -> Building
-    ensures { λ r. ⌜ Begun r ⌝ }
+// A build before the first placement, with these keys.
+fn begun(keys: [Nearest; 65]) -> Building
+    ensures { λ r. ⌜ Begun keys r ⌝ }
 {
     let none = no_placement();
     Building {
@@ -47,13 +51,14 @@ fn begun() -> Building
         count: 0,
         placements: [none; MOST_PLACEMENTS],
         length: 0,
+        keys,
     }
 }
 
-// A build with one placement more.
-fn with_placement(mut building: Building, done: Unasked) -> Building
+// A build with one placement more, and the keys after it.
+fn with_placement(mut building: Building, done: Unasked, keys: [Nearest; 65]) -> Building
     requires { ⌜ (building .count < 63) × (building .length + done .placement .added < 2 ^ 64) ⌝ }
-    ensures { λ r. ⌜ WithPlacement building done r ⌝ }
+    ensures { λ r. ⌜ WithPlacement building done keys r ⌝ }
 {
     let at = building.count;
     let tree = done.tree;
@@ -62,50 +67,49 @@ fn with_placement(mut building: Building, done: Unasked) -> Building
     building.placements[at] = placement;
     building.count = at + 1;
     building.length = building.length + placement.added;
+    building.keys = keys;
     building
 }
 
 // The next taxon placed.
-fn place_next(
-    building: Building,
-    matrix: &mut [i32],
-    n: usize,
-    m: usize,
-    keys: [u64; 65],
-) -> Building
-    requires { ⌜ (n ≤ mostTaxa) × (building .count < 63)
-        × (building .length + nextPlacement (now matrix) n m (keyOf keys) building .placement .added < 2 ^ 64) ⌝ }
-    ensures { λ r. ⌜ OneMore (now (matrix .entry)) (now (matrix .exit)) n m (keyOf keys) building r ⌝ }
+fn place_next(building: Building, order: Order, matrix: &mut [i32], n: usize, m: usize) -> Building
+    requires { ⌜ (n ≤ mostTaxa) × (m ≤ mostCharacters) × (building .count < 63)
+        × (building .length + nextPlacement (now matrix) n m building .placement .added < 2 ^ 64) ⌝ }
+    ensures { λ r. ⌜ OneMore order (now (matrix .entry)) (now (matrix .exit)) n m building r ⌝ }
 {
     let tree = building.tree;
+    let keys = building.keys;
     let b = next_taxon(tree, keys, n);
     let done = tree.place_unasked(matrix, n, m, b);
-    with_placement(building, done)
+    let larger = done.tree;
+    let placement = done.placement;
+    let renewed = next_keys(order, keys, matrix, n, m, larger, placement);
+    with_placement(building, done, renewed)
 }
 
 // The Wagner tree of a matrix that no question refuses.
-fn grow(matrix: &mut [i32], n: usize, m: usize) -> Building
+fn grow(matrix: &mut [i32], n: usize, m: usize, order: Order) -> Building
     requires { ⌜ LentMatrix (now matrix) n m ⌝ }
-    ensures { λ r. ⌜ BuiltFrom (now (matrix .entry)) (now (matrix .exit)) n m r ⌝ }
+    ensures { λ r. ⌜ BuiltFrom order (now (matrix .entry)) (now (matrix .exit)) n m r ⌝ }
 {
     let keys = advancements(matrix, n, m);
-    let mut building = begun();
+    let mut building = begun(keys);
     let mut placed = 1;
     while placed < n {
-        building = place_next(building, matrix, n, m, keys);
+        building = place_next(building, order, matrix, n, m);
         placed += 1;
     }
     building
 }
 
 // The Wagner tree after the questions on the matrix: built where they passed; a refusal gives row 1 alone, and writes nothing.
-fn build_asked(asked: Asked, matrix: &mut [i32], n: usize, m: usize) -> WagnerTree
+fn build_asked(asked: Asked, matrix: &mut [i32], n: usize, m: usize, order: Order) -> WagnerTree
     requires { ⌜ asked ≡ askMatrix (now matrix) n m ⌝ }
-    ensures { λ r. ⌜ BuildDone (now (matrix .entry)) (now (matrix .exit)) n m r ⌝ }
+    ensures { λ r. ⌜ BuildDone order (now (matrix .entry)) (now (matrix .exit)) n m r ⌝ }
 {
     match asked {
         Asked::Refused(refusal) => {
-            let none = begun();
+            let none = begun(no_keys());
             let tree = none.tree;
             let placements = none.placements;
             WagnerTree {
@@ -117,7 +121,7 @@ fn build_asked(asked: Asked, matrix: &mut [i32], n: usize, m: usize) -> WagnerTr
             }
         }
         Asked::Passed => {
-            let built = grow(matrix, n, m);
+            let built = grow(matrix, n, m, order);
             let tree = built.tree;
             let placements = built.placements;
             WagnerTree {
@@ -131,11 +135,11 @@ fn build_asked(asked: Asked, matrix: &mut [i32], n: usize, m: usize) -> WagnerTr
     }
 }
 
-// The Wagner tree of a lent matrix of n taxa and m characters. The codes of the HTUs are written into their rows of the matrix; a refusal
+// The Wagner tree of a lent matrix of n taxa and m characters, in an order of placing. The codes of the HTUs are written into their rows of the matrix; a refusal
 // writes nothing.
-pub fn build(matrix: &mut [i32], n: usize, m: usize) -> WagnerTree
-    ensures { λ r. ⌜ BuildDone (now (matrix .entry)) (now (matrix .exit)) n m r ⌝ }
+pub fn build(matrix: &mut [i32], n: usize, m: usize, order: Order) -> WagnerTree
+    ensures { λ r. ⌜ BuildDone order (now (matrix .entry)) (now (matrix .exit)) n m r ⌝ }
 {
     let asked = ask_matrix(matrix, n, m);
-    build_asked(asked, matrix, n, m)
+    build_asked(asked, matrix, n, m, order)
 }

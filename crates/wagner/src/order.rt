@@ -1,35 +1,53 @@
 // Which taxon is placed next: of those not yet placed, by rising row, the first of least key. By advancement, a taxon's key is its
-// difference from row 1.
+// difference from row 1; by closeness it is the length that the taxon's placement would add.
+use branching::placement::Nearest;
 use branching::tree::Tree;
 use difference::rows::difference;
 use matrix::rows::row;
 ghost use mathlib.Core.Path.{_≡_};
 ghost use mathlib.Core.List.{List};
 ghost use Prim.Native.Nat.{ℕ, _≤_};
+ghost use lib.ListN.{replicate};
 ghost use Rattle.matrix.specs.Shape.{mostTaxa, mostCharacters};
 ghost use Rattle.branching.specs.Ancestors.{ancestors, ancestor};
 ghost use Rattle.branching.specs.Nodes.{inTree};
-ghost use Rattle.wagner.specs.Order.{keyOf, Advancements, Sooner, NextTaxon};
+ghost use Rattle.branching.specs.Unasked.{noInterval};
+ghost use Rattle.wagner.specs.Order.{keyCount, keyOf, Advancements, Sooner, NextTaxon};
 
 // A place for the key of each taxon, by row; place 0 is that of no taxon.
 pub const KEYS: usize = 65;
 
-// The advancement of each of the taxa 1 to n: its difference from row 1.
-pub(crate) fn advancements(matrix: &[i32], n: usize, m: usize) -> [u64; 65]
+// The order of placing: by rising advancement, or the taxon first that is closest to an interval of the tree as it stands.
+pub enum Order {
+    Advance,
+    Closest,
+}
+
+// No interval, and 0 for the key.
+pub(crate) fn no_keys() -> [Nearest; 65]
+    ensures { λ r. ⌜ r ≡ replicate keyCount noInterval ⌝ }
+{
+    let none = Nearest { lower: 0, added: 0 };
+    [none; KEYS]
+}
+
+// The advancement of each of the taxa 1 to n, its difference from row 1, as the key; and no interval.
+pub(crate) fn advancements(matrix: &[i32], n: usize, m: usize) -> [Nearest; 65]
     requires { ⌜ (n ≤ mostTaxa) × (m ≤ mostCharacters) ⌝ }
     ensures { λ r. ⌜ Advancements (now (matrix .entry)) n m r ⌝ }
 {
-    let mut keys = [0; KEYS];
+    let mut keys = no_keys();
     let mut v = 1;
     while v <= n {
-        keys[v] = difference(row(matrix, m, v), row(matrix, m, 1));
+        let added = difference(row(matrix, m, v), row(matrix, m, 1));
+        keys[v] = Nearest { lower: 0, added };
         v += 1;
     }
     keys
 }
 
 // Whether taxon v is placed, by its immediate ancestor, the node above: it is row 1, or it has one.
-fn is_placed(v: usize, above: usize) -> bool
+pub(crate) fn is_placed(v: usize, above: usize) -> bool
     ensures { λ r. ⌜ ((tree : List ℕ) → above ≡ ancestor tree v → r ≡ inTree tree v) ⌝ }
 {
     if v == 1 {
@@ -58,7 +76,7 @@ fn sooner(best: usize, v: usize, placed: bool, own: u64, least: u64) -> usize
 }
 
 // The taxon to place next, and 0 if all are placed.
-pub(crate) fn next_taxon(tree: Tree, keys: [u64; 65], n: usize) -> usize
+pub(crate) fn next_taxon(tree: Tree, keys: [Nearest; 65], n: usize) -> usize
     requires { ⌜ n ≤ mostTaxa ⌝ }
     ensures { λ r. ⌜ NextTaxon (keyOf keys) n (ancestors tree) r ⌝ }
 {
@@ -67,7 +85,7 @@ pub(crate) fn next_taxon(tree: Tree, keys: [u64; 65], n: usize) -> usize
     let mut v = 1;
     while v <= n {
         let placed = is_placed(v, places[v]);
-        best = sooner(best, v, placed, keys[v], keys[best]);
+        best = sooner(best, v, placed, keys[v].added, keys[best].added);
         v += 1;
     }
     best

@@ -20,6 +20,7 @@ returns c =
       placements = ap (replicate 63) (c .before .no-placement .ensures);
       count = refl;
       none = refl;
+      keys = refl;
     }
 
 pub begun-spec : {M : Type 1} → statement M

@@ -10,6 +10,9 @@ use Rattle.wagner.proofs.build.build_asked.Tie as tie
 enum-known-asked : tie.Need-enum-known-asked
 enum-known-asked c = search needs
 
+no-keys-requires : tie.Need-no-keys-requires
+no-keys-requires c κs = search needs
+
 begun-requires : tie.Need-begun-requires
 begun-requires c κs = search needs
 
@@ -23,8 +26,8 @@ grow-requires c κs =
 
 returns : tie.Need-returns
 returns c =
-    let told = c .before .before .before .before in
-    build-refused _ _ _ _ _ (sym (told .before .before .pre) ∙ told .asked .given .1) (c .before .before .begun .ensures)
+    let told = c .before .before .before .before .before in
+    build-refused _ _ _ _ _ _ (sym (told .before .before .pre) ∙ told .asked .given .1) _ (c .before .before .begun .ensures)
 
 same-length : tie.Need-same-length
 same-length c = search needs
@@ -33,13 +36,14 @@ returns-2 : tie.Need-returns-2
 returns-2 c =
     let grown = c .before .before .before in
     let told = grown .before .before in
-    build-passed _ _ _ _ _ (sym (told .before .before .pre) ∙ told .enum-told .given .1) (grown .grow .ensures)
+    build-passed _ _ _ _ _ _ (sym (told .before .before .pre) ∙ told .enum-told .given .1) (grown .grow .ensures)
 
 pub build-asked-spec : {M : Type 1} → statement M
 build-asked-spec =
     tie.close
     (tie.spec
     enum-known-asked
+    no-keys-requires
     begun-requires
     enum-told
     grow-requires

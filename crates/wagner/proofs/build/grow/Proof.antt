@@ -1,7 +1,6 @@
 -- `wagner::build::grow` meets its contract. The loop's invariant: the build is under way, and what is left of it goes on from here.
 -- Assumes nothing.
 use Rattle.branching.specs.declared.placement.Placement.{Placement}
-use Rattle.wagner.specs.Order.{Advancements}
 use Rattle.matrix.specs.Questions.{LentMatrix}
 use lib.ListN.{length}
 use mathlib.Core.List.{[], List}
@@ -14,16 +13,15 @@ use Rattle.wagner.proofs.build.grow.Statement.{statement}
 use Rattle.wagner.proofs.build.grow.Tie as tie
 
 abbrev Inv-loop : tie.InvT-loop
-Inv-loop matrix₀ n m keys building₀ placed₀ matrix building placed =
+Inv-loop matrix₀ n m order building₀ placed₀ matrix building placed =
     (1 ≤ placed)
     × (placed ≤ n)
     × (length matrix ≡ length matrix₀)
     × LentMatrix matrix₀ n m
-    × Advancements matrix₀ n m keys
-    × ((done : List Placement) × UnderWay matrix₀ matrix n m placed building done)
+    × ((done : List Placement) × UnderWay order matrix₀ matrix n m placed building done)
 
 abbrev μ-loop : tie.MeasureT-loop
-μ-loop matrix₀ n m keys building₀ placed₀ matrix building placed = n - placed
+μ-loop matrix₀ n m order building₀ placed₀ matrix building placed = n - placed
 
 advancements-requires : tie.Need-advancements-requires Inv-loop μ-loop
 advancements-requires c κs = (c .before .pre .taxa, c .before .pre .characters)
@@ -34,14 +32,19 @@ begun-requires c κs = search needs
 loop-holds : tie.Need-loop-holds Inv-loop μ-loop
 loop-holds c =
     let lent = c .before .before .before .pre in
-    (omega arith, lent .taxon, refl, lent, c .before .advancements .ensures, ([], begun-underWay _ _ _ lent _ (c .begun .ensures)))
+    (omega arith, lent .taxon, refl, lent, ([], begun-underWay _ _ _ _ lent _ (c .before .advancements .ensures) _ (c .begun .ensures)))
 
 place-next-requires : tie.Need-place-next-requires Inv-loop μ-loop
 place-next-requires c κs =
     let inv = c .before .before .loop .inv in
-    let w = inv .5 .1 in
-    let most = next-most _ _ _ _ _ _ (inv .5 .0) w (c .before .loop-test .taken) _ (inv .4) in
-    (inv .3 .taxa, omega (arith, w .count, w .many, inv .3 .taxa, inv .1), omega (arith, w .most, w .many, inv .3 .taxa, inv .1, most))
+    let w = inv .4 .1 in
+    let most = next-most _ _ _ _ _ _ _ (inv .4 .0) w (c .before .loop-test .taken) in
+    let lent = inv .3 in (
+      lent .taxa,
+      lent .characters,
+      omega (arith, w .count, w .many, lent .taxa, inv .1),
+      omega (arith, w .most, w .many, lent .taxa, inv .1, most),
+    )
 
 add-placed : tie.Need-add-placed Inv-loop μ-loop
 add-placed c = search needs
@@ -54,8 +57,8 @@ loop-again c =
     let loop = c .before .before .before .before .loop in
     let inv = loop .inv in
     let less = c .before .before .before .loop-test .taken in
-    let next = next-underWay _ _ _ _ _ _ (inv .5 .0) (inv .5 .1) less _ (inv .4) _ _ (c .before .place-next .ensures) in
-    (omega arith, omega arith, next .standing .matrix .full ∙ sym (inv .3 .full), inv .3, inv .4, (_, next))
+    let next = next-underWay _ _ _ _ _ _ _ (inv .4 .0) (inv .4 .1) less _ _ (c .before .place-next .ensures) in
+    (omega arith, omega arith, next .standing .matrix .full ∙ sym (inv .3 .full), inv .3, (_, next))
 
 same-length : tie.Need-same-length Inv-loop μ-loop
 same-length c = c .before .loop .inv .2
@@ -64,7 +67,7 @@ returns : tie.Need-returns Inv-loop μ-loop
 returns c =
     let loop = c .before .loop in
     let inv = loop .inv in
-    done-underWay _ _ _ _ (loop .placed) _ (inv .5 .0) (inv .3) (inv .5 .1) (omega (arith, c .loop-test .left))
+    done-underWay _ _ _ _ _ (loop .placed) _ (inv .4 .0) (inv .3) (inv .4 .1) (omega (arith, c .loop-test .left))
 
 pub grow-spec : {M : Type 1} → statement M
 grow-spec =

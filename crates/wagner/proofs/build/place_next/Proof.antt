@@ -10,19 +10,25 @@ next-taxon-requires c κs = search needs
 place-unasked-requires : tie.Need-place-unasked-requires
 place-unasked-requires c κs = search needs
 
+next-keys-requires : tie.Need-next-keys-requires
+next-keys-requires c κs = search needs
+
 with-placement-requires : tie.Need-with-placement-requires
 with-placement-requires c κs =
-    let start = c .before .before .before .before .before in
-    let same = next-done _ _ _ _ _ (start .args .building) _ _ (c .before .before .before .next-taxon .ensures .is)
-    (c .before .place-unasked .ensures) in
-    (start .pre .1, rw same (start .pre .2))
+    let place = c .before .before .before .before .before in
+    let next = place .before .before in
+    let start = next .before .before .before in
+    let same = next-done _ _ _ _ (start .args .building) _ _ (next .next-taxon .ensures .is) (place .place-unasked .ensures) in
+    (start .pre .2, rw same (start .pre .3))
 
 same-length : tie.Need-same-length
 same-length c = search needs
 
 returns : tie.Need-returns
 returns c =
-    next-more _ _ _ _ _ _ _ _ (c .before .before .before .before .next-taxon .ensures .is) (c .before .before .place-unasked .ensures) _
+    let place = c .before .before .before .before .before .before in
+    let next = place .before .before in
+    next-more _ _ _ _ _ _ _ (next .next-taxon .ensures .is) (place .place-unasked .ensures) _ _ (c .before .next-keys .ensures) _
     (c .with-placement .ensures)
 
 pub place-next-spec : {M : Type 1} → statement M
@@ -31,6 +37,7 @@ place-next-spec =
     (tie.spec
     next-taxon-requires
     place-unasked-requires
+    next-keys-requires
     with-placement-requires
     same-length
     returns)
