@@ -95,11 +95,13 @@ pub(crate) fn ask_header(file: &[u8]) -> Read
     if !first_form(line) {
         return refused(Refusal::FirstLine, 1);
     }
-    if !order_known(line) {
+    let known = order_known(line);
+    let header = header_from(line);
+    let within = within_limits(header.n, header.m);
+    if !known {
         return refused(Refusal::UnknownOrder, 1);
     }
-    let header = header_from(line);
-    if !within_limits(header.n, header.m) {
+    if !within {
         return refused(Refusal::BeyondLimits, 1);
     }
     Read::Accepted(header)

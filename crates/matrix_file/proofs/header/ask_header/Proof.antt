@@ -32,49 +32,47 @@ returns-2 c =
 order-known-requires : tie.Need-order-known-requires
 order-known-requires c κs = sym (c .before .first-form .ensures) ∙ not-false _ (c .if2 .left)
 
+header-from-requires : tie.Need-header-from-requires
+header-from-requires c κs = sym (c .before .before .first-form .ensures) ∙ not-false _ (c .before .if2 .left)
+
+within-limits-requires : tie.Need-within-limits-requires
+within-limits-requires c κs = search needs
+
 refused-requires-3 : tie.Need-refused-requires-3
 refused-requires-3 c κs = search needs
 
 returns-3 : tie.Need-returns-3
 returns-3 c =
-    let known = c .before .before in
+    let known = c .before .before .before .before in
     let formed = known .before .before in
     ap readSays (c .refused3 .ensures)
     ∙ bad-order _ _ (formed .before .before .first-part .ensures) (formed .before .if1 .left)
     (sym (formed .first-form .ensures) ∙ not-false _ (known .before .if2 .left))
     (sym (known .order-known .ensures) ∙ not-true _ (c .before .if3 .taken))
 
-header-from-requires : tie.Need-header-from-requires
-header-from-requires c κs =
-    let formed = c .before .before .before in
-    sym (formed .first-form .ensures) ∙ not-false _ (c .before .before .if2 .left)
-
-within-limits-requires : tie.Need-within-limits-requires
-within-limits-requires c κs = search needs
-
 refused-requires-4 : tie.Need-refused-requires-4
 refused-requires-4 c κs = search needs
 
 returns-4 : tie.Need-returns-4
 returns-4 c =
-    let read = c .before .before .before in
-    let known = read .before .before in
+    let within = c .before .before .before in
+    let known = within .before .before in
     let formed = known .before .before in
     ap readSays (c .refused4 .ensures)
     ∙ beyond _ _ (formed .before .before .first-part .ensures) (formed .before .if1 .left)
     (sym (formed .first-form .ensures) ∙ not-false _ (known .before .if2 .left))
-    (sym (known .order-known .ensures) ∙ not-false _ (read .before .if3 .left)) _ (read .header-from .ensures)
-    (sym (c .before .before .within-limits .ensures) ∙ not-true _ (c .before .if4 .taken))
+    (sym (known .order-known .ensures) ∙ not-false _ (c .before .before .if3 .left)) _ (within .before .header-from .ensures)
+    (sym (within .within-limits .ensures) ∙ not-true _ (c .before .if4 .taken))
 
 returns-5 : tie.Need-returns-5
 returns-5 c =
-    let read = c .before .before in
-    let known = read .before .before in
+    let within = c .before .before in
+    let known = within .before .before in
     let formed = known .before .before in
     header-found _ _ (formed .before .before .first-part .ensures) (formed .before .if1 .left)
     (sym (formed .first-form .ensures) ∙ not-false _ (known .before .if2 .left))
-    (sym (known .order-known .ensures) ∙ not-false _ (read .before .if3 .left)) _ (read .header-from .ensures)
-    (sym (c .before .within-limits .ensures) ∙ not-false _ (c .if4 .left))
+    (sym (known .order-known .ensures) ∙ not-false _ (c .before .if3 .left)) _ (within .before .header-from .ensures)
+    (sym (within .within-limits .ensures) ∙ not-false _ (c .if4 .left))
 
 pub ask-header-spec : {M : Type 1} → statement M
 ask-header-spec =
@@ -87,10 +85,10 @@ ask-header-spec =
     refused-requires-2
     returns-2
     order-known-requires
-    refused-requires-3
-    returns-3
     header-from-requires
     within-limits-requires
+    refused-requires-3
+    returns-3
     refused-requires-4
     returns-4
     returns-5)
