@@ -31,6 +31,10 @@ use Rattle.matrix_file.specs.Reading.{mostBytes, jobOf, nothingMore, ask
 abbrev pub fileNumbers : List ℕ
 fileNumbers = 1 ∷ 2 ∷ 3 ∷ 4 ∷ 5 ∷ 6 ∷ 7 ∷ 8 ∷ 9 ∷ 10 ∷ 11 ∷ 15 ∷ []
 
+-- the highest of them
+abbrev pub highestNumber : ℕ
+highestNumber = 15
+
 -- a number is one of these
 abbrev pub OfFile : ℕ → Type 0
 OfFile number = among number fileNumbers ≡ true
@@ -141,11 +145,12 @@ among-passes test v (x ∷ xs) e all =
     or-cases (eqb v x) (among v xs) e (λ same. ap test (eqb-true v x same) ∙ every-head test x xs all)
     (λ other. among-passes test v xs other (every-tail test x xs all))
 
--- so its number is from 1 to 15
-pub refused-bounds : (file : List ℕ) (number line : ℕ) → readAnswer file ≡ refused number line → (1 ≤ number) × (number ≤ 15)
+-- so its number is from 1 to the highest
+pub refused-bounds : (file : List ℕ) (number line : ℕ) → readAnswer file ≡ refused number line
+    → (1 ≤ number) × (number ≤ highestNumber)
 unfolding every
 refused-bounds file number line e =
     let one = refused-number file number line e in (
       leb-true 1 number (among-passes (leb 1) number fileNumbers one refl),
-      leb-true number 15 (among-passes (λ v. leb v 15) number fileNumbers one refl),
+      leb-true number highestNumber (among-passes (λ v. leb v highestNumber) number fileNumbers one refl),
     )
