@@ -3,16 +3,18 @@
 
     cases.py BIN
 
-BIN is the folder of the reference's two programs, wagner-reference and wagner-files. A refusal is what the reference prints; what a sound
-file says is read here, by a parse of its own. Behind each case stands how many lent codes and name bytes are as they were.
+BIN is the folder of the reference's two programs, wagner-reference and wagner-files. A refusal is what the reference prints with the
+requests in force; what a sound file says is read here, by a parse of its own. Behind each case stands how many lent codes and name bytes
+are as they were.
 """
 import os, subprocess, sys
 REF = sys.argv[1] + '/'
 OUT = os.path.dirname(os.path.abspath(__file__)) + '/'
+IN_FORCE=1  # so many requests, from M-100 on
 def ref(b):
-    return subprocess.run([REF+'wagner-reference','--requests','0'],input=b,stdout=subprocess.PIPE,check=True).stdout
-def gen(seed):
-    return subprocess.run([REF+'wagner-files',str(seed),'--requests','0'],stdout=subprocess.PIPE,check=True).stdout
+    return subprocess.run([REF+'wagner-reference','--requests',str(IN_FORCE)],input=b,stdout=subprocess.PIPE,check=True).stdout
+def gen(seed,requests=0):
+    return subprocess.run([REF+'wagner-files',str(seed),'--requests',str(requests)],stdout=subprocess.PIPE,check=True).stdout
 def matrix(n,m,f=lambda v,j:(v*7+j*3)%19-9,name=lambda v:b'T%d'%v):
     return b'W\t%d\t%d\n'%(n,m)+b''.join(name(v)+b''.join(b'\t%d'%f(v,j) for j in range(1,m+1))+b'\n' for v in range(1,n+1))
 cases=[]
@@ -37,6 +39,15 @@ w=matrix(64,128,lambda v,j:-999,lambda v:b'Abcdefghijklm_%02d'%v); add(w)
 for l in [b'W\t1\t1',b'W\t1\t1\t',b'W\t1',b'W 1 1',b'w\t1\t1',b'WW\t1\t1',b'\t1\t1',b'W\t\t1',b'W\t1\t',b'W\t01\t1',b'W\t1\t01',b'W\t-1\t1',b'W\t1\t-1',b'W\t0000001\t1',b'W\t1000000\t1',b'W\t999999\t1',b'W\t1\t999999',b'W\t0\t1',b'W\t1\t0',b'W\t65\t128',b'W\t64\t129',b' W\t1\t1',b'W\t1\t1 ',b'W\t1\t1\r',b'W\t1a\t1',b'W\t+1\t1',b'']:
     add(l+b'\nA\t0\n')
 add(b'W\t1\t1'); add(b'W\t1\t1A\t0\n')
+# the fourth field of line 1
+for word in [b'advance',b'closest']:
+    add(ex.replace(b'\n',b'\t'+word+b'\n',1)); add(b'W\t1\t1\t'+word+b'\nA\t0\n'); add(b'W\t1\t1\t'+word)
+for word in [b'Closest',b'Advance',b'ADVANCE',b'closest ',b' closest',b'closest\r',b'close',b'closestt',b'advanc',b'advances',b'closest\x00',b'advance,closest',b'clo\xf3est',b'7',b'W']:
+    add(b'W\t1\t1\t'+word+b'\nA\t0\n')
+for l in [b'W\t1\t1\tclosest\t',b'W\t1\t1\tclosest\tadvance',b'W\t1\t1\t\t',b'W\t1\tclosest',b'W\tclosest\t1\t1',b'closest\tW\t1\t1',b'W\tx\t1\tnot',b'w\t1\t1\tclosest',b'W\t01\t1\tclosest',b'W\t1\t1000000\tclosest',b'W\t0\t1\tnot',b'W\t1\t129\tnot',b'W\t0\t1\tclosest',b'W\t1\t0\tadvance',b'W\t65\t1\tadvance',b'W\t1\t129\tclosest']:
+    add(l+b'\nA\t0\n')
+add(b'W\t2\t1\tclosest\nA\t0\n'); add(b'W\t1\t1\tadvance\nA\tx\n'); add(b'W\t1\t1\tclosest\nA\t1\nx')
+add(w.replace(b'\n',b'\tclosest\n',1))             # the longest file
 # names
 row=lambda name: b'W\t1\t1\n'+name+b'\t5\n'
 for nm in [b'A',b'z',b'Zz09_',b'_A',b'9A',b'',b'A-B',b'A B',b'ABCDEFGHIJKLMNOP',b'ABCDEFGHIJKLMNOPQ',b'A\x00',b'\x00',b'\x80',b'A\xff',b'@',b'[',b'`',b'{',b'A/',b'A:',b'A@',b'A[',b'A^',b'A`',b'A{']:
@@ -64,19 +75,25 @@ while many<6:
     seed+=1
     b=gen(seed)
     if 700<len(b)<=45010: add(b); many+=1
+# generated files with M-100 in force that carry a fourth field, the small ones
+words=0; seed=20000
+while words<80:
+    seed+=1
+    b=gen(seed,1)
+    if len(b)<=300 and b.split(b'\n')[0].count(b'\t')==3: add(b); words+=1
 def parse(b):
     lines=b.decode('ascii').split('\n'); assert lines[-1]==''
-    w,n,m=lines[0].split('\t'); n=int(n); m=int(m); assert w=='W'
+    w,n,m,*order=lines[0].split('\t'); n=int(n); m=int(m); assert w=='W' and order in ([],['advance'],['closest'])
     rows=[l.split('\t') for l in lines[1:-1]]; assert len(rows)==n and all(len(r)==m+1 for r in rows)
-    return n,m,[(r[0],[int(c) for c in r[1:]]) for r in rows]
+    return lines[0],n,m,[(r[0],[int(c) for c in r[1:]]) for r in rows]
 out=b'R\t12\t0\nk\t16128\t1023\nR\t12\t0\nk\t16129\t1024\n'; kinds={}  # two lists that have not their full size
 for b in cases:
     r=ref(b)
     if r.startswith(b'R\t'):
         out+=r+b'k\t16128\t1024\n'; k=r.split(b'\t')[1].decode()
     else:
-        n,m,rows=parse(b); k='ok'
-        out+=('W\t%d\t%d\n'%(n,m)).encode()+b''.join((nm+''.join('\t%d'%c for c in cs)+'\n').encode() for nm,cs in rows)+('k\t%d\t%d\n'%(16128-n*m,1024-16*n)).encode()
+        first,n,m,rows=parse(b); k='ok'
+        out+=(first+'\n').encode()+b''.join((nm+''.join('\t%d'%c for c in cs)+'\n').encode() for nm,cs in rows)+('k\t%d\t%d\n'%(16128-n*m,1024-16*n)).encode()
     kinds[k]=kinds.get(k,0)+1
 open(OUT+'data/cases','wb').write(b''.join(len(b).to_bytes(3,'big')+b for b in cases))
 open(OUT+'stdout','wb').write(out)

@@ -1,9 +1,9 @@
--- The number of each refusal (document 01, "The questions put to an input").
+-- The number of each refusal (document 01, "The questions put to an input"; 15 and those above it, document 02).
 use Prim.Native.Nat.{ℕ}
 use Rattle.matrix.specs.declared.refusal.Refusal.{Refusal}
 use Rattle.matrix.specs.declared.refusal.Refusal.the-variants.{FileTooLong, FileEmpty, FirstLine, BeyondLimits, LineMissing}
 use Rattle.matrix.specs.declared.refusal.Refusal.the-variants.{NameForm, NameTaken, FieldCount, CodeForm, CodeRange, FileGoesOn}
-use Rattle.matrix.specs.declared.refusal.Refusal.the-variants.{ListSize, NotThere, NotBranching}
+use Rattle.matrix.specs.declared.refusal.Refusal.the-variants.{ListSize, NotThere, NotBranching, UnknownOrder}
 
 -- the number of a refusal
 abbrev pub refusalNumber : Refusal → ℕ
@@ -21,3 +21,4 @@ refusalNumber FileGoesOn = 11
 refusalNumber ListSize = 12
 refusalNumber NotThere = 13
 refusalNumber NotBranching = 14
+refusalNumber UnknownOrder = 15

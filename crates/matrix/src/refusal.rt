@@ -18,6 +18,7 @@ pub enum Refusal {
     ListSize,
     NotThere,
     NotBranching,
+    UnknownOrder,
 }
 
 // What the questions put to an input answer: nothing refuses it, or the first "no".
@@ -45,5 +46,6 @@ pub fn number(refusal: Refusal) -> u64
         Refusal::ListSize => 12,
         Refusal::NotThere => 13,
         Refusal::NotBranching => 14,
+        Refusal::UnknownOrder => 15,
     }
 }

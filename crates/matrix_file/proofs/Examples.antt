@@ -1,4 +1,5 @@
--- Document 01's example file and its further edges, read; one refusal of each number 1 to 11 with its line; and reads into lent lists.
+-- Document 01's example file and its further edges, read; the words for the order; one refusal of each number 1 to 11 and of 15 with its
+-- line; and reads into lent lists.
 use mathlib.Core.Path.{_≡_, refl}
 use mathlib.Core.List.{List, [], _∷_, _++_, map, zipWith}
 use Prim.Native.Nat.{ℕ}
@@ -10,15 +11,17 @@ use Rattle.matrix.specs.Questions.{oneTo, withinLimits}
 use Rattle.lists.specs.Numbers.{numbers}
 use Rattle.matrix.specs.Outcomes.{Outcome, value, refused}
 use Rattle.lists.specs.Tests.{every, sameNumbers as sameText}
-use Rattle.matrix_file.specs.Bytes.{isDigit, isLetter, partsAt, joinedBy}
+use Rattle.matrix_file.specs.Bytes.{wordAdvance, wordClosest, isDigit, isLetter, partsAt, joinedBy}
 use Rattle.matrix_file.specs.Decimal.{digitsIn, digitsOf, decimal, noLeadingZero, numberForm, numberFrom, numberOf, codeForm, codeOf}
 use Rattle.matrix_file.specs.Job.{Job, inName, nameForm, differsFromAll, firstText, rowText, ended, fileOf}
 use Rattle.matrix_file.specs.Lines.{linesOf, fieldsOf}
-use Rattle.matrix_file.specs.Header.{headerIn, firstForm, firstLineForm, askFirstLine, askHeader}
+use Rattle.matrix_file.specs.Header.{orderIn, headerIn, firstForm, firstLineForm, isOrder, orderKnown, askFirstLine, askHeader}
 use Rattle.matrix_file.specs.Rows.{nameIn, codesIn, askCodes, askRow, askRows}
 use Rattle.matrix_file.specs.Reading.{jobOf, nothingMore, askEnd, askBehind, askFile, askLength, readAnswer}
 use Rattle.matrix_file.specs.Report.{readSays, withHeader, fullSize, readOutcome}
 use Rattle.matrix_file.specs.declared.answer.Header.{Header}
+use Rattle.matrix_file.specs.declared.answer.OrderWord.{OrderWord}
+use Rattle.matrix_file.specs.declared.answer.OrderWord.the-variants.{Unsaid, Advance, Closest}
 use Rattle.matrix_file.specs.declared.answer.Read.the-variants.{Accepted, Refused}
 use Rattle.matrix.specs.declared.refusal.Refusal.the-variants.{NameTaken}
 use Rattle.matrix_file.specs.Text.{bytes}
@@ -29,8 +32,8 @@ use Rattle.lists.specs.Filled.{filled}
 -- a file of these bytes, read
 read : List ℕ → Outcome Job
 unfolding inRange withinLimits oneTo every isDigit isLetter sameText partsAt digitsIn digitsOf noLeadingZero numberForm numberFrom
-    numberOf codeForm codeOf inName nameForm differsFromAll linesOf fieldsOf headerIn nameIn codesIn jobOf firstForm firstLineForm
-    askFirstLine askHeader askCodes askRow askRows nothingMore askEnd askBehind askFile askLength readAnswer
+    numberOf codeForm codeOf inName nameForm differsFromAll linesOf fieldsOf orderIn headerIn nameIn codesIn jobOf firstForm firstLineForm
+    isOrder orderKnown askFirstLine askHeader askCodes askRow askRows nothingMore askEnd askBehind askFile askLength readAnswer
 read file = readAnswer file
 
 -- a file of this text, read
@@ -38,23 +41,48 @@ readText : String → Outcome Job
 unfolding read bytes
 readText text = read (bytes text)
 
--- document 01's example
-example : readText "W\t4\t3\nA\t0\t0\t0\nB\t2\t1\t0\nC\t2\t3\t1\nD\t-1\t1\t2\n"
-    ≡ value (record {
+-- document 01's example, with this word for the order
+exampleJob : OrderWord → Job
+exampleJob order =
+    record {
       n = 4;
       m = 3;
+      order = order;
       names = (65 ∷ []) ∷ (66 ∷ []) ∷ (67 ∷ []) ∷ (68 ∷ []) ∷ [];
       rows = (pos 0 ∷ pos 0 ∷ pos 0 ∷ []) ∷ (pos 2 ∷ pos 1 ∷ pos 0 ∷ []) ∷ (pos 2 ∷ pos 3 ∷ pos 1 ∷ [])
           ∷ (negsuc 0 ∷ pos 1 ∷ pos 2 ∷ []) ∷ [];
-    })
-unfolding readText
+    }
+
+-- its rows behind this line 1, read
+readBehind : String → Outcome Job
+unfolding read bytes
+readBehind first = read (bytes first ++ bytes "\nA\t0\t0\t0\nB\t2\t1\t0\nC\t2\t3\t1\nD\t-1\t1\t2\n")
+
+-- document 01's example
+example : readBehind "W\t4\t3" ≡ value (exampleJob Unsaid)
+unfolding readBehind exampleJob
 example = refl
+
+-- with `advance` in line 1
+example-advance : readBehind "W\t4\t3\tadvance" ≡ value (exampleJob Advance)
+unfolding readBehind exampleJob
+example-advance = refl
+
+-- with `closest`
+example-closest : readBehind "W\t4\t3\tclosest" ≡ value (exampleJob Closest)
+unfolding readBehind exampleJob
+example-closest = refl
+
+-- the two words, in letters
+words : (wordAdvance ≡ bytes "advance") × (wordClosest ≡ bytes "closest")
+unfolding bytes
+words = (refl, refl)
 
 -- one taxon `A` with one code
 one-code : ℤ → Outcome Job
-one-code code = value (record { n = 1; m = 1; names = (65 ∷ []) ∷ []; rows = (code ∷ []) ∷ [] })
+one-code code = value (record { n = 1; m = 1; order = Unsaid; names = (65 ∷ []) ∷ []; rows = (code ∷ []) ∷ [] })
 
--- the refusals 2 to 11: a file, and the number and line that refuse it
+-- the refusals 2 to 11 and 15: a file, and the number and line that refuse it
 refusals : List (String × Outcome Job)
 refusals =
     ("", refused 2 0)
@@ -67,6 +95,7 @@ refusals =
     ∷ ("W\t1\t1\nA\t+1\n", refused 9 2)
     ∷ ("W\t2\t1\nA\t0\nB\t-1000\n", refused 10 3)
     ∷ ("W\t1\t1\nA\t0\n\n", refused 11 3)
+    ∷ ("W\t1\t1\tnearest\nA\t0\n", refused 15 1)
     ∷ []
 
 -- the further edges: 999 and -999 pass, 1000 is 10, 1000000 and `-0` are 9; as n, 999999 is 4 and 1000000 is 3; a missing line feed is 3
@@ -88,6 +117,22 @@ edges =
     ∷ ("W\t1\t2\n1A\t0\n", refused 8 2)
     ∷ []
 
+-- the fourth field: an empty one, a capital, a carriage return or a blank make no word for the order, which is 15; five fields are 3, which
+-- is asked before; 15 is asked before 4; line 1 needs its line feed
+orders : List (String × Outcome Job)
+orders =
+    ("W\t1\t1\t\nA\t0\n", refused 15 1)
+    ∷ ("W\t1\t1\tClosest\nA\t0\n", refused 15 1)
+    ∷ ("W\t1\t1\tAdvance\nA\t0\n", refused 15 1)
+    ∷ ("W\t1\t1\tclosest\r\nA\t0\n", refused 15 1)
+    ∷ ("W\t1\t1\tclosest \nA\t0\n", refused 15 1)
+    ∷ ("W\t1\t1\tclosest\t\nA\t0\n", refused 3 1)
+    ∷ ("W\tx\t1\tnot\n", refused 3 1)
+    ∷ ("W\t0\t1\tnot\n", refused 15 1)
+    ∷ ("W\t0\t1\tclosest\n", refused 4 1)
+    ∷ ("W\t1\t1\tclosest", refused 3 1)
+    ∷ []
+
 -- each file of a table is read as the table says
 AsSaid : List (String × Outcome Job) → Type 0
 AsSaid table = map (λ row. readText (row .0)) table ≡ map (λ row. row .1) table
@@ -102,6 +147,11 @@ edges-read : AsSaid edges
 unfolding AsSaid readText edges one-code
 edges-read = refl
 
+-- and so is the fourth field
+orders-read : AsSaid orders
+unfolding AsSaid readText orders
+orders-read = refl
+
 -- refusal 1
 too-long : read (replicate 45001 65) ≡ refused 1 0
 unfolding read
@@ -114,6 +164,7 @@ alike n =
     record {
       n = n;
       m = 1;
+      order = Unsaid;
       names = map (λ k. 116 ∷ digitsOf k) (numbers 1 n);
       rows = replicate n (pos 0 ∷ []);
     }
@@ -151,7 +202,7 @@ unfolding over stripes filled
 two-names = refl
 
 -- what an answer says: a header, and a refusal with its line
-accepted-says : readSays (Accepted (record { n = 4; m = 3 })) ≡ value (record { n = 4; m = 3 })
+accepted-says : readSays (Accepted (record { n = 4; m = 3; order = Closest })) ≡ value (record { n = 4; m = 3; order = Closest })
 accepted-says = refl
 
 -- a refusal: its number and its line
@@ -164,7 +215,7 @@ unfolding read readOutcome fullSize
 readInto file codes names = withHeader (readOutcome file (replicate codes (pos 0)) (replicate names 0))
 
 -- lists of full size: the file decides
-full-size : readInto (bytes "W\t1\t2\nA\t0\t1\n") 16128 1024 ≡ value (record { n = 1; m = 2 })
+full-size : readInto (bytes "W\t1\t2\nA\t0\t1\n") 16128 1024 ≡ value (record { n = 1; m = 2; order = Unsaid })
 unfolding readInto bytes
 full-size = refl
 

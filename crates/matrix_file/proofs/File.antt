@@ -9,3 +9,4 @@ pub mod AcceptedRows
 pub mod Numbered
 pub mod FileWalk
 pub mod FirstForm
+pub mod Order

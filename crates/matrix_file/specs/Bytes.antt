@@ -25,6 +25,14 @@ underscore = 95
 abbrev pub wordW : List ℕ
 wordW = 87 ∷ []
 
+-- the word `advance`
+abbrev pub wordAdvance : List ℕ
+wordAdvance = 97 ∷ 100 ∷ 118 ∷ 97 ∷ 110 ∷ 99 ∷ 101 ∷ []
+
+-- the word `closest`
+abbrev pub wordClosest : List ℕ
+wordClosest = 99 ∷ 108 ∷ 111 ∷ 115 ∷ 101 ∷ 115 ∷ 116 ∷ []
+
 -- `0` to `9`
 unfoldable pub isDigit : ℕ → Bool
 isDigit byte = leb 48 byte && leb byte 57

@@ -1,31 +1,49 @@
--- The header of a matrix file: what its first lines say, the questions put to them (3 and 4), and how many lines they are.
+-- The header of a matrix file: what its first lines say, the questions put to them (3, 4, and document 02's 15 between these), and how
+-- many lines they are.
 use mathlib.Core.List.{List, [], _∷_}
-use mathlib.Core.Bool.{Bool, false, _&&_}
+use mathlib.Core.Bool.{Bool, false, _&&_, _||_, cond}
 use Prim.Native.Nat.{ℕ, _+_}
-use lib.ListN.{getD, drop}
-use Rattle.lists.specs.Tests.{sameNumbers as sameText}
+use lib.Dec.{leb}
+use lib.ListN.{length, getD, drop}
+use Rattle.lists.specs.Tests.{every, sameNumbers as sameText}
 use Rattle.matrix.specs.Outcomes.{ask, Outcome, value, onLine}
 use Rattle.matrix.specs.Questions.{withinLimits}
-use Rattle.matrix.specs.declared.refusal.Refusal.the-variants.{FirstLine, BeyondLimits}
+use Rattle.matrix.specs.declared.refusal.Refusal.the-variants.{FirstLine, UnknownOrder, BeyondLimits}
 use Rattle.matrix.specs.declared.refusal.Asked.{Asked}
 use Rattle.matrix.specs.declared.refusal.Asked.the-variants.{Passed}
 use Rattle.matrix_file.specs.declared.answer.Header.{Header}
-use Rattle.matrix_file.specs.Bytes.{wordW}
+use Rattle.matrix_file.specs.declared.answer.OrderWord.{OrderWord}
+use Rattle.matrix_file.specs.declared.answer.OrderWord.the-variants.{Unsaid, Advance, Closest}
+use Rattle.matrix_file.specs.Bytes.{wordW, wordAdvance, wordClosest}
 use Rattle.matrix_file.specs.Decimal.{numberForm, numberOf}
 use Rattle.matrix_file.specs.Job.{Job}
 use Rattle.matrix_file.specs.Lines.{fieldsOf}
 
--- what the fields of line 1 say: n is the second and m the third
+-- the word that a field for the order says, if there is one
+abbrev pub orderSaid : List (List ℕ) → OrderWord
+orderSaid [] = Unsaid
+orderSaid (word ∷ fields) = cond (sameText word wordAdvance) Advance (cond (sameText word wordClosest) Closest Unsaid)
+
+-- the word for the order that line 1 carries: that of its fourth field
+unfoldable pub orderIn : List (List ℕ) → OrderWord
+orderIn fields = orderSaid (drop 3 fields)
+
+-- what the fields of line 1 say: n is the second, m the third, and a fourth is the word for the order
 abbrev pub headerFrom : List (List ℕ) → Header
-headerFrom fields = record { n = numberOf (getD fields 1 []); m = numberOf (getD fields 2 []) }
+headerFrom fields =
+    record { n = numberOf (getD fields 1 []); m = numberOf (getD fields 2 []); order = orderIn fields }
+
+-- the fields of line 1
+abbrev pub firstFields : List (List ℕ) → List (List ℕ)
+firstFields lines = fieldsOf (getD lines 0 [])
 
 -- what the header of a file's lines says, read without a question
 unfoldable pub headerIn : List (List ℕ) → Header
-headerIn lines = headerFrom (fieldsOf (getD lines 0 []))
+headerIn lines = headerFrom (firstFields lines)
 
 -- the header of a job
 abbrev pub headerOf : Job → Header
-headerOf job = record { n = job .n; m = job .m }
+headerOf job = record { n = job .n; m = job .m; order = job .order }
 
 -- how many lines a header takes: line 1
 abbrev pub headerLines : Header → ℕ
@@ -39,13 +57,11 @@ rowLine header k = headerLines header + k
 abbrev pub behindHeader : Header → List (List ℕ) → List (List ℕ)
 behindHeader header lines = drop (headerLines header) lines
 
--- exactly three fields: `W` and two numbers
+-- three or four fields, of which the first is `W` and the next two are numbers
 unfoldable pub firstForm : List (List ℕ) → Bool
-firstForm [] = false
-firstForm (word ∷ []) = false
-firstForm (word ∷ n ∷ []) = false
-firstForm (word ∷ n ∷ m ∷ []) = sameText word wordW && (numberForm n && numberForm m)
-firstForm (word ∷ n ∷ m ∷ more ∷ fields) = false
+firstForm fields =
+    (leb 3 (length fields) && leb (length fields) 4)
+    && (sameText (getD fields 0 []) wordW && (numberForm (getD fields 1 []) && numberForm (getD fields 2 [])))
 
 -- line 1 is ended by a line feed and has the right form
 unfoldable pub firstLineForm : List (List ℕ) → Bool
@@ -53,11 +69,20 @@ firstLineForm [] = false
 firstLineForm (behind ∷ []) = false
 firstLineForm (line ∷ next ∷ lines) = firstForm (fieldsOf line)
 
--- the questions put to line 1
+-- one of the two words for the order of placing
+unfoldable pub isOrder : List ℕ → Bool
+isOrder word = sameText word wordAdvance || sameText word wordClosest
+
+-- a fourth field, if there is one, is such a word
+unfoldable pub orderKnown : List (List ℕ) → Bool
+orderKnown fields = every isOrder (drop 3 fields)
+
+-- the questions put to line 1: its form, the word for the order, the limits
 unfoldable pub askFirstLine : List (List ℕ) → Asked
 askFirstLine lines =
     ask (firstLineForm lines) FirstLine
-    (ask (withinLimits (headerIn lines .n) (headerIn lines .m)) BeyondLimits Passed)
+    (ask (orderKnown (firstFields lines)) UnknownOrder
+    (ask (withinLimits (headerIn lines .n) (headerIn lines .m)) BeyondLimits Passed))
 
 -- the header of a file's lines, if its questions pass
 unfoldable pub askHeader : List (List ℕ) → Outcome Header

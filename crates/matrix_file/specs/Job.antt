@@ -1,5 +1,5 @@
--- A job, what a matrix file says: n taxa, m characters, the names and the codes; its limits; and the one file that says it
--- (document 01, "The matrix file").
+-- A job, what a matrix file says: n taxa, m characters, the word for the order of placing, the names and the codes; its limits; and the
+-- one file that says it (document 01, "The matrix file"; document 02, M-100).
 use mathlib.Core.Path.{_≡_}
 use mathlib.Core.List.{List, [], _∷_, _++_, map, zipWith}
 use mathlib.Core.Bool.{Bool, true, false, _&&_, _||_, not}
@@ -9,13 +9,16 @@ use lib.IntN.{ℤ}
 use lib.ListN.{length}
 use Rattle.matrix.specs.Questions.{withinLimits, allInRange}
 use Rattle.lists.specs.Tests.{every, sameNumbers as sameText}
-use Rattle.matrix_file.specs.Bytes.{tab, lineFeed, underscore, wordW, isDigit, isLetter, joinedBy}
+use Rattle.matrix_file.specs.Bytes.{tab, lineFeed, underscore, wordW, wordAdvance, wordClosest, isDigit, isLetter, joinedBy}
 use Rattle.matrix_file.specs.Decimal.{digitsOf, decimal}
+use Rattle.matrix_file.specs.declared.answer.OrderWord.{OrderWord}
+use Rattle.matrix_file.specs.declared.answer.OrderWord.the-variants.{Unsaid, Advance, Closest}
 
--- n taxa, m characters; names and rows of codes stand by row, row 1 first
+-- n taxa, m characters; the word that line 1 carries for the order of placing, if any; names and rows of codes stand by row, row 1 first
 pub record Job : Type 0 where
   pub n : ℕ
   pub m : ℕ
+  pub order : OrderWord
   pub names : List (List ℕ)
   pub rows : List (List ℤ)
 
@@ -57,9 +60,15 @@ pub record JobWithinLimits (job : Job) : Type 0 where
   pub rows-full : every (hasCodes (job .m)) (job .rows) ≡ true
   pub codes-in-range : every allInRange (job .rows) ≡ true
 
--- line 1: `W`, n, m
+-- the field for the order of placing: none, or its word
+abbrev pub orderFields : OrderWord → List (List ℕ)
+orderFields Unsaid = []
+orderFields Advance = wordAdvance ∷ []
+orderFields Closest = wordClosest ∷ []
+
+-- line 1: `W`, n, m, and the word for the order, if any
 unfoldable pub firstText : Job → List ℕ
-firstText job = joinedBy tab (wordW ∷ digitsOf (job .n) ∷ digitsOf (job .m) ∷ [])
+firstText job = joinedBy tab (wordW ∷ digitsOf (job .n) ∷ digitsOf (job .m) ∷ orderFields (job .order))
 
 -- the line of a row: its name and its codes
 unfoldable pub rowText : List ℕ → List ℤ → List ℕ

@@ -1,4 +1,4 @@
--- Reading a matrix file: the questions 1 to 11 in document 01's order, and what an accepted file says.
+-- Reading a matrix file: the questions 1 to 11 and 15 in the papers' order, and what an accepted file says.
 use mathlib.Core.List.{List, [], _∷_, map}
 use mathlib.Core.Bool.{Bool, true, false}
 use Prim.Native.Nat.{ℕ}
@@ -24,6 +24,7 @@ jobOf header lines =
     record {
       n = header .n;
       m = header .m;
+      order = header .order;
       names = map nameIn (take (header .n) lines);
       rows = map codesIn (take (header .n) lines);
     }

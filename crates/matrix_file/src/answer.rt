@@ -4,10 +4,18 @@ use matrix::refusal::Refusal;
 ghost use mathlib.Core.Path.{_≡_};
 ghost use Rattle.matrix_file.specs.Walk.{headerOn};
 
-// What the header of a file says: the numbers of taxa and characters.
+// The word that line 1 carries for the order of placing.
+pub enum OrderWord {
+    Unsaid,
+    Advance,
+    Closest,
+}
+
+// What the header of a file says: the numbers of taxa and characters, and the word for the order of placing.
 pub struct Header {
     pub n: usize,
     pub m: usize,
+    pub order: OrderWord,
 }
 
 // The header of an accepted file, or why a file is refused and at which line.

@@ -3,11 +3,12 @@ ghost use mathlib.Core.Path.{_≡_};
 ghost use Prim.Native.Nat.{_+_, _<_};
 ghost use mathlib.Core.Bool.{_&&_};
 ghost use lib.Dec.{leb, eqb};
-ghost use lib.ListN.{length, drop};
+ghost use mathlib.Core.List.{[]};
+ghost use lib.ListN.{length, getD, drop};
 ghost use Rattle.lists.specs.Tests.{every, sameNumbers as sameText};
 ghost use Rattle.matrix_file.specs.Bytes.{isDigit, isLetter, partsAt, partLength, firstPart, behindPart};
 ghost use Rattle.matrix_file.specs.Job.{inName};
-ghost use Rattle.matrix_file.specs.Lines.{linesOf};
+ghost use Rattle.matrix_file.specs.Lines.{linesOf, fieldsOf};
 ghost use Rattle.matrix_file.specs.Walk.{inAlphabet};
 
 // What parts fields.
@@ -152,6 +153,20 @@ pub(crate) fn behind_part(text: &[u8], separator: u8) -> &[u8]
 {
     let end = part_length(text, separator);
     rest_from(text, end + 1)
+}
+
+// A field of a line, the first at place 0: nothing where the line has no such field.
+pub(crate) fn field(line: &[u8], place: usize) -> &[u8]
+    ensures { λ r. ⌜ now r ≡ getD (fieldsOf (now (line .entry))) place [] ⌝ }
+{
+    let mut rest = line;
+    let mut passed = 0;
+    while passed < place {
+        let behind = behind_part(rest, TAB);
+        rest = behind;
+        passed += 1;
+    }
+    first_part(rest, TAB)
 }
 
 // What stands behind the first `count` lines of a text that goes on behind them.

@@ -1,10 +1,11 @@
 // The header of a file: line 1.
 use crate::answer::Header;
+use crate::answer::OrderWord;
 use crate::answer::Read;
 use crate::answer::refused;
 use crate::bytes::LINE_FEED;
 use crate::bytes::TAB;
-use crate::bytes::behind_part;
+use crate::bytes::field;
 use crate::bytes::first_part;
 use crate::bytes::same_text;
 use crate::bytes::separators;
@@ -15,24 +16,56 @@ use matrix::refusal::Refusal;
 ghost use mathlib.Core.Path.{_≡_};
 ghost use mathlib.Core.Bool.{true};
 ghost use Rattle.matrix_file.specs.Lines.{linesOf, fieldsOf};
-ghost use Rattle.matrix_file.specs.Header.{firstForm, headerFrom, askHeader};
+ghost use Rattle.matrix_file.specs.Header.{firstForm, orderKnown, orderIn, headerFrom, askHeader};
 ghost use Rattle.matrix_file.specs.Report.{readSays};
 
 // The lines that a header takes.
 pub(crate) const HEADER_LINES: usize = 1;
 
-// Whether line 1 has exactly three fields: `W` and two numbers.
+// Whether line 1 has three or four fields, of which the first is `W` and the next two are numbers.
 fn first_form(line: &[u8]) -> bool
     ensures { λ r. ⌜ r ≡ firstForm (fieldsOf (now (line .entry))) ⌝ }
 {
-    if separators(line, TAB) != 2 {
+    let tabs = separators(line, TAB);
+    if tabs < 2 {
         return false;
     }
-    if !same_text(first_part(line, TAB), b"W") {
+    if 3 < tabs {
         return false;
     }
-    let numbers = behind_part(line, TAB);
-    number_form(first_part(numbers, TAB)) && number_form(behind_part(numbers, TAB))
+    if !same_text(field(line, 0), b"W") {
+        return false;
+    }
+    number_form(field(line, 1)) && number_form(field(line, 2))
+}
+
+// Whether a fourth field, if a line 1 of the right form has one, is a word for the order.
+fn order_known(line: &[u8]) -> bool
+    requires { ⌜ firstForm (fieldsOf (now line)) ≡ true ⌝ }
+    ensures { λ r. ⌜ r ≡ orderKnown (fieldsOf (now (line .entry))) ⌝ }
+{
+    if separators(line, TAB) < 3 {
+        return true;
+    }
+    let word = field(line, 3);
+    same_text(word, b"advance") || same_text(word, b"closest")
+}
+
+// The word for the order that line 1 carries: that of its fourth field.
+fn order_in(line: &[u8]) -> OrderWord
+    ensures { λ r. ⌜ r ≡ orderIn (fieldsOf (now (line .entry))) ⌝ }
+{
+    if separators(line, TAB) < 3 {
+        return OrderWord::Unsaid;
+    }
+    let word = field(line, 3);
+    if same_text(word, b"advance") {
+        return OrderWord::Advance;
+    }
+    if same_text(word, b"closest") {
+        return OrderWord::Closest;
+    }
+    OrderWord::Unsaid
 }
 
 // The header that a line 1 of the right form says.
@@ -40,13 +73,18 @@ fn header_from(line: &[u8]) -> Header
     requires { ⌜ firstForm (fieldsOf (now line)) ≡ true ⌝ }
     ensures { λ r. ⌜ r ≡ headerFrom (fieldsOf (now (line .entry))) ⌝ }
 {
-    let numbers = behind_part(line, TAB);
-    let n = number_of(first_part(numbers, TAB));
-    let m = number_of(behind_part(numbers, TAB));
-    Header { n: n, m: m }
+    let n = number_of(field(line, 1));
+    let m = number_of(field(line, 2));
+    let order = order_in(line);
+    Header {
+        n: n,
+        m: m,
+        order: order,
+    }
 }
 
-// The questions put to the header of a file: is line 1 ended by a line feed, and has it the right form? Are n and m within their limits?
+// The questions put to the header of a file: is line 1 ended by a line feed, and has it the right form? Is a fourth field a word for the
+// order? Are n and m within their limits?
 pub(crate) fn ask_header(file: &[u8]) -> Read
     ensures { λ r. ⌜ readSays r ≡ askHeader (linesOf (now (file .entry))) ⌝ }
 {
@@ -57,8 +95,13 @@ pub(crate) fn ask_header(file: &[u8]) -> Read
     if !first_form(line) {
         return refused(Refusal::FirstLine, 1);
     }
+    let known = order_known(line);
     let header = header_from(line);
-    if !within_limits(header.n, header.m) {
+    let within = within_limits(header.n, header.m);
+    if !known {
+        return refused(Refusal::UnknownOrder, 1);
+    }
+    if !within {
         return refused(Refusal::BeyondLimits, 1);
     }
     Read::Accepted(header)

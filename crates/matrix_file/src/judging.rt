@@ -1,4 +1,4 @@
-// The questions 1 to 11 put to a file, in order.
+// The questions put to a file, in order.
 use crate::NAME_SIZE;
 use crate::answer::Header;
 use crate::answer::Read;

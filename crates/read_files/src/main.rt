@@ -7,6 +7,7 @@ use matrix::questions::in_range;
 use matrix::refusal::Refusal;
 use matrix::refusal::number;
 use matrix::rows::row;
+use matrix_file::answer::OrderWord;
 use matrix_file::answer::Read;
 use matrix_file::reading::read;
 ghost use mathlib.Core.Path.{_≡_};
@@ -148,6 +149,19 @@ fn print_refusal(refusal: Refusal, line: usize) {
     io::write_all(STDOUT_FILENO, b"\n");
 }
 
+// Prints the word for the order behind a tab, if line 1 carries one.
+fn print_order(order: OrderWord) {
+    match order {
+        OrderWord::Unsaid => {}
+        OrderWord::Advance => {
+            io::write_all(STDOUT_FILENO, b"\tadvance");
+        }
+        OrderWord::Closest => {
+            io::write_all(STDOUT_FILENO, b"\tclosest");
+        }
+    }
+}
+
 fn print_answer(answer: Read, matrix: &[i32], names: &[u8]) {
     match answer {
         Read::Refused { refusal, line } => print_refusal(refusal, line),
@@ -156,6 +170,8 @@ fn print_answer(answer: Read, matrix: &[i32], names: &[u8]) {
             print_number(header.n);
             io::write_all(STDOUT_FILENO, b"\t");
             print_number(header.m);
+            let order = header.order;
+            print_order(order);
             io::write_all(STDOUT_FILENO, b"\n");
             print_rows(matrix, names, header.n, header.m);
         }

@@ -11,9 +11,11 @@ use borrow.Author.Tests.{leb-true, eqb-true}
 use Rattle.matrix.specs.Shape.{inRange}
 use Rattle.matrix.specs.Questions.{allInRange}
 use Rattle.lists.specs.Tests.{every}
-use Rattle.matrix_file.specs.Bytes.{tab, isLetter, joinedBy}
-use Rattle.matrix_file.specs.Decimal.{decimal}
-use Rattle.matrix_file.specs.Job.{Job, inName, nameForm, hasCodes, JobWithinLimits, firstText, rowText, ended, fileOf}
+use Rattle.matrix_file.specs.declared.answer.OrderWord.{OrderWord}
+use Rattle.matrix_file.specs.declared.answer.OrderWord.the-variants.{Unsaid, Advance, Closest}
+use Rattle.matrix_file.specs.Bytes.{tab, wordW, isLetter, joinedBy}
+use Rattle.matrix_file.specs.Decimal.{digitsOf, decimal}
+use Rattle.matrix_file.specs.Job.{Job, inName, nameForm, hasCodes, JobWithinLimits, orderFields, firstText, rowText, ended, fileOf}
 use Rattle.matrix_file.specs.Reading.{mostBytes}
 use Rattle.lists.proofs.Both.{and-left, and-right}
 use Rattle.matrix_file.proofs.Decimal.Digits.{digits-length}
@@ -70,14 +72,20 @@ rows-length m earlier (name ∷ names) (codes ∷ rows) few within =
     let others = rows-length m (name ∷ earlier) names rows few (rows-others within) in
     rw length-append (omega arith)
 
--- line 1 has at most 9 bytes, without its line feed
-first-length : (job : Job) → JobWithinLimits job → length (firstText job) ≤ 9
-unfolding firstText joinedBy
+-- a word and two numbers have at most 9 bytes with their tabs, and a word for the order at most 8 more with its own
+first-size : (n m : ℕ) (order : OrderWord) → length (digitsOf n) ≤ 3 → length (digitsOf m) ≤ 3
+    → length (joinedBy tab (wordW ∷ digitsOf n ∷ digitsOf m ∷ orderFields order)) ≤ 17
+unfolding joinedBy
+first-size n m Unsaid taxa characters = simp length-append (omega arith)
+first-size n m Advance taxa characters = simp length-append (omega arith)
+first-size n m Closest taxa characters = simp length-append (omega arith)
+
+-- line 1 has at most 17 bytes, without its line feed
+first-length : (job : Job) → JobWithinLimits job → length (firstText job) ≤ 17
+unfolding firstText
 first-length job within =
     let high = limits-high (job .n) (job .m) (within .limits) in
-    let taxa = digits-length (job .n) 2 (omega arith) in
-    let characters = digits-length (job .m) 2 (omega arith) in
-    simp length-append (omega arith)
+    first-size (job .n) (job .m) (job .order) (digits-length (job .n) 2 (omega arith)) (digits-length (job .m) 2 (omega arith))
 
 -- so the file of a job within the limits is never too long
 pub file-short : (job : Job) → JobWithinLimits job → length (fileOf job) ≤ mostBytes

@@ -16,7 +16,7 @@ use Rattle.matrix_file.specs.declared.answer.Header.{Header}
 use Rattle.matrix_file.specs.Bytes.{lineFeed, joinedBy}
 use Rattle.matrix_file.specs.Job.{Job, JobWithinLimits, ended, fileOf}
 use Rattle.matrix_file.specs.Lines.{linesOf}
-use Rattle.matrix_file.specs.Header.{rowLine, headerIn, behindHeader, firstLineForm, askHeader}
+use Rattle.matrix_file.specs.Header.{rowLine, firstFields, headerIn, behindHeader, firstLineForm, orderKnown, askHeader}
 use Rattle.matrix_file.specs.Rows.{nameIn, codesIn}
 use Rattle.matrix_file.specs.Reading.{mostBytes, jobOf, nothingMore, askEnd, askBehind, askFile, askLength, readAnswer}
 use Rattle.matrix_file.specs.Walk.{rowForm}
@@ -61,6 +61,7 @@ behind-passed header lines job limits e =
 pub record FilePassed (file : List ℕ) (job : Job) : Type 0 where
   pub short : length file ≤ mostBytes
   pub form : firstLineForm (linesOf file) ≡ true
+  pub order : orderKnown (firstFields (linesOf file)) ≡ true
   pub limits : withinLimits (headerIn (linesOf file) .n) (headerIn (linesOf file) .m) ≡ true
   pub behind : BehindPassed (headerIn (linesOf file)) (behindHeader (headerIn (linesOf file)) (linesOf file)) job
 
@@ -75,6 +76,7 @@ file-passed file job e =
     record {
       short = leb-true (length file) mostBytes (short .0);
       form = first .form;
+      order = first .order;
       limits = first .limits;
       behind =
           behind-passed (headerIn (linesOf file)) _ job (first .limits)
@@ -114,8 +116,8 @@ module _ (file : List ℕ) (job : Job) (passed : FilePassed file job) where
       ∙ ap (joinedBy lineFeed) (lines-split (linesOf file) (passed .form))
       ∙ ap (λ behind. joinedBy lineFeed (getD (linesOf file) 0 [] ∷ behind)) (passed .behind .all)
       ∙ joined-ended (getD (linesOf file) 0 [] ∷ take (header .n) lines)
-      ∙ sym (ap₂ (λ first others. ended (first ∷ others)) (first-written (linesOf file) (passed .form) (jobOf header lines) refl)
-      (passed .behind .rows .written))
+      ∙ sym (ap₂ (λ first others. ended (first ∷ others))
+      (first-written (linesOf file) (passed .form) (passed .order) (jobOf header lines) refl) (passed .behind .rows .written))
 
 -- an accepted file is the file of its job, which is within the limits, and has at most 45,000 bytes
 pub file-of-read : (file : List ℕ) (job : Job) → readAnswer file ≡ value job

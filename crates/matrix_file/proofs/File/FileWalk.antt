@@ -1,15 +1,15 @@
 -- The questions put to a file, as they are put one after another: its length, the header, the rows, and the end.
-use mathlib.Core.Path.{_≡_, refl, sym, ap, ap₂, _∙_}
+use mathlib.Core.Path.{_≡_, refl, sym, ap, _∙_}
 use mathlib.Core.List.{List, [], _∷_}
-use mathlib.Core.Bool.{Bool, true, false, not, and-eq-true-iff}
+use mathlib.Core.Bool.{Bool, true, false, and-eq-true-iff}
 use Prim.Native.Nat.{ℕ, _≤_, _<_}
 use native.Mathlib.Omega.{arith}
-use borrow.Author.Tests.{le-leb, lt-leb, not-true, not-false}
+use borrow.Author.Tests.{le-leb, lt-leb}
 use lib.Dec.{eqb}
-use lib.ListN.{length, getD, drop}
+use lib.ListN.{length, drop}
 use Rattle.matrix.specs.Refusals.{refusalNumber}
 use Rattle.matrix.specs.declared.refusal.Refusal.{Refusal}
-use Rattle.matrix.specs.declared.refusal.Refusal.the-variants.{FirstLine, BeyondLimits, FileGoesOn}
+use Rattle.matrix.specs.declared.refusal.Refusal.the-variants.{FirstLine, UnknownOrder, BeyondLimits, FileGoesOn}
 use Rattle.matrix.specs.declared.refusal.Asked.{Asked}
 use Rattle.matrix.specs.declared.refusal.Asked.the-variants as Asked
 use Rattle.matrix.specs.Outcomes.{ask, Outcome, value, refused, onLine, thenWith}
@@ -22,7 +22,8 @@ use Rattle.matrix_file.specs.declared.answer.RowsAnswer.{RowsAnswer}
 use Rattle.matrix_file.specs.declared.answer.RowsAnswer.the-variants as RowsAnswer
 use Rattle.matrix_file.specs.Bytes.{lineFeed, beforeFirst, partsAt, partLength, firstPart, behindPart}
 use Rattle.matrix_file.specs.Lines.{linesOf, fieldsOf}
-use Rattle.matrix_file.specs.Header.{rowLine, headerFrom, headerIn, behindHeader, firstForm, firstLineForm, askFirstLine, askHeader}
+use Rattle.matrix_file.specs.Header.{rowLine, headerFrom, headerIn, behindHeader}
+use Rattle.matrix_file.specs.Header.{firstForm, firstLineForm, orderKnown, askFirstLine, askHeader}
 use Rattle.matrix_file.specs.Reading.{mostBytes, jobOf, nothingMore, askEnd, askBehind, askFile, askLength, readAnswer}
 use Rattle.matrix_file.specs.Report.{readSays, withHeader}
 use Rattle.matrix_file.specs.Walk.{headerOn, rowsSay, RowsAsked}
@@ -30,9 +31,14 @@ use Rattle.matrix_file.proofs.File.HeaderRead.{HeaderPassed, header-pas
 use Rattle.matrix_file.proofs.Text.Parts.{parts-some, parts-at, parts-other}
 use Rattle.matrix_file.proofs.Text.FirstPart.{first-length, part-within, parts-one, parts-more}
 
--- what the header's questions bring, where its form is right or not and n and m are within their limits or not
-abbrev headerAsked : Bool → Bool → Header → Outcome Header
-headerAsked good within header = onLine 1 (ask good FirstLine (ask within BeyondLimits Asked.Passed)) (value header)
+-- what the questions put to line 1 bring, by its fields
+abbrev fieldsAsked : List (List ℕ) → Outcome Header
+fieldsAsked fields =
+    onLine 1
+    (ask (firstForm fields) FirstLine
+    (ask (orderKnown fields) UnknownOrder
+    (ask (withinLimits (headerFrom fields .n) (headerFrom fields .m)) BeyondLimits Asked.Passed)))
+    (value (headerFrom fields))
 
 -- the header of a file with line 1
 module _ (file line : List ℕ) (l : line ≡ firstPart lineFeed file) where
@@ -43,11 +49,9 @@ module _ (file line : List ℕ) (l : line ≡ firstPart lineFeed file) where
   -- it is not ended by a line feed
   pub no-feed : length line ≡ length file → refused 3 1 ≡ askHeader (linesOf file)
   unfolding askHeader askFirstLine firstLineForm linesOf
-  no-feed e =
-      sym (ap (λ lines. headerAsked (firstLineForm lines) (withinLimits (headerIn lines .n) (headerIn lines .m)) (headerIn lines))
-      (parts-one lineFeed file (sym line-length ∙ e)))
+  no-feed e = sym (ap askHeader (parts-one lineFeed file (sym line-length ∙ e)))
 
-  module _ (feed : length line ≡ length file → ⊥) (good : Bool) (g : good ≡ firstForm (fieldsOf line)) where
+  module _ (feed : length line ≡ length file → ⊥) where
     -- the file's lines: line 1, and those behind it
     lines : linesOf file ≡ line ∷ linesOf (behindPart lineFeed file)
     unfolding linesOf
@@ -55,42 +59,38 @@ module _ (file line : List ℕ) (l : line ≡ firstPart lineFeed file) where
         parts-more lineFeed file (omega (arith, line-length, part-within lineFeed file))
         ∙ ap (λ x. x ∷ partsAt lineFeed (behindPart lineFeed file)) (sym l)
 
-    -- its form is that of its fields
-    form : firstLineForm (linesOf file) ≡ good
-    unfolding firstLineForm linesOf
-    form =
+    -- its fields decide
+    fields-decide : askHeader (linesOf file) ≡ fieldsAsked (fieldsOf line)
+    unfolding askHeader askFirstLine firstLineForm headerIn linesOf
+    fields-decide =
         let more = parts-some lineFeed (behindPart lineFeed file) in
-        ap firstLineForm (lines ∙ ap (_∷_ line) (more .2)) ∙ sym g
-
-    -- its header is what its fields say
-    says : headerIn (linesOf file) ≡ headerFrom (fieldsOf line)
-    unfolding headerIn
-    says = ap (λ xs. headerFrom (fieldsOf (getD xs 0 []))) lines
+        ap askHeader (lines ∙ ap (_∷_ line) (more .2))
 
     -- its form is not right
-    pub bad-first : not good ≡ true → refused 3 1 ≡ askHeader (linesOf file)
-    unfolding askHeader askFirstLine
-    bad-first t =
-        sym (ap
-        (λ x. headerAsked x (withinLimits (headerIn (linesOf file) .n) (headerIn (linesOf file) .m)) (headerIn (linesOf file)))
-        (form ∙ not-true good t))
+    pub bad-first : firstForm (fieldsOf line) ≡ false → refused 3 1 ≡ askHeader (linesOf file)
+    bad-first e = sym (fields-decide ∙ rw e)
 
-    module _ (t : not good ≡ false) (header : Header) (e : header ≡ headerFrom (fieldsOf line)) (within : Bool)
-        (w : within ≡ withinLimits (header .n) (header .m)) where
-      -- its form is right: the limits decide
-      limited : askHeader (linesOf file) ≡ headerAsked true within header
-      unfolding askHeader askFirstLine
-      limited =
-          ap₂ (λ x read. headerAsked x (withinLimits (read .n) (read .m)) read) (form ∙ not-false good t) (says ∙ sym e)
-          ∙ ap (λ x. headerAsked true x header) (sym w)
+    module _ (form : firstForm (fieldsOf line) ≡ true) where
+      -- its form is right, but a fourth field is no word for the order
+      pub bad-order : orderKnown (fieldsOf line) ≡ false → refused 15 1 ≡ askHeader (linesOf file)
+      bad-order e = sym (fields-decide ∙ rw (form, e))
 
-      -- n or m is beyond its limits
-      pub beyond : not within ≡ true → refused 4 1 ≡ askHeader (linesOf file)
-      beyond u = sym (limited ∙ ap (λ x. headerAsked true x header) (not-true within u))
+      module _ (known : orderKnown (fieldsOf line) ≡ true) (header : Header) (h : header ≡ headerFrom (fieldsOf line)) where
+        -- the limits decide
+        limits-decide : askHeader (linesOf file)
+            ≡ onLine 1 (ask (withinLimits (header .n) (header .m)) BeyondLimits Asked.Passed) (value header)
+        limits-decide =
+            fields-decide
+            ∙ rw (form, known)
+            (ap (λ read. onLine 1 (ask (withinLimits (read .n) (read .m)) BeyondLimits Asked.Passed) (value read)) (sym h))
 
-      -- both are within them
-      pub header-found : not within ≡ false → value header ≡ askHeader (linesOf file)
-      header-found u = sym (limited ∙ ap (λ x. headerAsked true x header) (not-false within u))
+        -- n or m is beyond its limits
+        pub beyond : withinLimits (header .n) (header .m) ≡ false → refused 4 1 ≡ askHeader (linesOf file)
+        beyond e = sym (limits-decide ∙ rw e)
+
+        -- both are within them
+        pub header-found : withinLimits (header .n) (header .m) ≡ true → value header ≡ askHeader (linesOf file)
+        header-found e = sym (limits-decide ∙ rw e)
 
 -- something stands behind the last line
 more-than-nothing : (b : ℕ) (bs : List ℕ) → nothingMore (partsAt lineFeed (b ∷ bs)) ≡ false

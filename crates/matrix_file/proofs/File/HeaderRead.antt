@@ -2,52 +2,66 @@
 -- job passes.
 use mathlib.Core.Path.{_≡_, refl, sym, ap, ap₂, _∙_}
 use mathlib.Core.List.{List, [], _∷_}
-use mathlib.Core.Bool.{true, _&&_, false≢true}
-use Prim.Native.Nat.{ℕ, _<_}
+use mathlib.Core.Bool.{true, false≢true}
+use Prim.Native.Nat.{ℕ, _≤_, _<_}
 use native.Mathlib.Omega.{arith}
-use lib.ListN.{length, getD, drop}
+use borrow.Author.Tests.{le-leb}
+use lib.ListN.{length, getD, drop, length-drop}
 use Rattle.lists.specs.Tests.{every, sameNumbers as sameText}
-use Rattle.lists.proofs.Both.{and-left, and-right, and-both}
-use Rattle.lists.proofs.Every.{sameNumbers-iff}
+use Rattle.lists.proofs.Both.{and-both}
 use Rattle.matrix.specs.Outcomes.{value}
 use Rattle.matrix.specs.Questions.{withinLimits}
-use Rattle.matrix.specs.declared.refusal.Refusal.the-variants.{FirstLine, BeyondLimits}
+use Rattle.matrix.specs.declared.refusal.Refusal.the-variants.{FirstLine, UnknownOrder, BeyondLimits}
 use Rattle.matrix.specs.declared.refusal.Asked.the-variants.{Passed}
 use Rattle.matrix.proofs.Passing.{ask-passed}
 use Rattle.matrix_file.specs.declared.answer.Header.{Header}
 use Rattle.matrix_file.specs.Bytes.{tab, lineFeed, wordW, joinedBy}
-use Rattle.matrix_file.specs.Decimal.{digitsOf, numberForm, numberOf}
-use Rattle.matrix_file.specs.Job.{Job, firstText}
+use Rattle.matrix_file.specs.Decimal.{digitsOf}
+use Rattle.matrix_file.specs.Job.{Job, orderFields, firstText}
 use Rattle.matrix_file.specs.Lines.{fieldsOf}
-use Rattle.matrix_file.specs.Header.{headerFrom, headerIn, headerOf, firstForm, firstLineForm, askFirstLine, askHeader}
+use Rattle.matrix_file.specs.Header.{orderIn, headerFrom, firstFields, headerIn, headerOf}
+use Rattle.matrix_file.specs.Header.{firstForm, firstLineForm, orderKnown, askFirstLine, askHeader}
 use Rattle.matrix_file.proofs.File.Outcomes.{line-passed}
+use Rattle.matrix_file.proofs.File.FirstForm.{form-tells}
+use Rattle.matrix_file.proofs.File.Order.{order-written, order-back, order-passes, order-plain, order-single}
 use Rattle.matrix_file.proofs.Decimal.Digits.{digits-of-number, number-of-digits, digits-form}
 use Rattle.matrix_file.proofs.Text.Parts.{lacks, joined-parts}
 use Rattle.matrix_file.proofs.Text.Plain.{plain, digits-plain, line-fields, line-lacks}
 use Rattle.matrix_file.proofs.Rows.Within.{limits-high}
 
--- fields of line 1 in the right form are `W` and two numbers written in the one way
-first-form-read : (fields : List (List ℕ)) → firstForm fields ≡ true
-    → wordW ∷ digitsOf (numberOf (getD fields 1 [])) ∷ digitsOf (numberOf (getD fields 2 [])) ∷ [] ≡ fields
-unfolding firstForm
-first-form-read [] e = absurd (false≢true e)
-first-form-read (word ∷ []) e = absurd (false≢true e)
-first-form-read (word ∷ n ∷ []) e = absurd (false≢true e)
-first-form-read (word ∷ n ∷ m ∷ []) e =
-    let numbers = and-right (sameText word wordW) (numberForm n && numberForm m) e in
-    ap₂ (λ first others. first ∷ others) (sym (sameNumbers-iff word wordW .0 (and-left (sameText word wordW) _ e)))
-    (ap₂ (λ first second. first ∷ second ∷ []) (digits-of-number n (and-left (numberForm n) _ numbers))
-    (digits-of-number m (and-right (numberForm n) (numberForm m) numbers)))
-first-form-read (word ∷ n ∷ m ∷ more ∷ fields) e = absurd (false≢true e)
+-- the fields that say a header: `W`, n, m, and the word for the order, if any
+abbrev headerFields : Header → List (List ℕ)
+headerFields header = wordW ∷ digitsOf (header .n) ∷ digitsOf (header .m) ∷ orderFields (header .order)
+
+-- a list of three items or more is these three, and what stands behind them
+three-first : (fields : List (List ℕ)) → 3 ≤ length fields
+    → getD fields 0 [] ∷ getD fields 1 [] ∷ getD fields 2 [] ∷ drop 3 fields ≡ fields
+three-first [] h = absurd (omega arith)
+three-first (word ∷ []) h = absurd (omega arith)
+three-first (word ∷ n ∷ []) h = absurd (omega arith)
+three-first (word ∷ n ∷ m ∷ fields) h = refl
+
+-- fields of line 1 that pass are written in the one way
+fields-read : (fields : List (List ℕ)) → firstForm fields ≡ true → orderKnown fields ≡ true → headerFields (headerFrom fields) ≡ fields
+unfolding orderKnown orderIn
+fields-read fields form known =
+    let told = form-tells fields form in
+    let single : length (drop 3 fields) ≤ 1 = omega (arith, length-drop 3 fields, told .few) in
+    ap (λ order. wordW ∷ digitsOf (headerFrom fields .n) ∷ digitsOf (headerFrom fields .m) ∷ order)
+    (order-written (drop 3 fields) single known)
+    ∙ ap₂ (λ n m. wordW ∷ n ∷ m ∷ drop 3 fields) (digits-of-number (getD fields 1 []) (told .taxa))
+    (digits-of-number (getD fields 2 []) (told .characters))
+    ∙ ap (λ word. word ∷ getD fields 1 [] ∷ getD fields 2 [] ∷ drop 3 fields) (sym (told .word))
+    ∙ three-first fields (told .several)
 
 -- line 1 of the right form: its fields have it, other lines stand behind it, and it is written in the one way
 module _ (lines : List (List ℕ)) (form : firstLineForm lines ≡ true) where
-  -- its fields are `W` and two numbers
-  pub first-formed : firstForm (fieldsOf (getD lines 0 [])) ≡ true
+  -- its fields have the right form
+  first-formed : firstForm (firstFields lines) ≡ true
   unfolding firstLineForm
   first-formed = by lines form
     where
-      by : (xs : List (List ℕ)) → firstLineForm xs ≡ true → firstForm (fieldsOf (getD xs 0 [])) ≡ true
+      by : (xs : List (List ℕ)) → firstLineForm xs ≡ true → firstForm (firstFields xs) ≡ true
       by [] e = absurd (false≢true e)
       by (behind ∷ []) e = absurd (false≢true e)
       by (line ∷ next ∷ others) e = e
@@ -71,17 +85,18 @@ module _ (lines : List (List ℕ)) (form : firstLineForm lines ≡ true) where
       by [] e = absurd (false≢true e)
       by (line ∷ others) e = refl
 
-  -- the line 1 of a job with this header is it
-  pub first-written : (job : Job) → headerOf job ≡ headerIn lines → firstText job ≡ getD lines 0 []
+  -- with a word for the order that is known, it is the line 1 of a job with this header
+  pub first-written : orderKnown (firstFields lines) ≡ true → (job : Job) → headerOf job ≡ headerIn lines → firstText job ≡ getD lines 0 []
   unfolding firstText headerIn fieldsOf
-  first-written job e =
-      ap (λ header. joinedBy tab (wordW ∷ digitsOf (header .n) ∷ digitsOf (header .m) ∷ [])) e
-      ∙ ap (joinedBy tab) (first-form-read (fieldsOf (getD lines 0 [])) first-formed)
+  first-written known job e =
+      ap (λ header. joinedBy tab (headerFields header)) e
+      ∙ ap (joinedBy tab) (fields-read (firstFields lines) first-formed known)
       ∙ joined-parts tab (getD lines 0 [])
 
 -- what a header that passes tells
 pub record HeaderPassed (lines : List (List ℕ)) (header : Header) : Type 0 where
   pub form : firstLineForm lines ≡ true
+  pub order : orderKnown (firstFields lines) ≡ true
   pub limits : withinLimits (headerIn lines .n) (headerIn lines .m) ≡ true
   pub is : headerIn lines ≡ header
 
@@ -91,43 +106,56 @@ unfolding askHeader askFirstLine
 header-passed lines header e =
     let first = line-passed 1 (askFirstLine lines) (value (headerIn lines)) header e in
     let form = ask-passed (firstLineForm lines) FirstLine _ (first .0) in
-    let limits = ask-passed (withinLimits (headerIn lines .n) (headerIn lines .m)) BeyondLimits Passed (form .1) in
-    record { form = form .0; limits = limits .0; is = cc (first .1) }
+    let order = ask-passed (orderKnown (firstFields lines)) UnknownOrder _ (form .1) in
+    let limits = ask-passed (withinLimits (headerIn lines .n) (headerIn lines .m)) BeyondLimits Passed (order .1) in
+    record { form = form .0; order = order .0; limits = limits .0; is = cc (first .1) }
 
--- line 1 of a job is `W`, n and m
+-- line 1 of a job is `W`, n, m, and the word for the order, if any
 module _ (job : Job) where
+  -- the fields behind `W`
+  abbrev behind : List (List ℕ)
+  behind = digitsOf (job .n) ∷ digitsOf (job .m) ∷ orderFields (job .order)
+
   -- its fields hold neither a tab nor a line feed
-  words-plain : every plain (wordW ∷ digitsOf (job .n) ∷ digitsOf (job .m) ∷ []) ≡ true
+  words-plain : every plain (wordW ∷ behind) ≡ true
   unfolding every
-  words-plain = and-both (digits-plain (job .n)) (and-both (digits-plain (job .m)) refl)
+  words-plain = and-both (digits-plain (job .n)) (and-both (digits-plain (job .m)) (order-plain (job .order)))
 
   -- its fields are read back
-  pub first-fields : fieldsOf (firstText job) ≡ wordW ∷ digitsOf (job .n) ∷ digitsOf (job .m) ∷ []
+  pub first-fields : fieldsOf (firstText job) ≡ wordW ∷ behind
   unfolding firstText
-  first-fields = line-fields wordW (digitsOf (job .n) ∷ digitsOf (job .m) ∷ []) words-plain
+  first-fields = line-fields wordW behind words-plain
 
   -- it holds no line feed
   pub first-lacks : lacks lineFeed (firstText job) ≡ true
   unfolding firstText
-  first-lacks = line-lacks wordW (digitsOf (job .n) ∷ digitsOf (job .m) ∷ []) words-plain
+  first-lacks = line-lacks wordW behind words-plain
 
   -- behind it stand lines: it says the header of the job, and passes
   module _ (next : List ℕ) (others : List (List ℕ)) (within : withinLimits (job .n) (job .m) ≡ true) where
     -- its header is read back
     header-back : headerIn (firstText job ∷ next ∷ others) ≡ headerOf job
-    unfolding headerIn
+    unfolding headerIn orderIn
     header-back =
-        ap headerFrom first-fields
-        ∙ ap₂ (λ n m. record { n = n; m = m }) (number-of-digits (job .n)) (number-of-digits (job .m))
+        ap headerFrom first-fields ∙ rw (number-of-digits (job .n), number-of-digits (job .m), order-back (job .order))
 
     -- its form is right
     form-back : firstLineForm (firstText job ∷ next ∷ others) ≡ true
     unfolding firstLineForm firstForm sameText
     form-back =
         let high = limits-high (job .n) (job .m) within in
-        ap firstForm first-fields ∙ and-both (digits-form (job .n) (omega arith)) (digits-form (job .m) (omega arith))
+        ap firstForm first-fields
+        ∙ and-both
+        (and-both (le-leb 3 (length (wordW ∷ behind)) (omega arith))
+        (le-leb (length (wordW ∷ behind)) 4 (omega (arith, order-single (job .order)))))
+        (and-both (digits-form (job .n) (omega arith)) (digits-form (job .m) (omega arith)))
+
+    -- its word for the order is known
+    known-back : orderKnown (fieldsOf (firstText job)) ≡ true
+    unfolding orderKnown
+    known-back = ap orderKnown first-fields ∙ order-passes (job .order)
 
     -- so its questions pass
     pub header-passes : askHeader (firstText job ∷ next ∷ others) ≡ value (headerOf job)
     unfolding askHeader askFirstLine
-    header-passes = rw (form-back, header-back, within)
+    header-passes = rw (form-back, known-back, header-back, within)

@@ -1,17 +1,21 @@
--- A file is refused by a number from 1 to 11 and by no other. (That each of them is met is shown by the examples.)
-use mathlib.Core.Path.{_≡_, subst}
-use mathlib.Core.Bool.{Bool, true, false}
+-- A file is refused by a number from 1 to 11 or by 15, and by no other. (That each of them is met is shown by the examples.)
+use mathlib.Core.Path.{_≡_, refl, ap, _∙_, subst}
+use mathlib.Core.Bool.{Bool, true, false, false≢true}
 use mathlib.Core.List.{List, [], _∷_}
 use Prim.Native.Nat.{ℕ, zero, suc, _≤_}
 use native.Mathlib.Omega.{arith}
+use borrow.Author.Tests.{leb-true, eqb-true}
 use lib.Dec.{leb, eqb}
 use lib.ListN.{length, drop}
+use Rattle.lists.specs.Tests.{every, among}
+use Rattle.lists.proofs.Both.{or-cases}
+use Rattle.lists.proofs.Every.{every-head, every-tail}
 use Rattle.matrix.specs.Refusals.{refusalNumber}
 use Rattle.matrix.specs.Shape.{inRange}
 use Rattle.matrix.specs.Outcomes.{ask, Outcome, value, refused, onLine, thenWith}
 use Rattle.matrix.specs.Questions.{withinLimits}
 use Rattle.matrix.specs.declared.refusal.Refusal.the-variants.{FileTooLong, FileEmpty, FirstLine, BeyondLimits, NameForm, NameTaken}
-use Rattle.matrix.specs.declared.refusal.Refusal.the-variants.{LineMissing, FieldCount, CodeForm, CodeRange, FileGoesOn}
+use Rattle.matrix.specs.declared.refusal.Refusal.the-variants.{LineMissing, FieldCount, CodeForm, CodeRange, FileGoesOn, UnknownOrder}
 use Rattle.matrix.specs.declared.refusal.Refusal.{Refusal}
 use Rattle.matrix.specs.declared.refusal.Asked.{Asked}
 use Rattle.matrix.specs.declared.refusal.Asked.the-variants.{Passed, Refused}
@@ -19,13 +23,21 @@ use Rattle.matrix_file.specs.declared.answer.Header.{Header}
 use Rattle.matrix_file.specs.Decimal.{codeForm, codeOf}
 use Rattle.matrix_file.specs.Job.{nameForm, differsFromAll}
 use Rattle.matrix_file.specs.Lines.{linesOf, fieldsOf}
-use Rattle.matrix_file.specs.Header.{rowLine, headerIn, behindHeader, firstLineForm, askFirstLine, askHeader}
+use Rattle.matrix_file.specs.Header.{firstFields, rowLine, headerIn, behindHeader, firstLineForm, orderKnown, askFirstLine, askHeader}
 use Rattle.matrix_file.specs.Rows.{nameIn, askCodes, askRow, askRows}
 use Rattle.matrix_file.specs.Reading.{mostBytes, jobOf, nothingMore, askEnd, askBehind, askFile, askLength, readAnswer}
 
--- the number of a refusal that a file can meet
+-- the numbers of the refusals that a file can meet
+abbrev pub fileNumbers : List ℕ
+fileNumbers = 1 ∷ 2 ∷ 3 ∷ 4 ∷ 5 ∷ 6 ∷ 7 ∷ 8 ∷ 9 ∷ 10 ∷ 11 ∷ 15 ∷ []
+
+-- the highest of them
+abbrev pub highestNumber : ℕ
+highestNumber = 15
+
+-- a number is one of these
 abbrev pub OfFile : ℕ → Type 0
-OfFile number = (1 ≤ number) × (number ≤ 11)
+OfFile number = among number fileNumbers ≡ true
 
 -- questions that refuse, if they do, by such a number
 data Numbered : Asked → Type 0 where
@@ -57,28 +69,28 @@ numbered-then follow (with-number own) others = with-number own
 
 -- the codes of a row
 numbered-codes : (fields : List (List ℕ)) → Numbered (askCodes fields)
-unfolding askCodes
+unfolding askCodes among
 numbered-codes [] = passed
 numbered-codes (field ∷ fields) =
-    numbered-ask (codeForm field) CodeForm (omega arith)
-    (numbered-ask (inRange (codeOf field)) CodeRange (omega arith) (numbered-codes fields))
+    numbered-ask (codeForm field) CodeForm refl
+    (numbered-ask (inRange (codeOf field)) CodeRange refl (numbered-codes fields))
 
 -- a row
 numbered-row : (header : Header) (earlier : List (List ℕ)) (line : List ℕ) → Numbered (askRow header earlier line)
-unfolding askRow
+unfolding askRow among
 numbered-row header earlier line =
-    numbered-ask (eqb (length (fieldsOf line)) (suc (header .m))) FieldCount (omega arith)
-    (numbered-ask (nameForm (nameIn line)) NameForm (omega arith)
-    (numbered-ask (differsFromAll (nameIn line) earlier) NameTaken (omega arith) (numbered-codes (drop 1 (fieldsOf line)))))
+    numbered-ask (eqb (length (fieldsOf line)) (suc (header .m))) FieldCount refl
+    (numbered-ask (nameForm (nameIn line)) NameForm refl
+    (numbered-ask (differsFromAll (nameIn line) earlier) NameTaken refl (numbered-codes (drop 1 (fieldsOf line)))))
 
 -- the rows, and what follows them
 numbered-rows : {A : Type 0} (header : Header) (earlier : List (List ℕ)) (line left : ℕ) (lines : List (List ℕ))
     (follow : ℕ → List (List ℕ) → Outcome A) → ((k : ℕ) (others : List (List ℕ)) → FileNumbered (follow k others))
     → FileNumbered (askRows header earlier line left lines follow)
-unfolding askRows
+unfolding askRows among
 numbered-rows header earlier line zero lines follow own = own line lines
-numbered-rows header earlier line (suc left) [] follow own = with-number {number = refusalNumber LineMissing} (omega arith)
-numbered-rows header earlier line (suc left) (behind ∷ []) follow own = with-number {number = refusalNumber LineMissing} (omega arith)
+numbered-rows header earlier line (suc left) [] follow own = with-number {number = refusalNumber LineMissing} refl
+numbered-rows header earlier line (suc left) (behind ∷ []) follow own = with-number {number = refusalNumber LineMissing} refl
 numbered-rows header earlier line (suc left) (row ∷ next ∷ lines) follow own =
     numbered-line line (numbered-row header earlier row)
     (numbered-rows header (nameIn row ∷ earlier) (suc line) left (next ∷ lines) follow own)
@@ -86,16 +98,17 @@ numbered-rows header earlier line (suc left) (row ∷ next ∷ lines) follow own
 -- the end of the file
 numbered-end : {A : Type 0} (rest : Outcome A) → FileNumbered rest → (line : ℕ) (lines : List (List ℕ))
     → FileNumbered (askEnd rest line lines)
-unfolding askEnd
-numbered-end rest others line lines = numbered-line line (numbered-ask (nothingMore lines) FileGoesOn (omega arith) passed) others
+unfolding askEnd among
+numbered-end rest others line lines = numbered-line line (numbered-ask (nothingMore lines) FileGoesOn refl passed) others
 
 -- the header
 numbered-header : (lines : List (List ℕ)) → FileNumbered (askHeader lines)
-unfolding askHeader askFirstLine
+unfolding askHeader askFirstLine among
 numbered-header lines =
     numbered-line 1
-    (numbered-ask (firstLineForm lines) FirstLine (omega arith)
-    (numbered-ask (withinLimits (headerIn lines .n) (headerIn lines .m)) BeyondLimits (omega arith) passed))
+    (numbered-ask (firstLineForm lines) FirstLine refl
+    (numbered-ask (orderKnown (firstFields lines)) UnknownOrder refl
+    (numbered-ask (withinLimits (headerIn lines .n) (headerIn lines .m)) BeyondLimits refl passed)))
     with-value
 
 -- what stands behind it
@@ -107,11 +120,11 @@ numbered-behind header lines =
 
 -- a whole file
 numbered-file : (file : List ℕ) → FileNumbered (readAnswer file)
-unfolding readAnswer askLength askFile
+unfolding readAnswer askLength askFile among
 numbered-file file =
     numbered-line 0
-    (numbered-ask (leb (length file) mostBytes) FileTooLong (omega arith)
-    (numbered-ask (leb 1 (length file)) FileEmpty (omega arith) passed))
+    (numbered-ask (leb (length file) mostBytes) FileTooLong refl
+    (numbered-ask (leb 1 (length file)) FileEmpty refl passed))
     (numbered-then (λ header. askBehind header (behindHeader header (linesOf file))) (numbered-header (linesOf file))
     (λ header. numbered-behind header (behindHeader header (linesOf file))))
 
@@ -120,6 +133,24 @@ number-of : {A : Type 0} {outcome : Outcome A} (number line : ℕ) → FileNumbe
 number-of number line with-value e = let never : _≡_ {A = ℕ} 0 1 = cc in absurd (omega arith)
 number-of number line (with-number {number = other} own) e = let same : other ≡ number = cc in subst OfFile same own
 
--- a refused file has a number from 1 to 11
+-- a refused file has one of these numbers
 pub refused-number : (file : List ℕ) (number line : ℕ) → readAnswer file ≡ refused number line → OfFile number
 refused-number file number line e = number-of number line (numbered-file file) e
+
+-- what every number of a list passes, one of them passes
+among-passes : (test : ℕ → Bool) (v : ℕ) (xs : List ℕ) → among v xs ≡ true → every test xs ≡ true → test v ≡ true
+unfolding among
+among-passes test v [] e all = absurd (false≢true e)
+among-passes test v (x ∷ xs) e all =
+    or-cases (eqb v x) (among v xs) e (λ same. ap test (eqb-true v x same) ∙ every-head test x xs all)
+    (λ other. among-passes test v xs other (every-tail test x xs all))
+
+-- so its number is from 1 to the highest
+pub refused-bounds : (file : List ℕ) (number line : ℕ) → readAnswer file ≡ refused number line
+    → (1 ≤ number) × (number ≤ highestNumber)
+unfolding every
+refused-bounds file number line e =
+    let one = refused-number file number line e in (
+      leb-true 1 number (among-passes (leb 1) number fileNumbers one refl),
+      leb-true number highestNumber (among-passes (λ v. leb v highestNumber) number fileNumbers one refl),
+    )

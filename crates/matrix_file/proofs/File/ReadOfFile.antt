@@ -63,6 +63,7 @@ module _ (job : Job) (within : JobWithinLimits job) where
       record {
         n = job .n;
         m = job .m;
+        order = job .order;
         names = (ap (map nameIn) texts-back ∙ names-back (job .names) (job .rows) (job-rows job within)) i;
         rows = (ap (map codesIn) texts-back ∙ rows-back (job .names) (job .rows) (job-rows job within)) i;
       }

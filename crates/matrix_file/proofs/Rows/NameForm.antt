@@ -1,6 +1,6 @@
 -- The form of a name, test by test.
 use mathlib.Core.Path.{_≡_, refl, sym, ap, ap₂, _∙_}
-use mathlib.Core.Bool.{Bool, true, false, _&&_}
+use mathlib.Core.Bool.{Bool, true, false, _&&_, and-true}
 use mathlib.Core.List.{List, [], _∷_}
 use Prim.Native.Nat.{ℕ, _≤_, _<_}
 use native.Mathlib.Omega.{arith}
@@ -29,11 +29,6 @@ both-false : (a b : Bool) → a && (b && false) ≡ false
 both-false true true = refl
 both-false true false = refl
 both-false false b = refl
-
--- a test that passes behind another
-and-true : (a : Bool) → a && true ≡ a
-and-true true = refl
-and-true false = refl
 
 -- more than 16 bytes
 pub long : (name : List ℕ) → (length name ≡ 0 → ⊥) → 16 < length name → false ≡ nameForm name

@@ -1,19 +1,13 @@
--- The fields of a line, found part by part: the name and the codes of a row, and the three fields of line 1.
+-- The fields of a line, found part by part: the name and the codes of a row, and the field at a place.
 use mathlib.Core.Path.{_≡_, refl, sym, ap, _∙_}
-use mathlib.Core.List.{List, [], _∷_}
-use mathlib.Core.Bool.{true, false, _&&_, false≢true}
-use Prim.Native.Nat.{ℕ, _≤_}
-use native.Mathlib.Decide.{ℕ-discrete}
+use mathlib.Core.List.{List, []}
+use Prim.Native.Nat.{ℕ, zero, suc, _+_, _-_, _≤_, _<_}
 use native.Mathlib.Omega.{arith}
-use lib.ListN.{length, drop}
-use Rattle.lists.specs.Tests.{sameNumbers as sameText}
-use Rattle.matrix_file.specs.Bytes.{tab, wordW, partsAt, firstPart, behindPart}
-use Rattle.matrix_file.specs.Decimal.{numberForm}
+use lib.ListN.{length, getD, drop, drop-of-length-le}
+use Rattle.matrix_file.specs.Bytes.{tab, partsAt, partLength, firstPart, behindPart}
 use Rattle.matrix_file.specs.Lines.{fieldsOf}
-use Rattle.matrix_file.specs.Header.{firstForm}
 use Rattle.matrix_file.specs.Rows.{nameIn}
-use Rattle.lists.proofs.Both.{and-left, and-right}
-use Rattle.matrix_file.proofs.Text.FirstPart.{first-of-parts, parts-several, parts-single}
+use Rattle.matrix_file.proofs.Text.FirstPart.{Parted, whole, shorter, parted, parts-one, parts-more, first-of-parts, parts-several}
 
 -- a line's name is its first part
 pub name-first : (line : List ℕ) → nameIn line ≡ firstPart tab line
@@ -25,55 +19,53 @@ pub codes-behind : (line : List ℕ) → 2 ≤ length (fieldsOf line) → drop 1
 unfolding fieldsOf
 codes-behind line h = ap (drop 1) (parts-several tab line h)
 
--- the second and third field of line 1
-abbrev pub second : List ℕ → List ℕ
-second line = firstPart tab (behindPart tab line)
+-- of a text of no bytes each field is empty
+fields-none : (k : ℕ) → getD (fieldsOf []) k [] ≡ []
+unfolding fieldsOf partsAt
+fields-none zero = refl
+fields-none (suc k) = refl
 
--- the third
-abbrev pub third : List ℕ → List ℕ
-third line = behindPart tab (behindPart tab line)
-
--- three fields are the first part, the first part of what stands behind it, and what stands behind that
-pub fields-three : (line : List ℕ) → length (fieldsOf line) ≡ 3 → fieldsOf line ≡ firstPart tab line ∷ second line ∷ third line ∷ []
-unfolding fieldsOf
-fields-three line h =
-    let one : partsAt tab line ≡ firstPart tab line ∷ partsAt tab (behindPart tab line) = parts-several tab line (omega arith) in
-    let two : partsAt tab (behindPart tab line) ≡ second line ∷ partsAt tab (third line) =
-    parts-several tab (behindPart tab line) (omega (arith, ap length one)) in
-    let three : partsAt tab (third line) ≡ third line ∷ [] = parts-single tab (third line) (omega (arith, ap length one, ap length two)) in
-    one ∙ ap (_∷_ (firstPart tab line)) (two ∙ ap (_∷_ (second line)) three)
-
--- another number of fields than three is not the form of line 1
-pub first-form-count : (fields : List (List ℕ)) → (length fields ≡ 3 → ⊥) → firstForm fields ≡ false
-unfolding firstForm
-first-form-count [] h = refl
-first-form-count (word ∷ []) h = refl
-first-form-count (word ∷ n ∷ []) h = refl
-first-form-count (word ∷ n ∷ m ∷ []) h = absurd (h refl)
-first-form-count (word ∷ n ∷ m ∷ more ∷ fields) h = refl
-
--- three fields are `W` and two numbers
-pub first-form-three : (line : List ℕ) → length (fieldsOf line) ≡ 3
-    → firstForm (fieldsOf line) ≡ sameText (firstPart tab line) wordW && (numberForm (second line) && numberForm (third line))
-unfolding firstForm
-first-form-three line h = rw (fields-three line h)
-
--- line 1 of the right form: its three fields, and its two numbers have the form of a number
-pub record FirstFormed (line : List ℕ) : Type 0 where
-  pub fields : fieldsOf line ≡ firstPart tab line ∷ second line ∷ third line ∷ []
-  pub taxa : numberForm (second line) ≡ true
-  pub characters : numberForm (third line) ≡ true
-
--- line 1 of the right form is made so
-pub first-formed : (line : List ℕ) → firstForm (fieldsOf line) ≡ true → FirstFormed line
-first-formed line e = by (ℕ-discrete (length (fieldsOf line)) 3)
+-- a field behind the first one is a field of what stands behind the first tab
+pub field-behind : (line : List ℕ) (k : ℕ) → getD (fieldsOf line) (suc k) [] ≡ getD (fieldsOf (behindPart tab line)) k []
+unfolding fieldsOf behindPart
+field-behind line k = by (parted tab line)
   where
-    by : Dec (length (fieldsOf line) ≡ 3) → FirstFormed line
-    by (no h) = absurd (false≢true (sym (first-form-count (fieldsOf line) h) ∙ e))
-    by (yes h) =
-        let numbers = and-right (sameText (firstPart tab line) wordW) _ (sym (first-form-three line h) ∙ e) in
-        record {
-          fields = fields-three line h;
-          taxa = and-left (numberForm (second line)) (numberForm (third line)) numbers;
-          characters = and-right (numberForm (second line)) (numberForm (third line)) numbers;
-        }
+    by : Parted tab line → getD (fieldsOf line) (suc k) [] ≡ getD (fieldsOf (behindPart tab line)) k []
+    by (whole h) =
+        let past : length line ≤ suc (partLength tab line) = omega arith in
+        ap (λ parts. getD parts (suc k) []) (parts-one tab line h)
+        ∙ sym (ap (λ rest. getD (fieldsOf rest) k []) (drop-of-length-le line past) ∙ fields-none k)
+    by (shorter h) = ap (λ parts. getD parts (suc k) []) (parts-more tab line h)
+
+-- what a walk to the field at a place knows: that field is one of what is left, by as many places fewer as were passed
+pub record FieldLeft (line : List ℕ) (place : ℕ) (rest : List ℕ) (passed : ℕ) : Type 0 where
+  pub inside : passed ≤ place
+  pub is : getD (fieldsOf line) place [] ≡ getD (fieldsOf rest) (place - passed) []
+
+-- at the start all is left
+pub field-start : (line : List ℕ) (place : ℕ) → FieldLeft line place line 0
+field-start line place =
+    let all : place ≡ place - 0 = omega arith in
+    record { inside = omega arith; is = ap (λ k. getD (fieldsOf line) k []) all }
+
+-- behind a tab the walk goes on
+pub field-next : (line : List ℕ) (place : ℕ) (rest : List ℕ) (passed : ℕ) (behind : List ℕ) → FieldLeft line place rest passed
+    → passed < place → behind ≡ behindPart tab rest → FieldLeft line place behind (passed + 1)
+field-next line place rest passed behind inv h b =
+    let one : place - passed ≡ suc (place - (passed + 1)) = omega arith in
+    record {
+      inside = omega arith;
+      is =
+          inv .is
+          ∙ ap (λ k. getD (fieldsOf rest) k []) one
+          ∙ field-behind rest (place - (passed + 1))
+          ∙ ap (λ text. getD (fieldsOf text) (place - (passed + 1)) []) (sym b);
+    }
+
+-- at the place the field is the first part of what is left
+pub field-found : (line : List ℕ) (place : ℕ) (rest : List ℕ) (passed : ℕ) (part : List ℕ) → FieldLeft line place rest passed
+    → place ≤ passed → part ≡ firstPart tab rest → part ≡ getD (fieldsOf line) place []
+unfolding fieldsOf
+field-found line place rest passed part inv h p =
+    let none : place - passed ≡ 0 = omega arith in
+    p ∙ sym (inv .is ∙ ap (λ k. getD (fieldsOf rest) k []) none ∙ first-of-parts tab rest)

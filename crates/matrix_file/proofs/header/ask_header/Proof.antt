@@ -1,9 +1,9 @@
 -- `matrix_file::header::ask_header` meets its contract: each answer follows from the questions that led to it. Assumes nothing.
 use mathlib.Core.Path.{sym, ap, _∙_}
-use borrow.Author.Tests.{not-false}
+use borrow.Author.Tests.{not-true, not-false}
 use borrow.Author.Needs.{needs}
 use Rattle.matrix_file.specs.Report.{readSays}
-use Rattle.matrix_file.proofs.File.FileWalk.{no-feed, bad-first, beyond, header-found}
+use Rattle.matrix_file.proofs.File.FileWalk.{no-feed, bad-first, bad-order, beyond, header-found}
 use Rattle.matrix_file.proofs.header.ask_header.Statement.{statement}
 use Rattle.matrix_file.proofs.header.ask_header.Tie as tie
 
@@ -26,11 +26,14 @@ returns-2 : tie.Need-returns-2
 returns-2 c =
     let formed = c .before .before in
     ap readSays (c .refused2 .ensures)
-    ∙ bad-first _ _ (formed .before .before .first-part .ensures) (formed .before .if1 .left) _ (formed .first-form .ensures)
-    (c .before .if2 .taken)
+    ∙ bad-first _ _ (formed .before .before .first-part .ensures) (formed .before .if1 .left)
+    (sym (formed .first-form .ensures) ∙ not-true _ (c .before .if2 .taken))
+
+order-known-requires : tie.Need-order-known-requires
+order-known-requires c κs = sym (c .before .first-form .ensures) ∙ not-false _ (c .if2 .left)
 
 header-from-requires : tie.Need-header-from-requires
-header-from-requires c κs = sym (c .before .first-form .ensures) ∙ not-false _ (c .if2 .left)
+header-from-requires c κs = sym (c .before .before .first-form .ensures) ∙ not-false _ (c .before .if2 .left)
 
 within-limits-requires : tie.Need-within-limits-requires
 within-limits-requires c κs = search needs
@@ -40,18 +43,36 @@ refused-requires-3 c κs = search needs
 
 returns-3 : tie.Need-returns-3
 returns-3 c =
-    let read = c .before .before .before in
-    let formed = read .before .before in
+    let known = c .before .before .before .before in
+    let formed = known .before .before in
     ap readSays (c .refused3 .ensures)
-    ∙ beyond _ _ (formed .before .before .first-part .ensures) (formed .before .if1 .left) _ (formed .first-form .ensures)
-    (read .before .if2 .left) _ (read .header-from .ensures) _ (c .before .before .within-limits .ensures) (c .before .if3 .taken)
+    ∙ bad-order _ _ (formed .before .before .first-part .ensures) (formed .before .if1 .left)
+    (sym (formed .first-form .ensures) ∙ not-false _ (known .before .if2 .left))
+    (sym (known .order-known .ensures) ∙ not-true _ (c .before .if3 .taken))
+
+refused-requires-4 : tie.Need-refused-requires-4
+refused-requires-4 c κs = search needs
 
 returns-4 : tie.Need-returns-4
 returns-4 c =
-    let read = c .before .before in
-    let formed = read .before .before in
-    header-found _ _ (formed .before .before .first-part .ensures) (formed .before .if1 .left) _ (formed .first-form .ensures)
-    (read .before .if2 .left) _ (read .header-from .ensures) _ (c .before .within-limits .ensures) (c .if3 .left)
+    let within = c .before .before .before in
+    let known = within .before .before in
+    let formed = known .before .before in
+    ap readSays (c .refused4 .ensures)
+    ∙ beyond _ _ (formed .before .before .first-part .ensures) (formed .before .if1 .left)
+    (sym (formed .first-form .ensures) ∙ not-false _ (known .before .if2 .left))
+    (sym (known .order-known .ensures) ∙ not-false _ (c .before .before .if3 .left)) _ (within .before .header-from .ensures)
+    (sym (within .within-limits .ensures) ∙ not-true _ (c .before .if4 .taken))
+
+returns-5 : tie.Need-returns-5
+returns-5 c =
+    let within = c .before .before in
+    let known = within .before .before in
+    let formed = known .before .before in
+    header-found _ _ (formed .before .before .first-part .ensures) (formed .before .if1 .left)
+    (sym (formed .first-form .ensures) ∙ not-false _ (known .before .if2 .left))
+    (sym (known .order-known .ensures) ∙ not-false _ (c .before .if3 .left)) _ (within .before .header-from .ensures)
+    (sym (within .within-limits .ensures) ∙ not-false _ (c .if4 .left))
 
 pub ask-header-spec : {M : Type 1} → statement M
 ask-header-spec =
@@ -63,8 +84,11 @@ ask-header-spec =
     first-form-requires
     refused-requires-2
     returns-2
+    order-known-requires
     header-from-requires
     within-limits-requires
     refused-requires-3
     returns-3
-    returns-4)
+    refused-requires-4
+    returns-4
+    returns-5)

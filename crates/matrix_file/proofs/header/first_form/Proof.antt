@@ -1,6 +1,6 @@
 -- `matrix_file::header::first_form` meets its contract: each answer follows from the tests that led to it. Assumes nothing.
 use borrow.Author.Needs.{needs}
-use Rattle.matrix_file.proofs.File.FirstForm.{not-three, bad-word, bad-number, second-number}
+use Rattle.matrix_file.proofs.File.FirstForm.{too-few, too-many, bad-word, bad-number, second-number}
 use Rattle.matrix_file.proofs.header.first_form.Statement.{statement}
 use Rattle.matrix_file.proofs.header.first_form.Tie as tie
 
@@ -8,10 +8,13 @@ separators-requires : tie.Need-separators-requires
 separators-requires c κs = search needs
 
 returns : tie.Need-returns
-returns c = not-three _ _ (c .before .separators .ensures) (c .if1 .taken)
+returns c = too-few _ _ (c .before .separators .ensures) (c .if1 .taken)
 
-first-part-requires : tie.Need-first-part-requires
-first-part-requires c κs = search needs
+returns-2 : tie.Need-returns-2
+returns-2 c = too-many _ _ (c .before .before .separators .ensures) (c .before .if1 .left) (c .if2 .taken)
+
+field-requires : tie.Need-field-requires
+field-requires c κs = search needs
 
 slice-aggregate-same-text : tie.Need-slice-aggregate-same-text
 slice-aggregate-same-text c = search needs
@@ -19,44 +22,40 @@ slice-aggregate-same-text c = search needs
 same-text-requires : tie.Need-same-text-requires
 same-text-requires c κs = search needs
 
-returns-2 : tie.Need-returns-2
-returns-2 c =
-    bad-word _ _ (c .before .before .before .before .before .separators .ensures) (c .before .before .before .before .if1 .left) _ _
-    (c .before .before .before .first-part .ensures) (c .before .same-text .ensures) (c .if2 .taken)
+returns-3 : tie.Need-returns-3
+returns-3 c =
+    let word = c .before .before .before in
+    bad-word _ _ (word .before .before .before .separators .ensures) (word .before .before .if1 .left) (word .before .if2 .left) _ _
+    (word .field .ensures) (c .before .same-text .ensures) (c .if3 .taken)
 
-behind-part-requires : tie.Need-behind-part-requires
-behind-part-requires c κs = search needs
-
-first-part-requires-2 : tie.Need-first-part-requires-2
-first-part-requires-2 c κs = search needs
+field-requires-2 : tie.Need-field-requires-2
+field-requires-2 c κs = search needs
 
 number-form-requires : tie.Need-number-form-requires
 number-form-requires c κs = search needs
 
-behind-part-requires-2 : tie.Need-behind-part-requires-2
-behind-part-requires-2 c κs = search needs
+field-requires-3 : tie.Need-field-requires-3
+field-requires-3 c κs = search needs
 
 number-form-requires-2 : tie.Need-number-form-requires-2
 number-form-requires-2 c κs = search needs
 
-returns-3 : tie.Need-returns-3
-returns-3 c =
-    second-number _ _ (c .before .before .before .before .before .before .before .before .before .before .before .separators .ensures)
-    (c .before .before .before .before .before .before .before .before .before .before .if1 .left) _ _
-    (c .before .before .before .before .before .before .before .before .before .first-part .ensures)
-    (c .before .before .before .before .before .before .before .same-text .ensures)
-    (c .before .before .before .before .before .before .if2 .left) _ _ _ (c .before .before .before .before .before .behind-part .ensures)
-    (c .before .before .before .before .first-part2 .ensures) (c .before .before .before .number-form .ensures)
-    (c .before .before .if3 .taken) _ _ (c .before .behind-part2 .ensures) (c .number-form2 .ensures)
-
 returns-4 : tie.Need-returns-4
 returns-4 c =
-    bad-number _ _ (c .before .before .before .before .before .before .before .before .before .separators .ensures)
-    (c .before .before .before .before .before .before .before .before .if1 .left) _ _
-    (c .before .before .before .before .before .before .before .first-part .ensures)
-    (c .before .before .before .before .before .same-text .ensures) (c .before .before .before .before .if2 .left) _ _ _
-    (c .before .before .before .behind-part .ensures) (c .before .before .first-part2 .ensures) (c .before .number-form .ensures)
-    (c .if3 .left)
+    let first = c .before .before .before in
+    let word = first .before .before .before .before .before in
+    second-number _ _ (word .before .before .before .separators .ensures) (word .before .before .if1 .left) (word .before .if2 .left) _ _
+    (word .field .ensures) (first .before .before .before .same-text .ensures) (first .before .before .if3 .left) _ _
+    (first .before .field2 .ensures) (first .number-form .ensures) (c .before .before .if4 .taken) _ _ (c .before .field3 .ensures)
+    (c .number-form2 .ensures)
+
+returns-5 : tie.Need-returns-5
+returns-5 c =
+    let first = c .before in
+    let word = first .before .before .before .before .before in
+    bad-number _ _ (word .before .before .before .separators .ensures) (word .before .before .if1 .left) (word .before .if2 .left) _ _
+    (word .field .ensures) (first .before .before .before .same-text .ensures) (first .before .before .if3 .left) _ _
+    (first .before .field2 .ensures) (first .number-form .ensures) (c .if4 .left)
 
 pub first-form-spec : {M : Type 1} → statement M
 first-form-spec =
@@ -64,14 +63,14 @@ first-form-spec =
     (tie.spec
     separators-requires
     returns
-    first-part-requires
+    returns-2
+    field-requires
     slice-aggregate-same-text
     same-text-requires
-    returns-2
-    behind-part-requires
-    first-part-requires-2
-    number-form-requires
-    behind-part-requires-2
-    number-form-requires-2
     returns-3
-    returns-4)
+    field-requires-2
+    number-form-requires
+    field-requires-3
+    number-form-requires-2
+    returns-4
+    returns-5)

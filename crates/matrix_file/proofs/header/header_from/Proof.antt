@@ -1,48 +1,44 @@
--- `matrix_file::header::header_from` meets its contract: n is the second of the three fields, and m the third. Assumes nothing.
-use mathlib.Core.Path.{sym, ap, ap₂, _∙_}
+-- `matrix_file::header::header_from` meets its contract: n is the second field, m the third, and the word is that of the order.
+-- Assumes nothing.
+use mathlib.Core.Path.{ap, _∙_}
 use borrow.Author.Needs.{needs}
-use Rattle.matrix_file.specs.Bytes.{tab, firstPart, behindPart}
 use Rattle.matrix_file.specs.Decimal.{numberForm, numberOf}
-use Rattle.matrix_file.specs.Header.{headerFrom}
-use Rattle.matrix_file.proofs.Text.Fields.{first-formed}
+use Rattle.matrix_file.proofs.File.FirstForm.{form-tells}
 use Rattle.matrix_file.proofs.header.header_from.Statement.{statement}
 use Rattle.matrix_file.proofs.header.header_from.Tie as tie
 
-behind-part-requires : tie.Need-behind-part-requires
-behind-part-requires c κs = search needs
-
-first-part-requires : tie.Need-first-part-requires
-first-part-requires c κs = search needs
+field-requires : tie.Need-field-requires
+field-requires c κs = search needs
 
 number-of-requires : tie.Need-number-of-requires
-number-of-requires c κs =
-    ap numberForm (c .first-part .ensures ∙ ap (firstPart tab) (c .before .behind-part .ensures))
-    ∙ first-formed _ (c .before .before .before .pre) .taxa
+number-of-requires c κs = ap numberForm (c .field .ensures) ∙ form-tells _ (c .before .before .pre) .taxa
 
-behind-part-requires-2 : tie.Need-behind-part-requires-2
-behind-part-requires-2 c κs = search needs
+field-requires-2 : tie.Need-field-requires-2
+field-requires-2 c κs = search needs
 
 number-of-requires-2 : tie.Need-number-of-requires-2
-number-of-requires-2 c κs =
-    ap numberForm (c .behind-part2 .ensures ∙ ap (behindPart tab) (c .before .before .before .behind-part .ensures))
-    ∙ first-formed _ (c .before .before .before .before .before .pre) .characters
+number-of-requires-2 c κs = ap numberForm (c .field2 .ensures) ∙ form-tells _ (c .before .before .before .before .pre) .characters
+
+order-in-requires : tie.Need-order-in-requires
+order-in-requires c κs = search needs
 
 returns : tie.Need-returns
 returns c =
-    let second = c .before .before in
-    let numbers = second .before .before .behind-part .ensures in
-    ap₂ (λ n m. record { n = n; m = m })
-    (second .number-of .ensures .is ∙ ap numberOf (second .before .first-part .ensures ∙ ap (firstPart tab) numbers))
-    (c .number-of2 .ensures .is ∙ ap numberOf (c .before .behind-part2 .ensures ∙ ap (behindPart tab) numbers))
-    ∙ ap headerFrom (sym (first-formed _ (second .before .before .before .before .pre) .fields))
+    let second = c .before in
+    let first = second .before .before in λ i.
+    record {
+      n = (first .number-of .ensures .is ∙ ap numberOf (first .before .field .ensures)) i;
+      m = (second .number-of2 .ensures .is ∙ ap numberOf (second .before .field2 .ensures)) i;
+      order = c .order-in .ensures i;
+    }
 
 pub header-from-spec : {M : Type 1} → statement M
 header-from-spec =
     tie.close
     (tie.spec
-    behind-part-requires
-    first-part-requires
+    field-requires
     number-of-requires
-    behind-part-requires-2
+    field-requires-2
     number-of-requires-2
+    order-in-requires
     returns)
