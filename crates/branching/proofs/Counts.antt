@@ -66,6 +66,13 @@ unplaced-taxon n tree v m =
     let out = not-inTree tree v (k .1) in
     record { other = omega arith; taxon = omega arith; free = out .1 }
 
+-- and each of these is not placed
+pub taxon-unplaced : (n : ℕ) (tree : List ℕ) (v : ℕ) → Unplaced n tree v → List·Memᴰ v (nodesOut tree (numbers 1 n))
+unfolding nodesOut
+taxon-unplaced n tree v u =
+    mem-keep (λ v. not (inTree tree v)) (numbers 1 n) v (numbers-among 1 n v (omega (arith, u .other)) (omega (arith, u .taxon)))
+    (ap not (false-inTree tree v (u .other) (u .free)))
+
 -- a growing tree of several taxa has a node other than node 1
 pub grown-node : (n k : ℕ) (tree : List ℕ) → Grown n k tree → (u : ℕ) × List·Memᴰ u (nodesIn tree (otherNodes n))
 unfolding descendantsWanted nodesIn

@@ -25,6 +25,7 @@ use Rattle.branching.specs.Unasked.{noPlacement}
 use Rattle.branching.proofs.Passed.{placement-asked}
 use Rattle.branching.proofs.Standing.{asked-standing, placed-rows}
 use Rattle.wagner.specs.declared.build.WagnerTree.{WagnerTree}
+use Rattle.wagner.specs.declared.order.Order.{Order}
 use Rattle.wagner.specs.Build.{Built}
 use Rattle.wagner.specs.Matrix.{matrixAfter}
 use Rattle.wagner.specs.Answers.{wagnerIn, buildSays, placementsIn, BuildDone}
@@ -68,35 +69,35 @@ builtBack new n m r =
     record { tree = ancestors (r .tree); rows = rowsOf new m (n + (n - 2)); placements = take (r .count) (r .placements) }
 
 -- a build that passed its questions
-module _ (codes new : List ℤ) (n m : ℕ) (r : WagnerTree) (done : BuildDone codes new n m r) (pass : askMatrix codes n m ≡ Passed) where
+module _ (order : Order) (codes new : List ℤ) (n m : ℕ) (r : WagnerTree) (done : BuildDone order codes new n m r) (pass : askMatrix codes n m ≡ Passed) where
   -- it is ours
-  built-ours : builtBack new n m r ≡ wagnerIn codes n m
+  built-ours : builtBack new n m r ≡ wagnerIn order codes n m
   unfolding buildSays placementsIn
   built-ours =
       let lent = matrix-passes codes n m .0 pass in
-      let grown : ancestors (r .tree) ≡ wagnerIn codes n m .tree = rw pass at (done .tree) in
-      let list : r .placements ≡ filled 63 noPlacement (wagnerIn codes n m .placements) = rw pass at (done .placements) in
-      let count : r .count ≡ length (wagnerIn codes n m .placements) = rw pass at (done .count) in
-      let held : new ≡ matrixAfter codes n (wagnerIn codes n m) = rw pass at (done .matrix) in
-      let rows : rowsOf new m (n + (n - 2)) ≡ wagnerIn codes n m .rows =
+      let grown : ancestors (r .tree) ≡ wagnerIn order codes n m .tree = rw pass at (done .tree) in
+      let list : r .placements ≡ filled 63 noPlacement (wagnerIn order codes n m .placements) = rw pass at (done .placements) in
+      let count : r .count ≡ length (wagnerIn order codes n m .placements) = rw pass at (done .count) in
+      let held : new ≡ matrixAfter codes n (wagnerIn order codes n m) = rw pass at (done .matrix) in
+      let rows : rowsOf new m (n + (n - 2)) ≡ wagnerIn order codes n m .rows =
       ap (λ (all : List ℤ). rowsOf all m (n + (n - 2))) held
-      ∙ after-rows difference codes n m (lent .characters) (ours-room codes n m lent) (wagnerIn codes n m) (ours-sound codes n m lent) in
-      let first : take (r .count) (r .placements) ≡ wagnerIn codes n m .placements =
-      ap (take (r .count)) list ∙ filled-first noPlacement 63 (r .count) (wagnerIn codes n m .placements) count in
+      ∙ after-rows difference codes n m (lent .characters) (ours-room order codes n m lent) (wagnerIn order codes n m) (ours-sound order codes n m lent) in
+      let first : take (r .count) (r .placements) ≡ wagnerIn order codes n m .placements =
+      ap (take (r .count)) list ∙ filled-first noPlacement 63 (r .count) (wagnerIn order codes n m .placements) count in
       ap₂ (λ (tree : List ℕ) (all : List (List ℤ)). record {
         tree = tree;
         rows = all;
         placements = take (r .count)
             (r .placements);
       }) grown rows
-      ∙ ap (λ (list : List Placement). record { tree = wagnerIn codes n m .tree; rows = wagnerIn codes n m .rows; placements = list }) first
+      ∙ ap (λ (list : List Placement). record { tree = wagnerIn order codes n m .tree; rows = wagnerIn order codes n m .rows; placements = list }) first
 
   -- each of its placements is least
-  pub built-least : BuildIsLeast difference n m (rowsOf codes m n) (builtBack new n m r)
-  built-least = rw built-ours (unfold wagnerIn in no-rival n m (rowsOf codes m n) (matrixLent codes n m pass) .build)
+  pub built-least : BuildIsLeast order difference n m (rowsOf codes m n) (builtBack new n m r)
+  built-least = rw built-ours (unfold wagnerIn in no-rival n m (rowsOf codes m n) (matrixLent codes n m pass) .build order)
 
   -- and its tree is a branching of all taxa
   pub built-whole : branching n (ancestors (r .tree)) ≡ true
   built-whole =
       rw (ap (λ (built : Built). built .tree) built-ours)
-      (unfold wagnerIn in no-rival n m (rowsOf codes m n) (matrixLent codes n m pass) .whole)
+      (unfold wagnerIn in no-rival n m (rowsOf codes m n) (matrixLent codes n m pass) .whole order)

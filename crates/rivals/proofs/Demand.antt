@@ -47,8 +47,10 @@ no-rival n m rows a =
     record {
       network = network-shortest rows n;
       placement = handed-least n m (limits .0) (limits .1) rows matrix;
-      build = wagner-least n m (limits .0) (limits .1) rows matrix;
-      whole = branching-iff (wagner difference n rows .tree) n (limits .0) .1 (wagner-branching difference n (limits .0) (limits .1) rows);
+      build = λ order. wagner-least n m (limits .0) (limits .1) order rows matrix;
+      whole = λ order.
+          branching-iff (wagner difference order n rows .tree) n (limits .0) .1
+          (wagner-branching difference order n (limits .0) (limits .1) rows);
       fit = λ tree b. fit-least n m tree rows (limits .0) b;
       lentFit = λ records b.
           fit-least n m (ancestorsOf n records) rows (limits .0) (and-right (namedInOrder n records) (branching n

@@ -1,9 +1,9 @@
 -- The claim about the three rivals, part by part, in document 01's words. Each theorem uses the claim, so that a weaker claim would not
 -- prove it. `matrix` is an accepted matrix: one that a read accepts, or a lent one that passes its questions.
-use mathlib.Core.Path.{_≡_, sym, _∙_}
+use mathlib.Core.Path.{_≡_, refl, sym, _∙_}
 use mathlib.Core.Logic.{_↔_}
 use mathlib.Core.Bool.{true}
-use mathlib.Core.List.{List, _++_}
+use mathlib.Core.List.{List, _∷_, _++_}
 use Prim.Native.Nat.{ℕ, _+_, _≤_}
 use native.Mathlib.Omega.{arith}
 use lib.IntN.{ℤ}
@@ -18,18 +18,21 @@ use Rattle.matrix_file.specs.Reading.{readAnswer}
 use Rattle.difference.specs.Rows.{difference, nodeDifference, plain}
 use Rattle.prim.specs.Network.{network, networkLength}
 use Rattle.prim.specs.Rival.{Connected, linkEnds, linksLength}
+use Rattle.branching.specs.declared.placement.Placement.{Placement}
 use Rattle.branching.specs.Ancestors.{ancestor}
 use Rattle.branching.specs.Nodes.{Unplaced}
 use Rattle.branching.specs.Growing.{branching}
 use Rattle.branching.specs.RowLengths.{lengthUnder}
 use Rattle.branching.specs.Placing.{place}
 use Rattle.branching.specs.Rival.{hungLength}
+use Rattle.wagner.specs.declared.order.Order.{Order}
+use Rattle.wagner.specs.declared.order.Order.the-variants.{Closest}
 use Rattle.wagner.specs.Build.{wagner}
 use Rattle.fitting.specs.Sets.{In}
 use Rattle.fitting.specs.Assignments.{character, IsAssignment, IsLeast, Occurs, total}
 use Rattle.fitting.specs.Fit.{chosenState, range, fittedTotal}
 use Rattle.rivals.specs.Accepted.{Accepted, fileRead, matrixLent, HandedIn}
-use Rattle.rivals.specs.Demand.{NoRivalDoesBetter, BuildIsLeast}
+use Rattle.rivals.specs.Demand.{NoRivalDoesBetter, EachIsLeast, more, BuildIsLeast}
 use Rattle.rivals.proofs.Demand.{no-rival}
 
 -- for every file that a read accepts
@@ -39,6 +42,14 @@ for-every-file file job e = no-rival (job .n) (job .m) (job .rows) (fileRead fil
 -- for every lent matrix that passes 12, 4 and the taxa's 10
 pub for-every-lent-matrix : (codes : List ℤ) (n m : ℕ) → askMatrix codes n m ≡ Passed → NoRivalDoesBetter plain n m (rowsOf codes m n)
 for-every-lent-matrix codes n m e = no-rival n m (rowsOf codes m n) (matrixLent codes n m e)
+
+-- of placements in turn in the order `closest`, the next one adds no more than any taxon that is not placed, hung on any interval through an
+-- HTU with any m whole numbers
+pub no-taxon-adds-less : {n m : ℕ} {tree last : List ℕ} {rows lastRows : List (List ℤ)} {next : Placement} {others : List Placement}
+    → EachIsLeast Closest difference n m tree rows (next ∷ others) last lastRows
+    → (b : ℕ) → Unplaced n tree b → (c : ℕ) → 1 ≤ ancestor tree c → (r : List ℤ) → length r ≡ m
+    → lengthUnder difference n tree rows + next .added ≤ hungLength difference n tree rows b c r
+no-taxon-adds-less (more taxon placed chosen least closest others) = closest refl .least
 
 module _ (n m : ℕ) (rows : List (List ℤ)) (matrix : Accepted n m rows) where
   -- the claim about this matrix
@@ -71,12 +82,12 @@ module _ (n m : ℕ) (rows : List (List ℤ)) (matrix : Accepted n m rows) where
         ≤ hungLength difference n tree (rows ++ htus) b c r
     no-hanging-adds-less = claim .placement tree htus handed b unplaced .least
 
-  -- so it is with each placement of our own build
-  pub each-placement-least : BuildIsLeast difference n m rows (wagner difference n rows)
+  -- so it is with each placement of our own build, in either order of placing
+  pub each-placement-least : (order : Order) → BuildIsLeast order difference n m rows (wagner difference order n rows)
   each-placement-least = claim .build
 
   -- our tree has all n taxa
-  pub our-tree-whole : branching n (wagner difference n rows .tree) ≡ true
+  pub our-tree-whole : (order : Order) → branching n (wagner difference order n rows .tree) ≡ true
   our-tree-whole = claim .whole
 
   module _ (tree : List ℕ) (whole : branching n tree ≡ true) where

@@ -6,18 +6,27 @@ use Prim.Native.Nat.{ℕ, zero, suc, _+_, _-_, _≤_}
 use native.Mathlib.Omega.{arith}
 use lib.IntN.{ℤ}
 use lib.ListN.{length, length-append}
+use Rattle.lists.specs.Numbers.{numbers}
+use Rattle.lists.proofs.Least.{leastOf-le}
 use Rattle.difference.specs.Rows.{difference}
 use Rattle.branching.specs.Growing.{rowOneAlone}
 use Rattle.branching.specs.Facts.{GrowingTree, alone, several, Grown}
-use Rattle.branching.specs.Nodes.{Unplaced, taxaPlaced}
+use Rattle.branching.specs.Nodes.{nodesOut, Unplaced, taxaPlaced}
 use Rattle.branching.specs.Hanging.{noBranches}
 use Rattle.branching.proofs.Nodes.{noBranches-none, noBranches-places}
 use Rattle.branching.proofs.Test.{alone-iff, growing-fact, growing-placed}
 use Rattle.branching.specs.Placing.{linkFirst, place}
 use Rattle.branching.proofs.Placing.{place-first}
-use Rattle.wagner.specs.Build.{byAdvancement, buildOn, build, wagner}
-use Rattle.branching.specs.Rival.{PlacementIsLeast}
-use Rattle.wagner.proofs.Whole.{Chooses, advancement-chooses}
+use Rattle.branching.specs.Ancestors.{ancestor}
+use Rattle.branching.specs.RowLengths.{lengthUnder}
+use Rattle.branching.specs.Rival.{hungLength, PlacementIsLeast, NoTaxonAddsLess}
+use Rattle.branching.proofs.Counts.{taxon-unplaced}
+use Rattle.wagner.specs.declared.order.Order.{Order}
+use Rattle.wagner.specs.declared.order.Order.the-variants.{Closest}
+use Rattle.wagner.specs.Next.{byCloseness, nextBy}
+use Rattle.wagner.specs.Build.{buildOn, build, wagner}
+use Rattle.wagner.proofs.Closest.{adds, closeness-least}
+use Rattle.wagner.proofs.Whole.{order-chooses}
 use Rattle.wagner.proofs.BuildLength.{place-growth}
 use Rattle.branching.proofs.Rival.{difference-laws, placement-least}
 use Rattle.branching.proofs.RowLengths.{Growth}
@@ -62,10 +71,35 @@ module _ (n m : ℕ) (taxa : 1 ≤ n) (most : n ≤ 64) where
       let growth = handed-growth rows a tree htus h in
       growth-least _ tree (rows ++ htus) growth (has-several (h .intervals) (growth .growing)) b u
 
-  module _ (next : ℕ → List ℕ → List (List ℤ) → ℕ) (chooses : Chooses next n) where
+  -- by closeness, no hanging of any taxon that is not placed adds less than the placement of the next one
+  closest-least : (k : ℕ) (tree : List ℕ) (rows : List (List ℤ)) → Growth n m k tree rows → 2 ≤ k
+      → NoTaxonAddsLess difference n m tree rows (place difference n tree rows (byCloseness difference n tree rows))
+  closest-least k tree rows g two = record { least = λ b u c inside r long. least b u c inside r long }
+    where
+      least : (b : ℕ) → Unplaced n tree b → (c : ℕ) → 1 ≤ ancestor tree c → (r : List ℤ) → length r ≡ m
+          → lengthUnder difference n tree rows + place difference n tree rows (byCloseness difference n tree rows) .placement .added
+          ≤ hungLength difference n tree rows b c r
+      least b u c inside r long =
+          let next : place difference n tree rows (byCloseness difference n tree rows) .placement .added
+          ≤ place difference n tree rows b .placement .added =
+          rw (closeness-least difference n tree rows)
+          (leastOf-le (adds difference n tree rows) (nodesOut tree (numbers 1 n)) b (taxon-unplaced n tree b u)) in
+          omega (arith, next, growth-least k tree rows g two b u .least c inside r long)
+
+  module _ (order : Order) where
+    -- the next taxon
+    abbrev next : ℕ → List ℕ → List (List ℤ) → ℕ
+    next = nextBy difference order
+
+    -- in the order `closest`, none adds less than its placement
+    next-least : (k : ℕ) (tree : List ℕ) (rows : List (List ℤ)) → Growth n m k tree rows → 2 ≤ k → order ≡ Closest
+        → NoTaxonAddsLess difference n m tree rows (place difference n tree rows (next n tree rows))
+    unfolding nextBy
+    next-least k tree rows g two is = rw is (closest-least k tree rows g two)
+
     -- each placement of a build from a growing tree of at least two taxa on
     each-least : (count k : ℕ) (tree : List ℕ) (rows : List (List ℤ)) → Growth n m k tree rows → 2 ≤ k → count + k ≤ n
-        → EachIsLeast difference n m tree rows
+        → EachIsLeast order difference n m tree rows
         (buildOn difference next n count tree rows .placements)
         (buildOn difference next n count tree rows .tree)
         (buildOn difference next n count tree rows .rows)
@@ -73,31 +107,33 @@ module _ (n m : ℕ) (taxa : 1 ≤ n) (most : n ≤ 64) where
     each-least zero k tree rows g two h = done
     each-least (suc count) k tree rows g two h =
         let b : ℕ = next n tree rows in
-        let chosen : Unplaced n tree b = chooses tree rows (omega (arith, growing-placed tree n taxa (g .growing))) in
-        more b (place difference n tree rows b) chosen (growth-least k tree rows g two b chosen)
+        let chosen : Unplaced n tree b =
+        order-chooses difference order n tree rows (omega (arith, growing-placed tree n taxa (g .growing))) in
+        more b (place difference n tree rows b) chosen (growth-least k tree rows g two b chosen) (next-least k tree rows g two)
         (each-least count (suc k) _ _ (place-growth difference n m k tree rows g (difference-laws m) b chosen) (omega arith) (omega arith))
 
     -- a whole build, so many placements from row 1 alone
     build-least : (count : ℕ) (rows : List (List ℤ)) → Growth n m 1 noBranches rows → count + 1 ≡ n
-        → BuildIsLeast difference n m rows (buildOn difference next n count noBranches rows)
+        → BuildIsLeast order difference n m rows (buildOn difference next n count noBranches rows)
     unfolding buildOn linkFirst
     build-least zero rows g e = oneTaxon (sym e)
     build-least (suc count) rows g e =
         let b : ℕ = next n noBranches rows in
-        let chosen : Unplaced n noBranches b = chooses noBranches rows (omega (arith, growing-placed noBranches n taxa (g .growing))) in
+        let chosen : Unplaced n noBranches b =
+        order-chooses difference order n noBranches rows (omega (arith, growing-placed noBranches n taxa (g .growing))) in
         let first = place-first difference n noBranches rows b noBranches-none in
         let after = rw first at (place-growth difference n m 1 noBranches rows g (difference-laws m) b chosen) in
         rw first (severalTaxa b chosen (each-least count 2 _ _ after (omega arith) (omega arith)))
 
-  -- the build of the Wagner tree
-  pub wagner-least : (rows : List (List ℤ)) → MatrixRows n m rows → BuildIsLeast difference n m rows (wagner difference n rows)
-  unfolding wagner build
-  wagner-least rows a =
-      let start : Growth n m 1 noBranches rows =
-      record {
-        growing = alone noBranches-none;
-        room = rw noBranches-places (omega arith);
-        full = omega (arith, a .count);
-        each = rows-sized m rows (a .codes);
-      } in
-      build-least (byAdvancement difference) (advancement-chooses difference n) (n - 1) rows start (omega arith)
+    -- the build of the Wagner tree
+    pub wagner-least : (rows : List (List ℤ)) → MatrixRows n m rows → BuildIsLeast order difference n m rows (wagner difference order n rows)
+    unfolding wagner build
+    wagner-least rows a =
+        let start : Growth n m 1 noBranches rows =
+        record {
+          growing = alone noBranches-none;
+          room = rw noBranches-places (omega arith);
+          full = omega (arith, a .count);
+          each = rows-sized m rows (a .codes);
+        } in
+        build-least (n - 1) rows start (omega arith)

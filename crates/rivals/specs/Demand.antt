@@ -14,25 +14,30 @@ use Rattle.branching.specs.Nodes.{Unplaced}
 use Rattle.branching.specs.Hanging.{noBranches, linked}
 use Rattle.branching.specs.Branches.{lentBranching, ancestorsOf}
 use Rattle.branching.specs.Placing.{AfterPlacing, linkFirst, place}
+use Rattle.wagner.specs.declared.order.Order.{Order}
+use Rattle.wagner.specs.declared.order.Order.the-variants.{Closest}
 use Rattle.wagner.specs.Build.{Built, wagner}
-use Rattle.branching.specs.Rival.{PlacementIsLeast}
+use Rattle.branching.specs.Rival.{PlacementIsLeast, NoTaxonAddsLess}
 use Rattle.fitting.specs.Rival.{FitIsLeast}
 use Rattle.rivals.specs.Accepted.{HandedIn}
 
--- placements in turn, by a difference d of rows, from a tree with its rows to another with its rows: each of them is least
-pub data EachIsLeast (d : List ℤ → List ℤ → ℕ) (n m : ℕ) : List ℕ → List (List ℤ) → List Placement → List ℕ → List (List ℤ) → Type 0 where
-  done : {tree : List ℕ} {rows : List (List ℤ)} → EachIsLeast d n m tree rows [] tree rows
+-- placements in turn, in an order of placing and by a difference d of rows, from a tree with its rows to another with its rows: no other
+-- hanging of the taxon adds less than its placement and, in the order `closest`, no hanging of any taxon that is not placed
+pub data EachIsLeast (order : Order) (d : List ℤ → List ℤ → ℕ) (n m : ℕ)
+    : List ℕ → List (List ℤ) → List Placement → List ℕ → List (List ℤ) → Type 0 where
+  done : {tree : List ℕ} {rows : List (List ℤ)} → EachIsLeast order d n m tree rows [] tree rows
   more : {tree last : List ℕ} {rows lastRows : List (List ℤ)} {placements : List Placement} (b : ℕ) (placed : AfterPlacing)
       → Unplaced n tree b → PlacementIsLeast d n m tree rows b placed
-      → EachIsLeast d n m (placed .tree) (placed .rows) placements last lastRows
-      → EachIsLeast d n m tree rows (placed .placement ∷ placements) last lastRows
+      → (order ≡ Closest → NoTaxonAddsLess d n m tree rows placed)
+      → EachIsLeast order d n m (placed .tree) (placed .rows) placements last lastRows
+      → EachIsLeast order d n m tree rows (placed .placement ∷ placements) last lastRows
 
 -- a build from row 1 alone: no placement for n = 1; else a taxon is linked to row 1, and each placement after it is least
-pub data BuildIsLeast (d : List ℤ → List ℤ → ℕ) (n m : ℕ) (rows : List (List ℤ)) : Built → Type 0 where
-  oneTaxon : n ≡ 1 → BuildIsLeast d n m rows (record { tree = noBranches; rows = rows; placements = [] })
+pub data BuildIsLeast (order : Order) (d : List ℤ → List ℤ → ℕ) (n m : ℕ) (rows : List (List ℤ)) : Built → Type 0 where
+  oneTaxon : n ≡ 1 → BuildIsLeast order d n m rows (record { tree = noBranches; rows = rows; placements = [] })
   severalTaxa : {last : List ℕ} {lastRows : List (List ℤ)} {placements : List Placement} (b : ℕ) → Unplaced n noBranches b
-      → EachIsLeast d n m (linked noBranches b) rows placements last lastRows
-      → BuildIsLeast d n m rows
+      → EachIsLeast order d n m (linked noBranches b) rows placements last lastRows
+      → BuildIsLeast order d n m rows
       (record { tree = last; rows = lastRows; placements = linkFirst d noBranches rows b .placement ∷ placements })
 
 -- ours against the three rivals, as change is measured, for a matrix of n taxa and m characters with these rows
@@ -42,9 +47,9 @@ pub record NoRivalDoesBetter (measure : Measure) (n m : ℕ) (rows : List (List 
   -- our placement of a taxon on a tree handed in is a hanging on one of its intervals, adds its interval difference, and none adds less
   pub placement : (tree : List ℕ) (htus : List (List ℤ)) → HandedIn n m tree htus → (b : ℕ) → Unplaced n tree b
       → PlacementIsLeast (measure .rows) n m tree (rows ++ htus) b (place (measure .rows) n tree (rows ++ htus) b)
-  -- so is each placement of our Wagner tree, which is a branching of all n taxa
-  pub build : BuildIsLeast (measure .rows) n m rows (wagner (measure .rows) n rows)
-  pub whole : branching n (wagner (measure .rows) n rows .tree) ≡ true
+  -- so is each placement of our Wagner tree, in either order of placing, which is a branching of all n taxa
+  pub build : (order : Order) → BuildIsLeast order (measure .rows) n m rows (wagner (measure .rows) order n rows)
+  pub whole : (order : Order) → branching n (wagner (measure .rows) order n rows .tree) ≡ true
   -- on any branching our chosen states have the least total, and a range has exactly the states of assignments of least length
   pub fit : (tree : List ℕ) → branching n tree ≡ true → FitIsLeast (measure .step) tree rows n m
   -- a branching may be lent as branch records
