@@ -3,7 +3,6 @@ pub mod Build
 pub mod Matrix
 pub mod Answers
 pub mod Records
-pub mod Written
 pub mod Rising
 pub mod Order
 pub mod Steps

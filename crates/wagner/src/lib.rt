@@ -2,4 +2,3 @@
 pub mod build;
 pub mod order;
 pub mod records;
-pub mod written;

@@ -48,16 +48,16 @@ use denote.Triple.Clauses.{ensured, lasts}
 use denote.Triple.Walked.{says, Stays, stay-none, gave-slice, walkOf, goes-none, goes-gave-slice, Walks, ends-at, walked, walk-meets}
 use denote.Exit.{yes}
 use Rattle.branching.specs.declared.tree.Tree.{Tree}
-use Rattle.branching.specs.declared.kept.PlacedIn.{PlacedIn}
-use Rattle.branching.specs.Kept.{PlacementKept}
 use Rattle.branching.proofs.tree.Tree as T
 use Rattle.branching.proofs.tree.Tree.Laws as T′
-use Rattle.branching.proofs.kept.PlacedIn as N
-use Rattle.branching.proofs.kept.PlacedIn.Laws as N′
-use Rattle.branching.proofs.kept.place_in as place
-use Rattle.branching.proofs.kept.place_in.Symbol as place-def
-use Rattle.branching.proofs.kept.place_in.Symbol.{name as #branching·kept·place-in}
-use Rattle.branching.proofs.kept.place_in.Met as place-thm
+use Rattle.references.specs.declared.kept.PlacedIn.{PlacedIn}
+use Rattle.references.specs.Kept.{PlacementKept}
+use Rattle.references.proofs.kept.PlacedIn as N
+use Rattle.references.proofs.kept.PlacedIn.Laws as N′
+use Rattle.references.proofs.kept.place_in as place
+use Rattle.references.proofs.kept.place_in.Symbol as place-def
+use Rattle.references.proofs.kept.place_in.Symbol.{name as #references·kept·place-in}
+use Rattle.references.proofs.kept.place_in.Met as place-thm
 use Rattle.worked_references.proofs.print_placed as print
 use Rattle.worked_references.proofs.print_placed.Symbol as print-def
 use Rattle.worked_references.proofs.print_placed.Symbol.{name as #worked-references·print-placed}
@@ -198,7 +198,7 @@ module _ {M : Type 1} (𝓤 : URA M) (H : Heap 𝓤) (A : Atoms 𝓤) (W : Given
   goes-print r w = qed W (‵ (N.the-row .own r (w ∷ [])) ∷ []) ∵ nothing ! $ move ! (1 ∷ 0 ∷ []) $ fjoin ! $ nothing ! $ join ! $
       frame ! $ done !
 
-  module _ (C : Calls 𝓤 H) (Λ : Loops 𝓤 H) (fm : FmC 𝓤 H (W .laws) C) (known-place : Triple 𝓤 (C #branching·kept·place-in)
+  module _ (C : Calls 𝓤 H) (Λ : Loops 𝓤 H) (fm : FmC 𝓤 H (W .laws) C) (known-place : Triple 𝓤 (C #references·kept·place-in)
       (Place 𝓤 H A at-mem run)) (known-print : Triple 𝓤 (C #worked-references·print-placed) (Print 𝓤 H A at-mem run)) where
     -- the walk, from the parameters to the exit
     walk : ent 𝓤 (onEntry 𝓤 H A placed.signature (κ, tt) (q, tt) a vals) (WpFn 𝓤 H C Λ code.function (only (tvals h) ∷ s ∷ vint w64 n ∷
@@ -274,7 +274,7 @@ module _ {M : Type 1} (𝓤 : URA M) (H : Heap 𝓤) (A : Atoms 𝓤) (W : Given
         keep ! (1 ∷ 2 ∷ 0 ∷ []) $ by ! (exits (zs .0) (zs .1 .0) r e l)))))))))))))))))))))))))
 
 module _ {M : Type 1} (𝓤 : URA M) (H : Heap 𝓤) (A : Atoms 𝓤) (W : Given 𝓤 H A) (at-mem : Memory → SProp 𝓤) (run : Routine → Fun 𝓤)
-    (𝓣 : Tables 𝓤 H) (known-place : Triple 𝓤 (𝓣 .C #branching·kept·place-in) (Place 𝓤 H A at-mem run)) (known-print : Triple 𝓤
+    (𝓣 : Tables 𝓤 H) (known-place : Triple 𝓤 (𝓣 .C #references·kept·place-in) (Place 𝓤 H A at-mem run)) (known-print : Triple 𝓤
     (𝓣 .C #worked-references·print-placed) (Print 𝓤 H A at-mem run)) where
   -- the walk for every choice of lifetimes, shares and parameters
   placed-walks : Walks 𝓤 H A placed.ended stayed (WpFn 𝓤 H (𝓣 .C) (𝓣 .Λ) code.function) (placed.clauses 𝓤 H A at-mem run)
@@ -317,7 +317,7 @@ placed-in-spec 𝓤 H 𝓜 𝓖 𝓡 =
     entered 𝓤 H (tripleOf 𝓤 H (𝓖 .A) placed.signature (placed.spec 𝓤 H (𝓖 .A) (𝓜 .mem) (𝓡 .run)))
     (tables 𝓤 H 𝓜 𝓡 code.env .C) (tables 𝓤 H 𝓜 𝓡 code.env .Λ) #worked-references·placed-in code.function (code.unfolded 𝓤 H 𝓜 𝓡)
     (placed-meets 𝓤 H (𝓖 .A) (givenOf 𝓤 H 𝓜 𝓖) (𝓜 .mem) (𝓡 .run) (tablesOf 𝓤 H 𝓜 (tables 𝓤 H 𝓜 𝓡 code.env))
-    (cited 𝓤 H (Place 𝓤 H (𝓖 .A) (𝓜 .mem) (𝓡 .run)) 𝓜 𝓡 code.env #branching·kept·place-in place-def.routine
-    code.calls-branching·kept·place-in (place-thm.met 𝓤 H 𝓜 𝓖 𝓡))
+    (cited 𝓤 H (Place 𝓤 H (𝓖 .A) (𝓜 .mem) (𝓡 .run)) 𝓜 𝓡 code.env #references·kept·place-in place-def.routine
+    code.calls-references·kept·place-in (place-thm.met 𝓤 H 𝓜 𝓖 𝓡))
     (cited 𝓤 H (Print 𝓤 H (𝓖 .A) (𝓜 .mem) (𝓡 .run)) 𝓜 𝓡 code.env #worked-references·print-placed print-def.routine
     code.calls-worked-references·print-placed (print-thm.met 𝓤 H 𝓜 𝓖 𝓡)))
