@@ -55,7 +55,7 @@ use Rattle.fitting.specs.declared.calls.Fitted.{Fitted}
 use Rattle.fitting.specs.Handing.{FitAnswer}
 use Rattle.fitting.proofs.calls.Fitted as J
 use Rattle.fitting.proofs.calls.Fitted.Laws as J′
-use Rattle.references.proofs.RecordRows.{R, bvals, arr, btells, typed-all, apart, together}
+use Rattle.references.proofs.RecordRows.{R, bvals, arr, btells, typed-all, val, apart, together}
 use Rattle.references.proofs.lent.fit_lent as fit
 use Rattle.references.proofs.lent.fit_lent.Symbol as fit-def
 use Rattle.references.proofs.lent.fit_lent.Symbol.{name as #references·lent·fit-lent}
@@ -88,10 +88,6 @@ stayed = (
     ),
   ),
 )
-
--- the machine value of a lent list, and the MIR type of the one that is lent on
-abbrev val : {X : Type 0} → RefT (List X) → Val
-val y = sliceVal (y .ptr) (length (y .now))
 
 -- the MIR type of the list that is lent on
 abbrev on-type : Ty

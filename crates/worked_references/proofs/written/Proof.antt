@@ -60,7 +60,7 @@ use Rattle.branching.specs.declared.tree.Tree.{Tree}
 use Rattle.branching.specs.Ancestors.{ancestors}
 use Rattle.branching.proofs.tree.Tree as T
 use Rattle.branching.proofs.tree.Tree.Laws as T′
-use Rattle.references.proofs.RecordRows.{R, bvals, arr, btells, typed-all, apart, together}
+use Rattle.references.proofs.RecordRows.{R, bvals, arr, btells, typed-all, tvals, typed-tree, apart, together}
 use Rattle.references.specs.Written.{RecordsWritten}
 use Rattle.references.proofs.written.write_branches as write
 use Rattle.references.proofs.written.write_branches.Symbol as write-def
@@ -91,10 +91,6 @@ stayed = (
 -- the MIR type of the slice that is lent
 abbrev out-type : Ty
 out-type = sliceTy (tyRef erased mut (pointee (R .written)))
-
--- the machine value of a tree
-abbrev tvals : Tree → List Val
-tvals = LL.vals T.the-type T′.the-laws
 
 module _ {M : Type 1} (𝓤 : URA M) (H : Heap 𝓤) (A : Atoms 𝓤) (mem : Memory → SProp 𝓤) (run : Routine → Fun 𝓤) where
   -- the contracts that the proof cites
@@ -212,7 +208,7 @@ module _ {M : Type 1} (𝓤 : URA M) (H : Heap 𝓤) (A : Atoms 𝓤) (W : Given
           (λ l₄. alloc1 ! (λ l₅. alloc1 ! (λ l₆. alloc1 ! (λ l₇. alloc1 ! (λ l₈. alloc1 ! (λ l₉. alloc1 ! (λ l₁₀. alloc0 ! $ params1 ! $
           pass1 ! (init ! 18 refl (tt, (tt, (record { fits = room .0 }, tt)))) $ pass1 ! (init ! 16 refl (tt, record { fits = n-fits })) $
           pass1 ! (init ! 14 refl (tt, record { fits = m-fits })) $
-          pass1 ! (init ! 12 refl (LL.lawful T.the-type T′.the-laws 𝓤 H A W .typed h _ h-is .0)) $
+          pass1 ! (init ! 12 refl (typed-tree 𝓤 H A W h h-is)) $
           pass1 ! (init ! 10 refl (typed-all 𝓤 H A W rs _ rs-is)) $ pass0 ! $
           -- [_10; …; _9; …; _8; …; _7; …; _6; …; _5; …; _4; …; _3; …; _2; …; _1; …; room for _0; …; the token; what the parameters own]
           assigns ! (of-opd ! (load ! (from ! (stop !)) (look ! 10 refl))) (from ! (stop !)) (init ! 8 refl (typed-all 𝓤 H A W rs _ rs-is))

@@ -1,7 +1,7 @@
 -- `references::kept::place_in` meets its contract: a walk of its MIR, by hand. The tree's borrow is opened and the tree is copied out;
 -- the lent matrix goes to `place` for good, at its own lifetime, share and name; the tree of what `place` answers is stored over the old
 -- one, and the borrow is closed at that tree. Of `place` it uses only its contract, which it does not open. Assumes nothing.
-use mathlib.Core.Path.{_≡_, refl, sym, ap, subst}
+use mathlib.Core.Path.{_≡_, refl, ap}
 use Prim.Native.Nat.{ℕ, _<_, _^_}
 use mathlib.Core.List.{[], _∷_, List}
 use lib.Dec.{T as Holds}
@@ -59,6 +59,7 @@ use Rattle.branching.proofs.tree.Tree.place.Symbol as place-def
 use Rattle.branching.proofs.tree.Tree.place.Symbol.{name as #branching·tree·Tree·place}
 use Rattle.branching.proofs.tree.Tree.place.Met as place-thm
 use Rattle.references.specs.declared.kept.PlacedIn.{PlacedIn}
+use Rattle.references.proofs.RecordRows.{tvals, typed-tree}
 use Rattle.references.proofs.kept.PlacedIn as N
 use Rattle.references.proofs.kept.PlacedIn.Laws as N′
 use Rattle.references.proofs.kept.place_in.Key.{name as #references·kept·place-in}
@@ -80,11 +81,7 @@ stayed = (
   ),
 )
 
--- the machine value of a tree, and of what is handed back
-abbrev tvals : Tree → List Val
-tvals = LL.vals T.the-type T′.the-laws
-
--- of what is handed back
+-- the machine value of what is handed back
 abbrev nvals : PlacedIn → List Val
 nvals = LL.vals N.the-type N′.the-laws
 
@@ -127,11 +124,7 @@ module _ {M : Type 1} (𝓤 : URA M) (H : Heap 𝓤) (A : Atoms 𝓤) (W : Given
   abbrev Post : Val → SProp 𝓤
   Post = walkOf 𝓤 H A place-in.ended stayed (place-in.clauses 𝓤 H A at-mem run) .post (((κ, (κ′, tt)), (q, (q′, tt)), tt, x, at), tt)
 
-  -- machine values have the MIR types
-  typed : (t : Tree) → Is T.the-row t (tvals t) → Holds (hasTy T′.mir (only (tvals t))) × WT (only (tvals t))
-  typed t is = LL.lawful T.the-type T′.the-laws 𝓤 H A W .typed t _ is .0
-
-  -- and that of the rest
+  -- the machine value of what is handed back has the MIR type
   typed-rest : (n : PlacedIn) → Is N.the-row n (nvals n) → Holds (hasTy N′.mir (only (nvals n))) × WT (only (nvals n))
   typed-rest n is = LL.lawful N.the-type N′.the-laws 𝓤 H A W .typed n _ is .0
 
@@ -215,7 +208,7 @@ module _ {M : Type 1} (𝓤 : URA M) (H : Heap 𝓤) (A : Atoms 𝓤) (W : Given
         -- [what the tree owns; the tree's cell; the open borrow; obs; auth; the matrix's token; what matrix and taxon own; _9; …; _8; …;
         -- _7; …; _6; …; _5; …; _4; …; _3; …; _2; …; _1; …; room for _0; …]
         assigns ! (of-opd ! (load ! (from ! (hop ! (look ! 23 refl) (stop !))) (look-raw ! 1 refl))) (from ! (stop !))
-        (init ! 11 refl (typed h g)) $
+        (init ! 11 refl (typed-tree 𝓤 H A W h g)) $
         assigns ! (addr ! (from ! (fld ! refl (hop ! (look-in ! 21 (sub ! 0 refl (whole !))) (stop !))))) (from ! (stop !))
         (init ! 9 refl (tt, tt)) $
         assigns ! (agg ! (and-then ! (load ! (from ! (stop !)) (look ! 9 refl)) (and-then ! (load ! (from ! (fld ! refl (stop !)))
@@ -245,7 +238,7 @@ module _ {M : Type 1} (𝓤 : URA M) (H : Heap 𝓤) (A : Atoms 𝓤) (W : Given
         land ! (from ! (stop !)) (init ! 14 refl (LL.lawful P.the-type P′.the-laws 𝓤 H A W .typed r _ is .0)) $
         rewrite ! 14 (λ (u : Val). ‵ (fat fullShare P′.mir l₆ 0 u)) (ap only (LL.tells P.the-type P′.the-laws r _ is)) refl $
         assigns ! (of-opd ! (load ! (from ! (fld ! refl (stop !))) (look-in ! 14 (sub ! 1 refl (whole !)))))
-        (from ! (hop ! (look ! 24 refl) (stop !))) (store-raw ! 4 refl (typed (r .tree) (tree-is r w is))) $
+        (from ! (hop ! (look ! 24 refl) (stop !))) (store-raw ! 4 refl (typed-tree 𝓤 H A W (r .tree) (tree-is r w is))) $
         assigns ! (agg ! (and-then ! (load ! (from ! (fld ! refl (stop !))) (look-in ! 14 (sub ! 0 refl (whole !))))
         (and-then ! (load ! (from ! (fld ! refl (stop !))) (look-in ! 14 (sub ! 2 refl (whole !)))) (no-more !)))) (from ! (stop !))
         (init ! 26 refl (typed-rest (rest r) (rest-is r w is))) $

@@ -47,7 +47,8 @@ use denote.Triple.Walked.{Walks, walked, walk-meets}
 use Rattle.branching.specs.declared.branch.Branch.{Branch}
 use Rattle.branching.proofs.branch.Branch as B
 use Rattle.branching.proofs.branch.Branch.Laws as B′
-use Rattle.references.proofs.RecordRows.{R, bvals, bval, btells, typed, typed-all, bmakes, front-none, apart}
+use Rattle.references.proofs.RecordRows.{R, bvals, bval, btells, typed, typed-all, bmakes, val, word, front-none, apart}
+use Rattle.references.specs.Written.{noBranch as z, noRecords as zeros}
 use Rattle.references.specs.Lent.{Readable}
 use Rattle.references.proofs.lent.readable as readable
 use Rattle.references.proofs.lent.readable.Symbol as readable-def
@@ -60,8 +61,8 @@ use Rattle.references.proofs.lent.fit_lent.Key.{name as #references·le
 use Rattle.references.proofs.lent.fit_lent as fit
 use Rattle.references.proofs.lent.fit_lent.Statement as stated
 use Rattle.references.proofs.lent.fit_lent.Code as code
-use Rattle.references.proofs.lent.fit_lent.Proof.Callees.{stayed, goes, spelt, val, Arg, args, Vals, machine, posts, z, z-is, zeros}
-use Rattle.references.proofs.lent.fit_lent.Proof.Callees.{word, Reads, Sized, readable-of, to-readable, goes-readable}
+use Rattle.references.proofs.lent.fit_lent.Proof.Callees.{stayed, goes, spelt, Arg, args, Vals, machine, posts, z-is}
+use Rattle.references.proofs.lent.fit_lent.Proof.Callees.{Reads, Sized, readable-of, to-readable, goes-readable}
 use Rattle.references.proofs.lent.fit_lent.Proof.Loop.{copies}
 
 module _ {M : Type 1} (𝓤 : URA M) (H : Heap 𝓤) (A : Atoms 𝓤) (W : Given 𝓤 H A) (at-mem : Memory → SProp 𝓤) (run : Routine → Fun 𝓤)

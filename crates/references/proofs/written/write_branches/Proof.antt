@@ -52,7 +52,7 @@ use Rattle.branching.specs.declared.tree.Tree.{Tree}
 use Rattle.branching.specs.Ancestors.{ancestors}
 use Rattle.branching.proofs.tree.Tree as T
 use Rattle.branching.proofs.tree.Tree.Laws as T′
-use Rattle.references.proofs.RecordRows.{R, typed, typed-all, front-none, apart}
+use Rattle.references.proofs.RecordRows.{R, typed, typed-all, tvals, typed-tree, val, front-none, apart}
 use Rattle.references.specs.declared.written.BranchList.{BranchList}
 use Rattle.references.specs.Written.{Recorded}
 use Rattle.references.proofs.written.BranchList as N
@@ -69,9 +69,8 @@ use Rattle.references.proofs.written.write_branches.Key.{name as #refer
 use Rattle.references.proofs.written.write_branches as write
 use Rattle.references.proofs.written.write_branches.Statement as stated
 use Rattle.references.proofs.written.write_branches.Code as code
-use Rattle.references.proofs.written.write_branches.Proof.Callees.{stayed, tvals, val, Arg, args, Vals, machine, posts, Ask, Records}
-use Rattle.references.proofs.written.write_branches.Proof.Callees.{asked-of, records-of, typed-tree, to-records, goes-records}
-use Rattle.references.proofs.written.write_branches.Proof.Callees.{spelled}
+use Rattle.references.proofs.written.write_branches.Proof.Callees.{stayed, Arg, args, Vals, machine, posts, Ask, Records, asked-of}
+use Rattle.references.proofs.written.write_branches.Proof.Callees.{records-of, to-records, goes-records, spelled}
 use Rattle.references.proofs.written.write_branches.Proof.Loop.{copies}
 
 module _ {M : Type 1} (𝓤 : URA M) (H : Heap 𝓤) (A : Atoms 𝓤) (W : Given 𝓤 H A) (at-mem : Memory → SProp 𝓤) (run : Routine → Fun 𝓤)

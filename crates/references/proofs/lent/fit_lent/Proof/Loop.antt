@@ -50,16 +50,16 @@ use Rattle.fitting.specs.declared.calls.Fitted.{Fitted}
 use Rattle.fitting.specs.Handing.{FitAnswer}
 use Rattle.fitting.proofs.calls.Fitted as J
 use Rattle.fitting.proofs.calls.Fitted.Laws as J′
-use Rattle.references.proofs.RecordRows.{R, bvals, rec, arr, btells, typed, typed-all, bmakes, front-more, together, Upto, Nearer}
-use Rattle.references.proofs.RecordRows.{Nearer-wf, while-holds}
+use Rattle.references.proofs.RecordRows.{R, bvals, rec, arr, btells, typed, typed-all, bmakes, val, word, mslice, front-more, together}
+use Rattle.references.proofs.RecordRows.{Upto, Nearer, Nearer-wf, while-holds}
+use Rattle.references.specs.Written.{noBranch as z, noRecords as zeros}
 use Rattle.references.specs.Lent.{Readable, FitOfLent}
 use Rattle.references.proofs.Taken.{taken-answer}
 use Rattle.references.proofs.lent.fit_sized as sized
 use Rattle.references.proofs.lent.fit_sized.Symbol.{name as #references·lent·fit-sized}
 use Rattle.references.proofs.lent.fit_lent as fit
 use Rattle.references.proofs.lent.fit_lent.Code.Mir as body
-use Rattle.references.proofs.lent.fit_lent.Proof.Callees.{stayed, val, Arg, args, Vals, machine, posts, z, zeros, word, slice}
-use Rattle.references.proofs.lent.fit_lent.Proof.Callees.{mslice, given, on, ons, Sized}
+use Rattle.references.proofs.lent.fit_lent.Proof.Callees.{stayed, Arg, args, Vals, machine, posts, slice, given, on, ons, Sized}
 
 module _ {M : Type 1} (𝓤 : URA M) (H : Heap 𝓤) (A : Atoms 𝓤) (W : Given 𝓤 H A) (at-mem : Memory → SProp 𝓤) (run : Routine → Fun 𝓤)
     (κ₀ κ κ₂ κ₃ κ₄ : Lft) (q₀ q q₂ q₃ q₄ : Share)

@@ -48,16 +48,16 @@ use Rattle.branching.specs.declared.tree.Tree.{Tree}
 use Rattle.branching.specs.Ancestors.{ancestors}
 use Rattle.branching.proofs.tree.Tree as T
 use Rattle.branching.proofs.tree.Tree.Laws as T′
-use Rattle.references.proofs.RecordRows.{R, bvals, rec, arr, btells, typed, bmakes, front-more, together, Upto, Nearer, Nearer-wf}
-use Rattle.references.proofs.RecordRows.{while-holds}
+use Rattle.references.proofs.RecordRows.{R, bvals, rec, arr, btells, typed, bmakes, tvals, val, word, mslice, front-more, together}
+use Rattle.references.proofs.RecordRows.{Upto, Nearer, Nearer-wf, while-holds}
 use Rattle.references.specs.declared.written.BranchList.{BranchList}
-use Rattle.references.specs.Written.{Recorded, RecordsWritten}
+use Rattle.references.specs.Written.{noBranch as z, Recorded, RecordsWritten}
 use Rattle.references.proofs.written.BranchList as N
 use Rattle.references.proofs.written.BranchList.Laws as N′
 use Rattle.references.proofs.written.write_branches as write
 use Rattle.references.proofs.written.write_branches.Code.Mir as body
-use Rattle.references.proofs.written.write_branches.Proof.Callees.{stayed, tvals, cvals, qvals, val, Arg, args, Vals, machine, posts}
-use Rattle.references.proofs.written.write_branches.Proof.Callees.{z, word, slice, mslice, answers, typed-asked}
+use Rattle.references.proofs.written.write_branches.Proof.Callees.{stayed, cvals, qvals, Arg, args, Vals, machine, posts, slice}
+use Rattle.references.proofs.written.write_branches.Proof.Callees.{answers, typed-asked}
 
 module _ {M : Type 1} (𝓤 : URA M) (H : Heap 𝓤) (A : Atoms 𝓤) (W : Given 𝓤 H A) (at-mem : Memory → SProp 𝓤) (run : Routine → Fun 𝓤)
     (κ κ′ : Lft) (q q′ : Share) (lent : RefT (List ℤ)) (n m : ℕ) (h : Tree) (b o : ℕ) (γ : GName) (ys : List Branch)
