@@ -28,5 +28,3 @@ pub mod Passed
 pub mod Handing
 pub mod Standing
 pub mod PlacedLaws
-pub mod KeptLaws
-pub mod RecordRows

@@ -15,5 +15,4 @@ pub mod Placing
 pub mod Rival
 pub mod Unasked
 pub mod Placed
-pub mod Kept
 pub mod Nearest

@@ -1,6 +1,5 @@
 // Trees as lists of immediate ancestors; growing trees and branchings; placements; branch records.
 pub mod branch;
-pub mod kept;
 pub mod lent;
 pub mod placement;
 pub mod questions;

@@ -14,7 +14,6 @@ pub mod Gathering
 pub mod Shapes
 pub mod Handed
 pub mod Answered
-pub mod Taken
 pub mod NodeRange
 pub mod Passed
 pub mod Examples

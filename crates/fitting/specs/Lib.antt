@@ -8,6 +8,5 @@ pub mod Plans
 pub mod Steps
 pub mod Calls
 pub mod Handing
-pub mod Lent
 pub mod Lists
 pub mod Rival

@@ -2,7 +2,6 @@
 // lent branching.
 pub mod calls;
 pub mod characters;
-pub mod lent;
 pub mod planning;
 pub mod spans;
 pub mod totals;

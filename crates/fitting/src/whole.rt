@@ -183,7 +183,7 @@ fn fit_columns(
 }
 
 // No fit.
-pub(crate) fn no_fit() -> Fit
+pub fn no_fit() -> Fit
     ensures { λ r. ⌜ r ≡ noFit ⌝ }
 {
     Fit {

@@ -1,5 +1,4 @@
--- The finished tree that a build hands back passes the questions of the call that writes it as branch records, and these are then those of
--- the finished tree.
+-- The finished tree that a build hands back passes the questions of the call that writes it as branch records.
 use mathlib.Core.Path.{_≡_, refl, sym, ap, _∙_}
 use mathlib.Core.Logic.{by-cases}
 use mathlib.Core.Bool.{true, and-eq-true-iff}
@@ -12,38 +11,31 @@ use lib.IntN.{ℤ}
 use lib.ListN.{length, getD, List·getD-eq-default}
 use borrow.Author.Tests.{eqb-true}
 use Rattle.lists.specs.Numbers.{numbers}
-use Rattle.lists.specs.Over.{over}
 use Rattle.lists.specs.Tests.{every}
 use Rattle.lists.proofs.Both.{or-right}
 use Rattle.lists.proofs.Every.{every-at, every-from, every-cons, every-append, every-iff}
 use Rattle.lists.proofs.Numbers.{numbers-within}
 use Rattle.matrix.specs.Shape.{row}
 use Rattle.matrix.specs.NodeRows.{rowOf, rowsOf}
-use Rattle.matrix.specs.Outcomes.{value, askedSays}
 use Rattle.matrix.specs.Questions.{LentMatrix, allInRange, htuInRange, htusInRange}
-use Rattle.matrix.specs.declared.refusal.Asked.{Asked}
 use Rattle.matrix.specs.declared.refusal.Asked.the-variants.{Passed}
 use Rattle.matrix.proofs.Passing.{matrix-passes}
 use Rattle.matrix.proofs.NodeRows.{length-rowsOf, rowOf-next, rowOf-rowsOf}
 use Rattle.difference.specs.Rows.{difference}
 use Rattle.difference.proofs.Laws.Rows.{medians-inRange}
-use Rattle.branching.specs.declared.branch.Branch.{Branch}
 use Rattle.branching.specs.Ancestors.{ancestor}
 use Rattle.branching.specs.Nodes.{taxaPlaced}
 use Rattle.branching.specs.Growing.{growingTree, branching}
 use Rattle.branching.specs.Asking.{branchesSize, htusOf, askRecords}
-use Rattle.branching.specs.Branches.{withRecords}
 use Rattle.branching.specs.Placing.{AfterPlacing, medianRow, nearestInterval, linkFirst, hang, placeOn, place}
 use Rattle.branching.proofs.Test.{branching-iff}
 use Rattle.wagner.specs.declared.order.Order.{Order}
 use Rattle.wagner.specs.Next.{nextBy}
-use Rattle.wagner.specs.Build.{Built, buildOn, build, wagner, wagnerBranches}
+use Rattle.wagner.specs.Build.{Built, buildOn, build, wagner}
 use Rattle.wagner.specs.Answers.{wagnerIn}
 use Rattle.wagner.specs.Matrix.{matrixAfter}
-use Rattle.wagner.specs.Records.{lengthIn}
-use Rattle.wagner.specs.Written.{codeDifference, recordsSay, RecordsWritten}
 use Rattle.wagner.proofs.Matrix.{after-size, after-rows}
-use Rattle.wagner.proofs.Lengths.{records-agree, lengthIn-plain, ours-sound, ours-branching, ours-room, built-branches}
+use Rattle.wagner.proofs.Lengths.{ours-sound, ours-branching, ours-room}
 
 -- of rows that all have codes from -999 to 999, every node's has, also that of a node beyond them, which has none
 row-known : (rows : List (List ℤ)) → every allInRange rows ≡ true → (v : ℕ) → allInRange (rowOf rows v) ≡ true
@@ -127,17 +119,3 @@ module _ (order : Order) (codes : List ℤ) (n m : ℕ) (lent : LentMatrix codes
       (λ v mem. let w = numbers-within (n + 1) (taxaPlaced n (ours .tree) - 2) v mem in
       or-right (leb v n) (allInRange (row after m v)) (after-known v (omega arith) (omega (arith, all)))) in
       rw (matrix-passes after n m .1 after-lent, test, htus)
-
-  -- and what it writes are the branches of the finished tree, over the first 2n-3 records
-  pub built-written : (old new : List Branch) (r : Asked) → length old ≡ branchesSize → RecordsWritten after n m (ours .tree) old new r
-      → (askedSays r ≡ value tt) × (new ≡ over 0 (wagnerBranches difference n ours) old)
-  unfolding recordsSay
-  built-written old new r size written =
-      let says : recordsSay after n m (ours .tree) (length old) ≡ value tt = rw (size, built-passes) in
-      let records : new ≡ withRecords (codeDifference after m) n (ours .tree) old = rw says at (written .records) in
-      (written .says ∙ says, records ∙ same ∙ built-branches order codes n m lent old size)
-    where
-      same : withRecords (codeDifference after m) n (ours .tree) old ≡ withRecords (lengthIn after m) n (ours .tree) old
-      same =
-          records-agree (codeDifference after m) (lengthIn after m) n (ours .tree) old size
-          (λ v low h high. unfold codeDifference in sym (lengthIn-plain after m v (ancestor (ours .tree) v) (lent .characters)))

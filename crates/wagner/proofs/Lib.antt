@@ -12,6 +12,5 @@ pub mod UnderWay
 pub mod Stepping
 pub mod Lengths
 pub mod StillLent
-pub mod Recording
 pub mod Finished
 pub mod Rising

@@ -4,7 +4,6 @@ pub mod Build
 pub mod Matrix
 pub mod Answers
 pub mod Records
-pub mod Written
 pub mod Rising
 pub mod Order
 pub mod Closeness

@@ -3,4 +3,3 @@ pub mod build;
 pub mod closeness;
 pub mod order;
 pub mod records;
-pub mod written;

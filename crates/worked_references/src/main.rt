@@ -1,13 +1,10 @@
 // The forms over references, run: placements on a tree that the caller keeps, the finished tree written into a lent list of branch records,
 // and the fit of that list. Nodes are printed by number. The expected lines are those that `make.py` has the reference print.
 use branching::branch::Branch;
-use branching::kept::PlacedIn;
-use branching::kept::place_in;
 use branching::placement::Placement;
 use branching::tree::Tree;
 use difference::codes::apart;
 use fitting::calls::Fitted;
-use fitting::lent::fit_lent;
 use fitting::whole::Fit;
 use libc::STDOUT_FILENO;
 use matrix::refusal;
@@ -15,7 +12,10 @@ use matrix::refusal::Asked;
 use matrix::refusal::Refusal;
 use matrix::rows::row_start;
 use matrix::rows::write_row;
-use wagner::written::write_branches;
+use references::kept::PlacedIn;
+use references::kept::place_in;
+use references::lent::fit_lent;
+use references::written::write_branches;
 use worked_cases::lines::end_line;
 use worked_cases::lines::print_field;
 use worked_cases::lines::print_fitted;
@@ -30,8 +30,8 @@ ghost use Rattle.matrix.specs.Outcomes.{afterwards};
 ghost use Rattle.branching.specs.Ancestors.{ancestors};
 ghost use Rattle.branching.specs.Branches.{withRecords};
 ghost use Rattle.branching.specs.Placed.{placementSays, placeIn};
-ghost use Rattle.wagner.specs.Written.{codeDifference, recordsSay};
 ghost use Rattle.fitting.specs.Handing.{FitAnswer};
+ghost use Rattle.references.specs.Written.{codeDifference, recordsSay};
 
 // The W line or the R line of a placement on a tree that the caller keeps.
 fn print_placed(placed: PlacedIn) {

@@ -51,15 +51,15 @@ use denote.Triple.Walked.{says, Stays, stay-none, stay-none-slice, stay-dropped,
 use denote.Triple.Walked.{goes-dropped, goes-gave-slice, Walks, ends-at, walked, walk-meets}
 use denote.Exit.{yes}
 use Rattle.branching.specs.declared.branch.Branch.{Branch}
-use Rattle.branching.proofs.RecordRows.{R, bvals, arr, btells, typed-all, apart, together}
 use Rattle.fitting.specs.declared.calls.Fitted.{Fitted}
 use Rattle.fitting.specs.Handing.{FitAnswer}
 use Rattle.fitting.proofs.calls.Fitted as J
 use Rattle.fitting.proofs.calls.Fitted.Laws as J′
-use Rattle.fitting.proofs.lent.fit_lent as fit
-use Rattle.fitting.proofs.lent.fit_lent.Symbol as fit-def
-use Rattle.fitting.proofs.lent.fit_lent.Symbol.{name as #fitting·lent·fit-lent}
-use Rattle.fitting.proofs.lent.fit_lent.Met as fit-thm
+use Rattle.references.proofs.RecordRows.{R, bvals, arr, btells, typed-all, val, apart, together}
+use Rattle.references.proofs.lent.fit_lent as fit
+use Rattle.references.proofs.lent.fit_lent.Symbol as fit-def
+use Rattle.references.proofs.lent.fit_lent.Symbol.{name as #references·lent·fit-lent}
+use Rattle.references.proofs.lent.fit_lent.Met as fit-thm
 use Rattle.worked_references.proofs.fitted.Key.{name as #worked-references·fitted}
 use Rattle.worked_references.proofs.fitted as fitted
 use Rattle.worked_references.proofs.fitted.Statement as stated
@@ -88,10 +88,6 @@ stayed = (
     ),
   ),
 )
-
--- the machine value of a lent list, and the MIR type of the one that is lent on
-abbrev val : {X : Type 0} → RefT (List X) → Val
-val y = sliceVal (y .ptr) (length (y .now))
 
 -- the MIR type of the list that is lent on
 abbrev on-type : Ty
@@ -212,7 +208,7 @@ module _ {M : Type 1} (𝓤 : URA M) (H : Heap 𝓤) (A : Atoms 𝓤) (W : Given
       owned ! usize (Is usize) (uint-makes 𝓤 H A W w64) n _ (refl, n-fits) $ fjoin ! $ move ! (1 ∷ 0 ∷ []) $ fjoin ! $
       move ! (1 ∷ 0 ∷ []) $ join ! $ frame ! $ done !
 
-  module _ (C : Calls 𝓤 H) (Λ : Loops 𝓤 H) (fm : FmC 𝓤 H (W .laws) C) (known-fit : Triple 𝓤 (C #fitting·lent·fit-lent) (Fits 𝓤 H A at-mem
+  module _ (C : Calls 𝓤 H) (Λ : Loops 𝓤 H) (fm : FmC 𝓤 H (W .laws) C) (known-fit : Triple 𝓤 (C #references·lent·fit-lent) (Fits 𝓤 H A at-mem
       run)) where
     -- the walk, from the parameters to the exit
     walk : ent 𝓤 (onEntry 𝓤 H A fitted.signature (κ₀, (κ₁, (κ₂, (κ₃, tt)))) (q₀, (q₁, (q₂, (q₃, tt)))) a vals)
@@ -311,7 +307,7 @@ module _ {M : Type 1} (𝓤 : URA M) (H : Heap 𝓤) (A : Atoms 𝓤) (W : Given
         by ! (exits (zs .1 .1 .1 .1 .0) (zs .1 .1 .1 .1 .1 .0) (zs .1 .1 .1 .1 .1 .1 .0) r w e e₁ e₂ e₃))))))))))))))))))))))))))))
 
 module _ {M : Type 1} (𝓤 : URA M) (H : Heap 𝓤) (A : Atoms 𝓤) (W : Given 𝓤 H A) (at-mem : Memory → SProp 𝓤) (run : Routine → Fun 𝓤)
-    (𝓣 : Tables 𝓤 H) (known-fit : Triple 𝓤 (𝓣 .C #fitting·lent·fit-lent) (Fits 𝓤 H A at-mem run)) where
+    (𝓣 : Tables 𝓤 H) (known-fit : Triple 𝓤 (𝓣 .C #references·lent·fit-lent) (Fits 𝓤 H A at-mem run)) where
   -- the walk for every choice of lifetimes, shares and parameters
   fitted-walks : Walks 𝓤 H A fitted.ended stayed (WpFn 𝓤 H (𝓣 .C) (𝓣 .Λ) code.function) (fitted.clauses 𝓤 H A at-mem run)
   fitted-walks = walked 𝓤 H A fitted.ended stayed (fitted.clauses 𝓤 H A at-mem run) (WpFn 𝓤 H (𝓣 .C) (𝓣 .Λ) code.function)
@@ -376,5 +372,5 @@ fitted-spec 𝓤 H 𝓜 𝓖 𝓡 =
     entered 𝓤 H (tripleOf 𝓤 H (𝓖 .A) fitted.signature (fitted.spec 𝓤 H (𝓖 .A) (𝓜 .mem) (𝓡 .run)))
     (tables 𝓤 H 𝓜 𝓡 code.env .C) (tables 𝓤 H 𝓜 𝓡 code.env .Λ) #worked-references·fitted code.function (code.unfolded 𝓤 H 𝓜 𝓡)
     (fitted-meets 𝓤 H (𝓖 .A) (givenOf 𝓤 H 𝓜 𝓖) (𝓜 .mem) (𝓡 .run) (tablesOf 𝓤 H 𝓜 (tables 𝓤 H 𝓜 𝓡 code.env))
-    (cited 𝓤 H (Fits 𝓤 H (𝓖 .A) (𝓜 .mem) (𝓡 .run)) 𝓜 𝓡 code.env #fitting·lent·fit-lent fit-def.routine code.calls-fitting·lent·fit-lent
-    (fit-thm.met 𝓤 H 𝓜 𝓖 𝓡)))
+    (cited 𝓤 H (Fits 𝓤 H (𝓖 .A) (𝓜 .mem) (𝓡 .run)) 𝓜 𝓡 code.env #references·lent·fit-lent fit-def.routine
+    code.calls-references·lent·fit-lent (fit-thm.met 𝓤 H 𝓜 𝓖 𝓡)))

@@ -60,12 +60,12 @@ use Rattle.branching.specs.declared.tree.Tree.{Tree}
 use Rattle.branching.specs.Ancestors.{ancestors}
 use Rattle.branching.proofs.tree.Tree as T
 use Rattle.branching.proofs.tree.Tree.Laws as T′
-use Rattle.branching.proofs.RecordRows.{R, bvals, arr, btells, typed-all, apart, together}
-use Rattle.wagner.specs.Written.{RecordsWritten}
-use Rattle.wagner.proofs.written.write_branches as write
-use Rattle.wagner.proofs.written.write_branches.Symbol as write-def
-use Rattle.wagner.proofs.written.write_branches.Symbol.{name as #wagner·written·write-branches}
-use Rattle.wagner.proofs.written.write_branches.Met as write-thm
+use Rattle.references.proofs.RecordRows.{R, bvals, arr, btells, typed-all, tvals, typed-tree, apart, together}
+use Rattle.references.specs.Written.{RecordsWritten}
+use Rattle.references.proofs.written.write_branches as write
+use Rattle.references.proofs.written.write_branches.Symbol as write-def
+use Rattle.references.proofs.written.write_branches.Symbol.{name as #references·written·write-branches}
+use Rattle.references.proofs.written.write_branches.Met as write-thm
 use Rattle.worked_references.proofs.print_asked as print
 use Rattle.worked_references.proofs.print_asked.Symbol as print-def
 use Rattle.worked_references.proofs.print_asked.Symbol.{name as #worked-references·print-asked}
@@ -91,10 +91,6 @@ stayed = (
 -- the MIR type of the slice that is lent
 abbrev out-type : Ty
 out-type = sliceTy (tyRef erased mut (pointee (R .written)))
-
--- the machine value of a tree
-abbrev tvals : Tree → List Val
-tvals = LL.vals T.the-type T′.the-laws
 
 module _ {M : Type 1} (𝓤 : URA M) (H : Heap 𝓤) (A : Atoms 𝓤) (mem : Memory → SProp 𝓤) (run : Routine → Fun 𝓤) where
   -- the contracts that the proof cites
@@ -199,7 +195,7 @@ module _ {M : Type 1} (𝓤 : URA M) (H : Heap 𝓤) (A : Atoms 𝓤) (W : Given
     abbrev Said : List Branch → Asked → Type 0
     Said zs r = RecordsWritten (lent .now) n m (ancestors h) rs zs r
 
-    module _ (C : Calls 𝓤 H) (Λ : Loops 𝓤 H) (fm : FmC 𝓤 H (W .laws) C) (known-write : Triple 𝓤 (C #wagner·written·write-branches)
+    module _ (C : Calls 𝓤 H) (Λ : Loops 𝓤 H) (fm : FmC 𝓤 H (W .laws) C) (known-write : Triple 𝓤 (C #references·written·write-branches)
         (Write 𝓤 H A at-mem run)) (known-print : Triple 𝓤 (C #worked-references·print-asked) (Print 𝓤 H A at-mem run)) where
       -- the walk, from the parameters to the exit
       walk : ent 𝓤 (onEntry 𝓤 H A written.signature (κ, tt) (q, tt) a vals) (WpFn 𝓤 H C Λ code.function (s ∷ vint w64 n ∷ vint w64 m ∷ only
@@ -212,7 +208,7 @@ module _ {M : Type 1} (𝓤 : URA M) (H : Heap 𝓤) (A : Atoms 𝓤) (W : Given
           (λ l₄. alloc1 ! (λ l₅. alloc1 ! (λ l₆. alloc1 ! (λ l₇. alloc1 ! (λ l₈. alloc1 ! (λ l₉. alloc1 ! (λ l₁₀. alloc0 ! $ params1 ! $
           pass1 ! (init ! 18 refl (tt, (tt, (record { fits = room .0 }, tt)))) $ pass1 ! (init ! 16 refl (tt, record { fits = n-fits })) $
           pass1 ! (init ! 14 refl (tt, record { fits = m-fits })) $
-          pass1 ! (init ! 12 refl (LL.lawful T.the-type T′.the-laws 𝓤 H A W .typed h _ h-is .0)) $
+          pass1 ! (init ! 12 refl (typed-tree 𝓤 H A W h h-is)) $
           pass1 ! (init ! 10 refl (typed-all 𝓤 H A W rs _ rs-is)) $ pass0 ! $
           -- [_10; …; _9; …; _8; …; _7; …; _6; …; _5; …; _4; …; _3; …; _2; …; _1; …; room for _0; …; the token; what the parameters own]
           assigns ! (of-opd ! (load ! (from ! (stop !)) (look ! 10 refl))) (from ! (stop !)) (init ! 8 refl (typed-all 𝓤 H A W rs _ rs-is))
@@ -284,7 +280,7 @@ module _ {M : Type 1} (𝓤 : URA M) (H : Heap 𝓤) (A : Atoms 𝓤) (W : Given
           keep ! (2 ∷ 5 ∷ 0 ∷ []) $ by ! (exits (zs .1 .1 .1 .1 .0) _ r e))))))))))))))))))))))))
 
 module _ {M : Type 1} (𝓤 : URA M) (H : Heap 𝓤) (A : Atoms 𝓤) (W : Given 𝓤 H A) (at-mem : Memory → SProp 𝓤) (run : Routine → Fun 𝓤)
-    (𝓣 : Tables 𝓤 H) (known-write : Triple 𝓤 (𝓣 .C #wagner·written·write-branches) (Write 𝓤 H A at-mem run)) (known-print : Triple 𝓤
+    (𝓣 : Tables 𝓤 H) (known-write : Triple 𝓤 (𝓣 .C #references·written·write-branches) (Write 𝓤 H A at-mem run)) (known-print : Triple 𝓤
     (𝓣 .C #worked-references·print-asked) (Print 𝓤 H A at-mem run)) where
   -- the walk for every choice of lifetimes, shares and parameters
   written-walks : Walks 𝓤 H A written.ended stayed (WpFn 𝓤 H (𝓣 .C) (𝓣 .Λ) code.function) (written.clauses 𝓤 H A at-mem run)
@@ -323,7 +319,7 @@ written-spec 𝓤 H 𝓜 𝓖 𝓡 =
     entered 𝓤 H (tripleOf 𝓤 H (𝓖 .A) written.signature (written.spec 𝓤 H (𝓖 .A) (𝓜 .mem) (𝓡 .run)))
     (tables 𝓤 H 𝓜 𝓡 code.env .C) (tables 𝓤 H 𝓜 𝓡 code.env .Λ) #worked-references·written code.function (code.unfolded 𝓤 H 𝓜 𝓡)
     (written-meets 𝓤 H (𝓖 .A) (givenOf 𝓤 H 𝓜 𝓖) (𝓜 .mem) (𝓡 .run) (tablesOf 𝓤 H 𝓜 (tables 𝓤 H 𝓜 𝓡 code.env))
-    (cited 𝓤 H (Write 𝓤 H (𝓖 .A) (𝓜 .mem) (𝓡 .run)) 𝓜 𝓡 code.env #wagner·written·write-branches write-def.routine
-    code.calls-wagner·written·write-branches (write-thm.met 𝓤 H 𝓜 𝓖 𝓡))
+    (cited 𝓤 H (Write 𝓤 H (𝓖 .A) (𝓜 .mem) (𝓡 .run)) 𝓜 𝓡 code.env #references·written·write-branches write-def.routine
+    code.calls-references·written·write-branches (write-thm.met 𝓤 H 𝓜 𝓖 𝓡))
     (cited 𝓤 H (Print 𝓤 H (𝓖 .A) (𝓜 .mem) (𝓡 .run)) 𝓜 𝓡 code.env #worked-references·print-asked print-def.routine
     code.calls-worked-references·print-asked (print-thm.met 𝓤 H 𝓜 𝓖 𝓡)))
