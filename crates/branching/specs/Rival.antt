@@ -5,7 +5,6 @@ use Prim.Native.Nat.{ℕ, _+_, _≤_}
 use lib.IntN.{ℤ}
 use lib.ListN.{length}
 use Rattle.branching.specs.Ancestors.{ancestor}
-use Rattle.branching.specs.Nodes.{Unplaced}
 use Rattle.branching.specs.Hanging.{hung, nextHtu}
 use Rattle.branching.specs.RowLengths.{lengthUnder}
 use Rattle.branching.specs.Placing.{AfterPlacing, medianRow, fromInterval}
@@ -32,9 +31,4 @@ pub record PlacementIsLeast (d : List ℤ → List ℤ → ℕ) (n m : ℕ) (tre
   pub adds : lengthUnder d n (placed .tree) (placed .rows) ≡ lengthUnder d n tree rows + placed .placement .added
   -- no hanging adds less
   pub least : (c : ℕ) → 1 ≤ ancestor tree c → (r : List ℤ) → length r ≡ m
-      → lengthUnder d n tree rows + placed .placement .added ≤ hungLength d n tree rows b c r
-
--- what came out of a placement on such a tree, beside the hangings of every taxon that is not placed: none adds less
-pub record NoTaxonAddsLess (d : List ℤ → List ℤ → ℕ) (n m : ℕ) (tree : List ℕ) (rows : List (List ℤ)) (placed : AfterPlacing) : Type 0 where
-  pub least : (b : ℕ) → Unplaced n tree b → (c : ℕ) → 1 ≤ ancestor tree c → (r : List ℤ) → length r ≡ m
       → lengthUnder d n tree rows + placed .placement .added ≤ hungLength d n tree rows b c r

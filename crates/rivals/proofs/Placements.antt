@@ -19,7 +19,7 @@ use Rattle.branching.specs.Placing.{linkFirst, place}
 use Rattle.branching.proofs.Placing.{place-first}
 use Rattle.branching.specs.Ancestors.{ancestor}
 use Rattle.branching.specs.RowLengths.{lengthUnder}
-use Rattle.branching.specs.Rival.{hungLength, PlacementIsLeast, NoTaxonAddsLess}
+use Rattle.branching.specs.Rival.{hungLength, PlacementIsLeast}
 use Rattle.branching.proofs.Counts.{taxon-unplaced}
 use Rattle.wagner.specs.declared.order.Order.{Order}
 use Rattle.wagner.specs.declared.order.Order.the-variants.{Closest}
@@ -31,7 +31,7 @@ use Rattle.wagner.proofs.BuildLength.{place-growth}
 use Rattle.branching.proofs.Rival.{difference-laws, placement-least}
 use Rattle.branching.proofs.RowLengths.{Growth}
 use Rattle.rivals.specs.Accepted.{HandedIn}
-use Rattle.rivals.specs.Demand.{EachIsLeast, done, more, BuildIsLeast, oneTaxon, severalTaxa}
+use Rattle.rivals.specs.Demand.{NoTaxonAddsLess, EachIsLeast, done, more, BuildIsLeast, oneTaxon, severalTaxa}
 use Rattle.rivals.proofs.Rows.{MatrixRows, rows-sized, rows-append}
 
 -- a growing tree of at least two taxa is a tree of several

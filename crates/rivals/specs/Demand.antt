@@ -2,24 +2,33 @@
 use mathlib.Core.Path.{_≡_}
 use mathlib.Core.Bool.{true}
 use mathlib.Core.List.{List, [], _∷_, _++_}
-use Prim.Native.Nat.{ℕ}
+use Prim.Native.Nat.{ℕ, _+_, _≤_}
 use lib.IntN.{ℤ}
+use lib.ListN.{length}
 use Rattle.matrix.specs.NodeRows.{rowOf}
 use Rattle.difference.specs.Rows.{Measure, nodeDifference}
 use Rattle.prim.specs.Rival.{Shortest}
 use Rattle.branching.specs.declared.placement.Placement.{Placement}
 use Rattle.branching.specs.declared.branch.Branch.{Branch}
+use Rattle.branching.specs.Ancestors.{ancestor}
 use Rattle.branching.specs.Growing.{branching}
 use Rattle.branching.specs.Nodes.{Unplaced}
 use Rattle.branching.specs.Hanging.{noBranches, linked}
 use Rattle.branching.specs.Branches.{lentBranching, ancestorsOf}
+use Rattle.branching.specs.RowLengths.{lengthUnder}
 use Rattle.branching.specs.Placing.{AfterPlacing, linkFirst, place}
 use Rattle.wagner.specs.declared.order.Order.{Order}
 use Rattle.wagner.specs.declared.order.Order.the-variants.{Closest}
 use Rattle.wagner.specs.Build.{Built, wagner}
-use Rattle.branching.specs.Rival.{PlacementIsLeast, NoTaxonAddsLess}
+use Rattle.branching.specs.Rival.{hungLength, PlacementIsLeast}
 use Rattle.fitting.specs.Rival.{FitIsLeast}
 use Rattle.rivals.specs.Accepted.{HandedIn}
+
+-- what came out of a placement on a tree with rows of m codes, beside the hangings of every taxon that is not placed, on any interval and
+-- through an HTU with any codes: none adds less
+pub record NoTaxonAddsLess (d : List ℤ → List ℤ → ℕ) (n m : ℕ) (tree : List ℕ) (rows : List (List ℤ)) (placed : AfterPlacing) : Type 0 where
+  pub least : (b : ℕ) → Unplaced n tree b → (c : ℕ) → 1 ≤ ancestor tree c → (r : List ℤ) → length r ≡ m
+      → lengthUnder d n tree rows + placed .placement .added ≤ hungLength d n tree rows b c r
 
 -- placements in turn, in an order of placing and by a difference d of rows, from a tree with its rows to another with its rows: no other
 -- hanging of the taxon adds less than its placement and, in the order `closest`, no hanging of any taxon that is not placed

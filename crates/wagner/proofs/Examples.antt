@@ -78,6 +78,36 @@ fourTaxa-built : shown 4 fourTaxa
 unfolding shown
 fourTaxa-built = refl
 
+-- by closeness C and D are equally near to the interval of B, and the lower row comes first: W B - A - 3; W C B A #1 3; W D #1 A #2 3; w 9
+fourTaxa-closest : shownBy Closest 4 fourTaxa
+    ≡ record {
+      placements = line 2 0 1 0 3 ∷ line 3 2 1 5 3 ∷ line 4 5 1 6 3 ∷ [];
+      ancestors = 0 ∷ 0 ∷ 5 ∷ 5 ∷ 6 ∷ 6 ∷ 1 ∷ [];
+      total = 9;
+      isBranching = true;
+    }
+unfolding shownBy
+fourTaxa-closest = refl
+
+-- taxon 5 is least advanced; then by closeness taxa 4, 3 and 2, each next to the one before it, while taxon 2 is less advanced than 3
+abbrev stairs : List (List ℤ)
+stairs = (pos 0 ∷ pos 0 ∷ []) ∷ (pos 2 ∷ pos 3 ∷ []) ∷ (pos 3 ∷ pos 3 ∷ []) ∷ (pos 3 ∷ pos 2 ∷ []) ∷ (pos 3 ∷ pos 1 ∷ []) ∷ []
+
+stairs-closest : shownBy Closest 5 stairs
+    ≡ record {
+      placements = line 5 0 1 0 4 ∷ line 4 5 1 6 1 ∷ line 3 4 6 7 1 ∷ line 2 3 7 8 1 ∷ [];
+      ancestors = 0 ∷ 0 ∷ 8 ∷ 8 ∷ 7 ∷ 6 ∷ 1 ∷ 6 ∷ 7 ∷ [];
+      total = 7;
+      isBranching = true;
+    }
+unfolding shownBy
+stairs-closest = refl
+
+-- by advancement that tree is longer
+stairs-advanced : shownBy Advance 5 stairs .total ≡ 8
+unfolding shownBy
+stairs-advanced = refl
+
 -- one taxon: no placement, no branch
 one-built : shown 1 ((pos 7 ∷ []) ∷ []) ≡ record { placements = []; ancestors = 0 ∷ []; total = 0; isBranching = true }
 unfolding shown
