@@ -7,6 +7,7 @@ use matrix::refusal::Asked;
 use matrix::rows::write_row;
 use wagner::build::WagnerTree;
 use wagner::build::build;
+use wagner::order::Order;
 use wagner::records::branches;
 use worked_cases::digests::print_digest;
 use worked_cases::generated::fill;
@@ -57,7 +58,7 @@ fn print_built(built: WagnerTree, codes: &[i32; 16128], n: usize, m: usize) {
 
 // The lines of a build from a matrix of n taxa and m characters.
 fn show(codes: &mut [i32; 16128], n: usize, m: usize) {
-    let built = build(codes, n, m);
+    let built = build(codes, n, m, Order::Advance);
     let asked = built.asked;
     match asked {
         Asked::Passed => print_built(built, codes, n, m),
@@ -175,7 +176,7 @@ fn refusals(codes: &mut [i32; 16128]) {
 // A matrix that is not of full size.
 fn short() {
     let mut codes = [0i32; 16127];
-    let built = build(&mut codes, 0, 0);
+    let built = build(&mut codes, 0, 0, Order::Advance);
     let asked = built.asked;
     match asked {
         Asked::Passed => end_line(),
