@@ -2,6 +2,7 @@
 pub mod Said
 pub mod Listed
 pub mod Read
+pub mod OrderNumbers
 pub mod Built
 pub mod Fitted
 pub mod Zero

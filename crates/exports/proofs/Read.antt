@@ -3,6 +3,7 @@ use mathlib.Core.Path.{_≡_, sym, _∙_, ap}
 use mathlib.Core.List.{List}
 use Prim.Native.Nat.{ℕ}
 use lib.IntN.{ℤ}
+use Rattle.matrix.specs.Outcomes.{value}
 use Rattle.matrix.specs.Refusals.{refusalNumber}
 use Rattle.matrix.specs.declared.refusal.Refusal.{Refusal}
 use Rattle.matrix_file.specs.Report.{readSays, ReadDone}
@@ -11,17 +12,18 @@ use Rattle.matrix_file.specs.declared.answer.Read.{Read}
 use Rattle.matrix_file.specs.declared.answer.Read.the-variants.{Accepted, Refused}
 use Rattle.exports.specs.Answers.{fileRead}
 use Rattle.exports.specs.Calls.{ReadExported}
+use Rattle.exports.specs.declared.answers.FileRead.{FileRead}
 
 module _ (file : List ℕ) (oldMatrix : List ℤ) (oldNames : List ℕ) (newMatrix : List ℤ) (newNames : List ℕ) (answer : Read)
     (done : ReadDone file oldMatrix oldNames newMatrix newNames answer) where
   -- a refusal
   pub read-refused : (refusal : Refusal) (line : ℕ) → answer ≡ Refused refusal line → (number : ℕ) → number ≡ refusalNumber refusal
-      → ReadExported file oldMatrix oldNames newMatrix newNames (record { refusal = number; line = line; n = 0; m = 0 })
+      → ReadExported file oldMatrix oldNames newMatrix newNames (record { refusal = number; line = line; n = 0; m = 0; order = 0 })
   read-refused refusal line e number is =
       record { answers = rw is (ap fileRead (sym (ap readSays e) ∙ done .says)); matrix = done .matrix; names = done .names }
 
   -- a header
-  pub read-accepted : (header : Header) → answer ≡ Accepted header
-      → ReadExported file oldMatrix oldNames newMatrix newNames (record { refusal = 0; line = 0; n = header .n; m = header .m })
-  read-accepted header e =
-      record { answers = ap fileRead (sym (ap readSays e) ∙ done .says); matrix = done .matrix; names = done .names }
+  pub read-accepted : (header : Header) → answer ≡ Accepted header → (r : FileRead) → r ≡ fileRead (value header)
+      → ReadExported file oldMatrix oldNames newMatrix newNames r
+  read-accepted header e r is =
+      record { answers = is ∙ ap fileRead (sym (ap readSays e) ∙ done .says); matrix = done .matrix; names = done .names }

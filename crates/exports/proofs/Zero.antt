@@ -11,13 +11,13 @@ use Rattle.matrix.specs.Refusals.{refusalNumber}
 use Rattle.matrix.specs.declared.refusal.Refusal.{Refusal}
 use Rattle.matrix.specs.declared.refusal.Refusal.the-variants.{FileTooLong, FileEmpty, FirstLine, BeyondLimits, LineMissing}
 use Rattle.matrix.specs.declared.refusal.Refusal.the-variants.{NameForm, NameTaken, FieldCount, CodeForm, CodeRange, FileGoesOn}
-use Rattle.matrix.specs.declared.refusal.Refusal.the-variants.{ListSize, NotThere, NotBranching}
+use Rattle.matrix.specs.declared.refusal.Refusal.the-variants.{ListSize, NotThere, NotBranching, UnknownOrder}
 use Rattle.matrix.specs.declared.refusal.Asked.{Asked}
 use Rattle.matrix.specs.declared.refusal.Asked.the-variants.{Passed, Refused}
 use Rattle.matrix_file.specs.Job.{Job}
 use Rattle.matrix_file.specs.Reading.{readAnswer}
 use Rattle.matrix_file.specs.Report.{fullSize, readOutcome, withHeader}
-use Rattle.matrix_file.proofs.File.Numbered.{refused-number}
+use Rattle.matrix_file.proofs.File.Numbered.{refused-bounds}
 use Rattle.exports.specs.Answers.{fileRead, measured}
 
 -- no refusal has the number 0
@@ -36,6 +36,7 @@ numbered FileGoesOn = omega arith
 numbered ListSize = omega arith
 numbered NotThere = omega arith
 numbered NotBranching = omega arith
+numbered UnknownOrder = omega arith
 
 -- a call on a lent matrix hands back 0 exactly if its questions passed
 pub zero-passed : (asked : Asked) (length : ℕ) → (measured (answered asked length) .refusal ≡ 0) ↔ (asked ≡ Passed)
@@ -50,7 +51,7 @@ unfolding readOutcome
 read-numbered file matrix names number line e = go (fullSize matrix names) e
   where
     go : (full : Bool) → onLine 0 (ask full ListSize Passed) (readAnswer file) ≡ refused number line → 1 ≤ number
-    go true e = refused-number file number line e .0
+    go true e = refused-bounds file number line e .0
     go false e = let same : 12 ≡ number = cc in omega arith
 
 -- what a file brings is a job, or it is refused by a number that is not 0

@@ -2,6 +2,8 @@
 use Prim.Native.Nat.{ℕ}
 use Rattle.matrix.specs.Outcomes.{Outcome, value, refused}
 use Rattle.matrix_file.specs.declared.answer.Header.{Header}
+use Rattle.listing.specs.Meant.{orderMeant}
+use Rattle.exports.specs.Orders.{orderNumber}
 use Rattle.exports.specs.declared.answers.FileRead.{FileRead}
 use Rattle.exports.specs.declared.answers.Measured.{Measured}
 
@@ -10,10 +12,12 @@ abbrev pub bytesSaid : Outcome ℕ → ℕ
 bytesSaid (value count) = count
 bytesSaid (refused number line) = 0
 
--- the header of an accepted file, with 0 for the refusal and its line; or the number of the refusal and its line, with 0 for n and m
+-- the header of an accepted file and the order of placing that it means, with 0 for the refusal and its line; or the number of the refusal
+-- and its line, with 0 for the others
 abbrev pub fileRead : Outcome Header → FileRead
-fileRead (value header) = record { refusal = 0; line = 0; n = header .n; m = header .m }
-fileRead (refused number line) = record { refusal = number; line = line; n = 0; m = 0 }
+fileRead (value header) =
+    record { refusal = 0; line = 0; n = header .n; m = header .m; order = orderNumber (orderMeant (header .order)) }
+fileRead (refused number line) = record { refusal = number; line = line; n = 0; m = 0; order = 0 }
 
 -- a length, with 0 for the refusal; or the number of the refusal, with 0 for the length
 abbrev pub measured : Outcome ℕ → Measured

@@ -7,7 +7,7 @@ use lib.IntN.{ℤ}
 use lib.ListN.{length, take, drop}
 use Rattle.matrix.specs.Shape.{row}
 use Rattle.matrix.specs.NodeRows.{rowsOf}
-use Rattle.matrix.specs.Outcomes.{ask, answered, askedSays, afterwards}
+use Rattle.matrix.specs.Outcomes.{andThen, answered, askedSays, afterwards}
 use Rattle.matrix.specs.Questions.{askMatrix}
 use Rattle.matrix.specs.declared.refusal.Refusal.the-variants.{ListSize}
 use Rattle.matrix.specs.declared.refusal.Asked.{Asked}
@@ -17,17 +17,19 @@ use Rattle.matrix_file.specs.Reading.{jobIn}
 use Rattle.matrix_file.specs.Written.{matrixWritten, namesWritten}
 use Rattle.matrix_file.specs.Report.{withHeader, readOutcome}
 use Rattle.prim.specs.Network.{network, networkLength}
+use Rattle.wagner.specs.declared.order.Order.{Order}
 use Rattle.wagner.specs.Build.{wagnerLength}
 use Rattle.wagner.specs.Matrix.{matrixAfter}
 use Rattle.wagner.specs.Answers.{wagnerIn}
 use Rattle.fitting.specs.Fit.{fittedTotal}
-use Rattle.fitting.specs.Calls.{statesWritten, listsFull}
+use Rattle.fitting.specs.Calls.{statesWritten}
 use Rattle.fitting.specs.Handing.{HandedBack}
 use Rattle.fitting.specs.declared.whole.Fit.{Fit}
 use Rattle.fitting.specs.declared.whole.Which.{Which}
 use Rattle.fitting.specs.declared.whole.Which.the-variants.{Low, High, Chosen}
 use Rattle.listing.specs.Listing.{output}
 use Rattle.listing.specs.Call.{askOutput}
+use Rattle.exports.specs.Orders.{askOrder, askFitOrder}
 use Rattle.exports.specs.Answers.{bytesSaid, fileRead, measured}
 use Rattle.exports.specs.declared.answers.FileRead.{FileRead}
 use Rattle.exports.specs.declared.answers.Measured.{Measured}
@@ -58,33 +60,45 @@ pub record ReadExported
 unfoldable pub networkExported : List ℤ → ℕ → ℕ → Measured
 networkExported codes n m = measured (answered (askMatrix codes n m) (networkLength (network (nodeDifference difference (row codes m)) n)))
 
--- the length of the Wagner tree under the median codes, or the refusal; the matrix then has the rows of the HTUs, or is as before
-pub record BuildExported (codes new : List ℤ) (n m : ℕ) (r : Measured) : Type 0 where
-  pub answers : r ≡ measured (answered (askMatrix codes n m) (wagnerLength difference n (wagnerIn codes n m)))
-  pub matrix : new ≡ afterwards (askedSays (askMatrix codes n m)) (matrixAfter codes n (wagnerIn codes n m)) codes
+-- the questions of a build in an order with a number: the size of the matrix, the number, then n and m and the codes
+unfoldable pub askBuild : List ℤ → ℕ → ℕ → ℕ → Asked
+askBuild codes n m number = andThen (askOrder (length codes) number) (askMatrix codes n m)
 
--- the questions of a fit of the Wagner tree: the sizes of the three lists, then those on the matrix
-unfoldable pub askWagnerFit : List ℤ → ℕ → ℕ → List ℤ → List ℤ → List ℤ → Asked
-askWagnerFit codes n m low high chosen = ask (listsFull (length low) (length high) (length chosen)) ListSize (askMatrix codes n m)
+-- after questions: the length of the Wagner tree under the median codes, or the refusal; the matrix then has the rows of the HTUs, or is as
+-- before
+pub record BuildExported (order : Order) (asked : Asked) (codes new : List ℤ) (n m : ℕ) (r : Measured) : Type 0 where
+  pub answers : r ≡ measured (answered asked (wagnerLength difference n (wagnerIn order codes n m)))
+  pub matrix : new ≡ afterwards (askedSays asked) (matrixAfter codes n (wagnerIn order codes n m)) codes
+
+-- the questions of a fit of the Wagner tree: the sizes of the three lists, then those of the build
+unfoldable pub askWagnerFit : List ℤ → ℕ → ℕ → ℕ → List ℤ → List ℤ → List ℤ → Asked
+askWagnerFit codes n m number low high chosen =
+    andThen (askFitOrder (length low) (length high) (length chosen) (length codes) number) (askMatrix codes n m)
 
 -- a list of the matrix's shape with one of the states of each HTU of the matrix's own Wagner tree in each of m characters
-abbrev pub statesOfTree : Which → List ℤ → ℕ → ℕ → List ℤ → List ℤ
-statesOfTree which codes n m old = statesWritten which (wagnerIn codes n m .tree) (rowsOf codes m n) n m old
+abbrev pub statesOfTree : Order → Which → List ℤ → ℕ → ℕ → List ℤ → List ℤ
+statesOfTree order which codes n m old = statesWritten which (wagnerIn order codes n m .tree) (rowsOf codes m n) n m old
 
 -- the fitted total of the matrix's own Wagner tree
-abbrev pub totalOfTree : List ℤ → ℕ → ℕ → ℕ
-totalOfTree codes n m = fittedTotal (plain .step) (wagnerIn codes n m .tree) (rowsOf codes m n) n m
+abbrev pub totalOfTree : Order → List ℤ → ℕ → ℕ → ℕ
+totalOfTree order codes n m = fittedTotal (plain .step) (wagnerIn order codes n m .tree) (rowsOf codes m n) n m
 
--- the fitted total of the matrix's own Wagner tree, or the refusal; the matrix then has the rows of the HTUs, and the lists hold, in the
--- HTUs' rows and the m columns, lowest, highest and chosen states; all else, and all on a refusal, is as before. The ranges written are
--- those of all assignments of least length, the chosen states are one, and the total is theirs.
-pub record FitExported (codes new : List ℤ) (n m : ℕ) (low low′ high high′ chosen chosen′ : List ℤ) (r : Measured) : Type 0 where
-  pub answers : r ≡ measured (answered (askWagnerFit codes n m low high chosen) (totalOfTree codes n m))
-  pub matrix : new ≡ afterwards (askedSays (askWagnerFit codes n m low high chosen)) (matrixAfter codes n (wagnerIn codes n m)) codes
-  pub isLow : low′ ≡ afterwards (askedSays (askWagnerFit codes n m low high chosen)) (statesOfTree Low codes n m low) low
-  pub isHigh : high′ ≡ afterwards (askedSays (askWagnerFit codes n m low high chosen)) (statesOfTree High codes n m high) high
-  pub isChosen : chosen′ ≡ afterwards (askedSays (askWagnerFit codes n m low high chosen)) (statesOfTree Chosen codes n m chosen) chosen
-  pub handed : askWagnerFit codes n m low high chosen ≡ Passed
+-- after questions: the fitted total of the matrix's own Wagner tree, or the refusal; the matrix then has the rows of the HTUs, and the lists
+-- hold, in the HTUs' rows and the m columns, lowest, highest and chosen states; all else, and all on a refusal, is as before. The ranges
+-- written are those of all assignments of least length, the chosen states are one, and the total is theirs.
+pub record FitExported
+    (order : Order)
+    (asked : Asked)
+    (codes new : List ℤ)
+    (n m : ℕ)
+    (low low′ high high′ chosen chosen′ : List ℤ)
+    (r : Measured) : Type 0 where
+  pub answers : r ≡ measured (answered asked (totalOfTree order codes n m))
+  pub matrix : new ≡ afterwards (askedSays asked) (matrixAfter codes n (wagnerIn order codes n m)) codes
+  pub isLow : low′ ≡ afterwards (askedSays asked) (statesOfTree order Low codes n m low) low
+  pub isHigh : high′ ≡ afterwards (askedSays asked) (statesOfTree order High codes n m high) high
+  pub isChosen : chosen′ ≡ afterwards (askedSays asked) (statesOfTree order Chosen codes n m chosen) chosen
+  pub handed : asked ≡ Passed
       → (fit : Fit)
       × (fit .total ≡ r .length)
-      × HandedBack (plain .step) (wagnerIn codes n m .tree) (rowsOf codes m n) n m low′ high′ chosen′ fit
+      × HandedBack (plain .step) (wagnerIn order codes n m .tree) (rowsOf codes m n) n m low′ high′ chosen′ fit

@@ -1,3 +1,4 @@
 -- What the exported calls answer.
+pub mod Orders
 pub mod Answers
 pub mod Calls

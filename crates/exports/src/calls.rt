@@ -3,19 +3,32 @@ use crate::answers::FileRead;
 use crate::answers::Measured;
 use crate::answers::is;
 use crate::answers::refused;
+use crate::orders::ask_fit_order;
+use crate::orders::ask_order;
+use crate::orders::order_number;
+use crate::orders::order_numbered;
 use fitting::whole::fit_tree;
-use fitting::whole::lists_full;
 use listing::call::Listed;
 use listing::call::list;
+use listing::order::order_meant;
 use matrix::refusal::Asked;
-use matrix::refusal::Refusal;
 use matrix::refusal::number;
+use matrix_file::answer::Header;
 use matrix_file::answer::Read;
 use matrix_file::reading::read;
 use prim::network::network;
 use wagner::build::build;
+use wagner::order::Order;
 ghost use mathlib.Core.Path.{_≡_};
-ghost use Rattle.exports.specs.Calls.{ListExported, ReadExported, networkExported, BuildExported, FitExported};
+ghost use mathlib.Core.Bool.{true};
+ghost use lib.ListN.{length};
+ghost use Rattle.matrix.specs.Outcomes.{value};
+ghost use Rattle.matrix.specs.Questions.{askMatrix};
+ghost use Rattle.fitting.specs.Calls.{listsFull};
+ghost use Rattle.exports.specs.Orders.{orderNumbered};
+ghost use Rattle.exports.specs.Answers.{fileRead};
+ghost use Rattle.exports.specs.Calls.{ListExported, ReadExported, networkExported, askBuild, BuildExported};
+ghost use Rattle.exports.specs.Calls.{askWagnerFit, FitExported};
 
 // Writes the listing of a file's bytes, or the line of its refusal, into the front of lent bytes, and answers how many bytes that are: 0 if
 // not exactly 1,048,576 are lent, and then nothing is written.
@@ -26,6 +39,20 @@ pub extern "C" fn wagner_list(file: &[u8], out: &mut [u8]) -> usize
     match list(file, out) {
         Listed::Written(length) => length,
         Listed::Refused(_) => 0,
+    }
+}
+
+// No refusal, and what the header of a file says.
+fn accepted(header: Header) -> FileRead
+    ensures { λ r. ⌜ r ≡ fileRead (value header) ⌝ }
+{
+    let word = header.order;
+    FileRead {
+        refusal: 0,
+        line: 0,
+        n: header.n,
+        m: header.m,
+        order: order_number(order_meant(word)),
     }
 }
 
@@ -40,13 +67,9 @@ pub extern "C" fn wagner_read(file: &[u8], matrix: &mut [i32], names: &mut [u8])
             line,
             n: 0,
             m: 0,
+            order: 0,
         },
-        Read::Accepted(header) => FileRead {
-            refusal: 0,
-            line: 0,
-            n: header.n,
-            m: header.m,
-        },
+        Read::Accepted(header) => accepted(header),
     }
 }
 
@@ -64,12 +87,11 @@ pub extern "C" fn wagner_network(matrix: &[i32], n: usize, m: usize) -> Measured
     }
 }
 
-// Builds the Wagner tree of a lent matrix: the codes of the HTUs are written into their rows, and the length of the tree comes back.
-#[no_mangle]
-pub extern "C" fn wagner_build(matrix: &mut [i32], n: usize, m: usize) -> Measured
-    ensures { λ r. ⌜ BuildExported (now (matrix .entry)) (now (matrix .exit)) n m r ⌝ }
+// The Wagner tree of a lent matrix in an order of placing.
+fn build_in(matrix: &mut [i32], n: usize, m: usize, order: Order) -> Measured
+    ensures { λ r. ⌜ BuildExported order (askMatrix (now (matrix .entry)) n m) (now (matrix .entry)) (now (matrix .exit)) n m r ⌝ }
 {
-    let built = build(matrix, n, m);
+    let built = build(matrix, n, m, order);
     let asked = built.asked;
     match asked {
         Asked::Refused(refusal) => refused(refusal),
@@ -77,23 +99,32 @@ pub extern "C" fn wagner_build(matrix: &mut [i32], n: usize, m: usize) -> Measur
     }
 }
 
-// Builds the Wagner tree of a lent matrix and fits it: the codes of the HTUs are written into their rows, the lowest, the highest and the
-// chosen state of each HTU in each character into three lists of the matrix's shape, and the fitted total comes back.
+// Builds the Wagner tree of a lent matrix in the order of placing with a number, 1 by advancement or 2 the closest first: the codes of the HTUs
+// are written into their rows, and the length of the tree comes back.
 #[no_mangle]
-pub extern "C" fn wagner_fit(
+pub extern "C" fn wagner_build(matrix: &mut [i32], n: usize, m: usize, order: u64) -> Measured
+    ensures { λ r. ⌜ BuildExported (orderNumbered order) (askBuild (now (matrix .entry)) n m order) (now (matrix .entry)) (now (matrix .exit)) n m r ⌝ }
+{
+    match ask_order(matrix.len(), order) {
+        Asked::Refused(refusal) => refused(refusal),
+        Asked::Passed => build_in(matrix, n, m, order_numbered(order)),
+    }
+}
+
+// The Wagner tree of a lent matrix in an order of placing, fitted; the three lists have their full size.
+fn fit_in(
     matrix: &mut [i32],
     n: usize,
     m: usize,
+    order: Order,
     low: &mut [i32],
     high: &mut [i32],
     chosen: &mut [i32],
 ) -> Measured
-    ensures { λ r. ⌜ FitExported (now (matrix .entry)) (now (matrix .exit)) n m (now (low .entry)) (now (low .exit)) (now (high .entry)) (now (high .exit)) (now (chosen .entry)) (now (chosen .exit)) r ⌝ }
+    requires { ⌜ listsFull (length (now low)) (length (now high)) (length (now chosen)) ≡ true ⌝ }
+    ensures { λ r. ⌜ FitExported order (askMatrix (now (matrix .entry)) n m) (now (matrix .entry)) (now (matrix .exit)) n m (now (low .entry)) (now (low .exit)) (now (high .entry)) (now (high .exit)) (now (chosen .entry)) (now (chosen .exit)) r ⌝ }
 {
-    if !lists_full(low.len(), high.len(), chosen.len()) {
-        return refused(Refusal::ListSize);
-    }
-    let grown = build(matrix, n, m);
+    let grown = build(matrix, n, m, order);
     let asked = grown.asked;
     let tree = grown.tree;
     match asked {
@@ -102,5 +133,26 @@ pub extern "C" fn wagner_fit(
             let fit = fit_tree(matrix, n, m, tree, low, high, chosen);
             is(fit.total)
         }
+    }
+}
+
+// Builds the Wagner tree of a lent matrix in the order of placing with a number and fits it: the codes of the HTUs are written into their rows,
+// the lowest, the highest and the chosen state of each HTU in each character into three lists of the matrix's shape, and the fitted total
+// comes back.
+#[no_mangle]
+pub extern "C" fn wagner_fit(
+    matrix: &mut [i32],
+    n: usize,
+    m: usize,
+    order: u64,
+    low: &mut [i32],
+    high: &mut [i32],
+    chosen: &mut [i32],
+) -> Measured
+    ensures { λ r. ⌜ FitExported (orderNumbered order) (askWagnerFit (now (matrix .entry)) n m order (now (low .entry)) (now (high .entry)) (now (chosen .entry))) (now (matrix .entry)) (now (matrix .exit)) n m (now (low .entry)) (now (low .exit)) (now (high .entry)) (now (high .exit)) (now (chosen .entry)) (now (chosen .exit)) r ⌝ }
+{
+    match ask_fit_order(low.len(), high.len(), chosen.len(), matrix.len(), order) {
+        Asked::Refused(refusal) => refused(refusal),
+        Asked::Passed => fit_in(matrix, n, m, order_numbered(order), low, high, chosen),
     }
 }

@@ -8,6 +8,7 @@ use Rattle.lists.specs.Filters as lists-Filters
 use Rattle.lists.specs.Sums as lists-Sums
 use Rattle.lists.specs.Numbers as lists-Numbers
 use Rattle.lists.specs.Least as lists-Least
+use Rattle.lists.specs.Pairs as lists-Pairs
 use Rattle.matrix.specs.NodeRows as matrix-NodeRows
 use Rattle.matrix.specs.Questions as matrix-Questions
 use Rattle.difference.specs.Rows as difference-Rows
@@ -27,6 +28,7 @@ use Rattle.branching.specs.Hanging as branching-Hanging
 use Rattle.branching.specs.Branches as branching-Branches
 use Rattle.branching.specs.RowLengths as branching-RowLengths
 use Rattle.branching.specs.Placing as branching-Placing
+use Rattle.wagner.specs.Next as wagner-Next
 use Rattle.wagner.specs.Build as wagner-Build
 use Rattle.fitting.specs.Sets as fitting-Sets
 use Rattle.fitting.specs.Clades as fitting-Clades
@@ -50,7 +52,7 @@ unfolding flatMap matrix-Shape.row matrix-Shape.inRange matrix-Shape.lastNode li
     matrix-file-Decimal.codeForm matrix-file-Decimal.codeOf matrix-file-Job.inName matrix-file-Job.nameForm
     matrix-file-Job.differsFromAll matrix-file-Job.allDiffer matrix-file-Job.hasCodes matrix-file-Job.firstText matrix-file-Job.rowText
     matrix-file-Job.ended matrix-file-Job.fileOf matrix-file-Lines.linesOf matrix-file-Lines.fieldsOf matrix-file-Header.headerIn
-    matrix-file-Header.firstForm matrix-file-Header.firstLineForm matrix-file-Header.askFirstLine matrix-file-Header.askHeader
+    matrix-file-Header.firstForm matrix-file-Header.orderKnown matrix-file-Header.isOrder matrix-file-Header.orderIn matrix-file-Header.firstLineForm matrix-file-Header.askFirstLine matrix-file-Header.askHeader
     matrix-file-Rows.nameIn matrix-file-Rows.codesIn matrix-file-Rows.askCodes matrix-file-Rows.askRow matrix-file-Rows.askRows
     matrix-file-Reading.jobOf matrix-file-Reading.nothingMore matrix-file-Reading.askEnd matrix-file-Reading.askBehind
     matrix-file-Reading.askFile matrix-file-Reading.askLength matrix-file-Reading.readAnswer matrix-file-Text.bytes prim-Network.taxa
@@ -64,9 +66,9 @@ unfolding flatMap matrix-Shape.row matrix-Shape.inRange matrix-Shape.lastNode li
     branching-Hanging.noBranches branching-Hanging.linked branching-Hanging.hung branching-Hanging.nextHtu lists-Sums.sumOver
     branching-Branches.treeLength branching-Branches.branchOf branching-Branches.branchRecords branching-Branches.branchesRead
     branching-Branches.ancestorsOf branching-Branches.namedInOrder branching-Branches.lentBranching matrix-NodeRows.rowOf
-    lists-Least.leastOf difference-Rows.intervalBy branching-RowLengths.nodeInterval wagner-Build.advancement
+    lists-Least.leastOf difference-Rows.intervalBy branching-RowLengths.nodeInterval wagner-Next.advancement
     branching-RowLengths.lengthUnder branching-Placing.medianRow branching-Placing.fromInterval branching-Placing.nearestInterval
-    branching-Placing.linkFirst branching-Placing.hang branching-Placing.placeOn branching-Placing.place wagner-Build.byAdvancement
+    branching-Placing.linkFirst branching-Placing.hang branching-Placing.placeOn branching-Placing.place wagner-Next.byAdvancement wagner-Next.hangings wagner-Next.taxonOf wagner-Next.byCloseness wagner-Next.nextBy lists-Pairs.pairs
     wagner-Build.addedLength wagner-Build.buildOn wagner-Build.build wagner-Build.wagner wagner-Build.wagnerLength
     wagner-Build.wagnerBranches fitting-Sets.only fitting-Sets.join fitting-Sets.nearestMember fitting-Sets.insert fitting-Sets.inOrder
     fitting-Sets.middle fitting-Clades.above fitting-Clades.cladeAt fitting-Clades.cladesBelow fitting-Character.valueAt

@@ -11,6 +11,7 @@ use Rattle.matrix.specs.NodeRows.{rowsOf}
 use Rattle.matrix.specs.Questions.{LentMatrix, askMatrix}
 use Rattle.matrix.specs.declared.refusal.Asked.the-variants.{Passed}
 use Rattle.matrix.proofs.Passing.{matrix-passes}
+use Rattle.matrix_file.specs.declared.answer.Header.{Header}
 use Rattle.matrix_file.specs.Job.{Job}
 use Rattle.difference.specs.Rows.{difference, nodeDifference, plain}
 use Rattle.prim.specs.Network.{network}
@@ -21,6 +22,7 @@ use Rattle.branching.specs.Ancestors.{ancestors}
 use Rattle.branching.specs.Growing.{branching}
 use Rattle.branching.specs.Within.{branchingWithin}
 use Rattle.branching.proofs.Within.{branching-plain}
+use Rattle.wagner.specs.declared.order.Order.{Order}
 use Rattle.wagner.specs.declared.build.WagnerTree.{WagnerTree}
 use Rattle.wagner.specs.Build.{wagnerLength}
 use Rattle.wagner.specs.Matrix.{matrixAfter}
@@ -34,6 +36,7 @@ use Rattle.fitting.specs.Handing.{stateAt}
 use Rattle.fitting.proofs.Handed.{state-written}
 use Rattle.rivals.proofs.Lent.{same-network}
 use Rattle.rivals.proofs.Built.{built-whole}
+use Rattle.listing.specs.Meant.{orderMeant}
 use Rattle.listing.specs.declared.job.Results.{Results}
 use Rattle.listing.specs.Lines.{joined}
 use Rattle.listing.specs.Blocks.{totalLine}
@@ -48,11 +51,22 @@ block-then : {a b : List ℕ} (lines total rest : List ℕ) → a ≡ lines ++ t
 block-then lines total rest e f = ap₂ _++_ e f ∙ append-assoc lines total rest
 
 -- what was found of a matrix, with the names that lent bytes hold
-module _ (codes : List ℤ) (n m : ℕ) (low high chosen : List ℤ) (r : Results) (found : ResultsOf codes n m low high chosen r)
-    (names : List (List ℕ)) (lent : List ℕ) (named : HoldsNames n names lent) where
+module _ (header : Header) (order : Order) (meant : order ≡ orderMeant (header .order)) (codes low high chosen : List ℤ) (r : Results)
+    (given : ResultsOf order codes (header .n) (header .m) low high chosen r) (names : List (List ℕ)) (lent : List ℕ) (named : HoldsNames (header .n) names lent) where
+  -- the numbers of taxa and characters
+  abbrev n : ℕ
+  n = header .n
+
+  abbrev m : ℕ
+  m = header .m
+
+  -- it was found in the order that the word of the header means
+  found : ResultsOf (orderMeant (header .order)) codes n m low high chosen r
+  found = rw meant at given
+
   -- the job whose listing is put
   abbrev job : Job
-  job = heldJob n m names codes
+  job = heldJob header names codes
 
   -- the links held are those of the job's network
   links-held : Holds (linksOf plain job) (r .network)
@@ -94,9 +108,9 @@ module _ (codes : List ℤ) (n m : ℕ) (low high chosen : List ℤ) (r : Result
       ∙ sym (listing-text plain job)
 
 -- what the calls for network, build and fit promise of a lent matrix
-module _ (codes after : List ℤ) (n m : ℕ) (lent : LentMatrix codes n m) (low low′ high high′ chosen chosen′ : List ℤ)
+module _ (order : Order) (codes after : List ℤ) (n m : ℕ) (lent : LentMatrix codes n m) (low low′ high high′ chosen chosen′ : List ℤ)
     (full : StateLists low high chosen) (answer : Answer) (links : NetworkAnswer codes n m answer)
-    (built : WagnerTree) (done : BuildDone codes after n m built)
+    (built : WagnerTree) (done : BuildDone order codes after n m built)
     (fit : Fit) (fitted : TreeFitted after n m (ancestors (built .tree)) low low′ high high′ chosen chosen′ fit) where
   -- no question refuses
   pass : askMatrix codes n m ≡ Passed
@@ -107,60 +121,60 @@ module _ (codes after : List ℤ) (n m : ℕ) (lent : LentMatrix codes n m) (low
   found-network = answer-holds codes n m answer links pass
 
   -- the tree is its Wagner tree
-  found-tree : ancestors (built .tree) ≡ wagnerIn codes n m .tree
+  found-tree : ancestors (built .tree) ≡ wagnerIn order codes n m .tree
   unfolding buildSays
   found-tree = rw pass at (done .tree)
 
   -- with its placements
-  found-placements : HoldsPlacements (wagnerIn codes n m .placements) (built .placements) (built .count)
+  found-placements : HoldsPlacements (wagnerIn order codes n m .placements) (built .placements) (built .count)
   unfolding buildSays placementsIn
   found-placements = record { list = rw pass at (done .placements); count = rw pass at (done .count) }
 
   -- and its length
-  found-length : built .length ≡ wagnerLength difference n (wagnerIn codes n m)
+  found-length : built .length ≡ wagnerLength difference n (wagnerIn order codes n m)
   unfolding buildSays
   found-length = rw pass at (done .whole)
 
   -- the matrix then
-  found-matrix : after ≡ matrixAfter codes n (wagnerIn codes n m)
+  found-matrix : after ≡ matrixAfter codes n (wagnerIn order codes n m)
   unfolding buildSays
   found-matrix = rw pass at (done .matrix)
 
   -- the tree is a branching
   found-branching : branchingWithin n (ancestors (built .tree)) ≡ true
-  found-branching = branching-plain n (ancestors (built .tree)) (lent .taxa) ∙ built-whole codes after n m built done pass
+  found-branching = branching-plain n (ancestors (built .tree)) (lent .taxa) ∙ built-whole order codes after n m built done pass
 
   -- the taxa have the same rows in it
   found-rows : rowsOf after m n ≡ rowsOf codes m n
-  found-rows = ap (λ (all : List ℤ). rowsOf all m n) found-matrix ∙ same-taxa codes n m lent
+  found-rows = ap (λ (all : List ℤ). rowsOf all m n) found-matrix ∙ same-taxa order codes n m lent
 
   -- the fit of the Wagner tree, and what the three lists hold
-  found-fit : FitOf (plain .step) (wagnerIn codes n m .tree) (rowsOf codes m n) n m fit
-      × (low′ ≡ statesWritten Low (wagnerIn codes n m .tree) (rowsOf codes m n) n m low)
-      × (high′ ≡ statesWritten High (wagnerIn codes n m .tree) (rowsOf codes m n) n m high)
-      × (chosen′ ≡ statesWritten Chosen (wagnerIn codes n m .tree) (rowsOf codes m n) n m chosen)
+  found-fit : FitOf (plain .step) (wagnerIn order codes n m .tree) (rowsOf codes m n) n m fit
+      × (low′ ≡ statesWritten Low (wagnerIn order codes n m .tree) (rowsOf codes m n) n m low)
+      × (high′ ≡ statesWritten High (wagnerIn order codes n m .tree) (rowsOf codes m n) n m high)
+      × (chosen′ ≡ statesWritten Chosen (wagnerIn order codes n m .tree) (rowsOf codes m n) n m chosen)
   found-fit =
-      let still : LentMatrix after n m = rw found-matrix (still-lent codes n m lent) in
+      let still : LentMatrix after n m = rw found-matrix (still-lent order codes n m lent) in
       simp (found-tree, found-rows) at (fitted .fitted found-branching still (full .lowFull) (full .highFull) (full .chosenFull))
 
   -- the states of the HTUs
-  found-states : HoldsStates (wagnerIn codes n m .tree) (rowsOf codes m n) n m low′ high′ chosen′
+  found-states : HoldsStates (wagnerIn order codes n m .tree) (rowsOf codes m n) n m low′ high′ chosen′
   unfolding statesIn
   found-states = record {
     lowAt = λ v j a b d e.
         ap (λ (list : List ℤ). stateAt list v j) (found-fit .1)
-        ∙ state-written Low (wagnerIn codes n m .tree) (rowsOf codes m n) n m low v j (full .lowFull) (lent .taxa) (lent .characters) a b d e;
+        ∙ state-written Low (wagnerIn order codes n m .tree) (rowsOf codes m n) n m low v j (full .lowFull) (lent .taxa) (lent .characters) a b d e;
     highAt = λ v j a b d e.
         ap (λ (list : List ℤ). stateAt list v j) (found-fit .2)
-        ∙ state-written High (wagnerIn codes n m .tree) (rowsOf codes m n) n m high v j (full .highFull) (lent .taxa) (lent .characters) a b d e;
+        ∙ state-written High (wagnerIn order codes n m .tree) (rowsOf codes m n) n m high v j (full .highFull) (lent .taxa) (lent .characters) a b d e;
     chosenAt = λ v j a b d e.
         ap (λ (list : List ℤ). stateAt list v j) (found-fit .3)
-        ∙ state-written Chosen (wagnerIn codes n m .tree) (rowsOf codes m n) n m chosen v j (full .chosenFull) (lent .taxa) (lent .characters) a b d e;
+        ∙ state-written Chosen (wagnerIn order codes n m .tree) (rowsOf codes m n) n m chosen v j (full .chosenFull) (lent .taxa) (lent .characters) a b d e;
   }
 
   -- what was found
   pub results-found : length low′ ≡ length low → length high′ ≡ length high → length chosen′ ≡ length chosen
-      → ResultsOf codes n m low′ high′ chosen′ (record { network = answer .network; built = built; fit = fit })
+      → ResultsOf order codes n m low′ high′ chosen′ (record { network = answer .network; built = built; fit = fit })
   unfolding wagnerIn
   results-found a b d = record {
     listable = record {
@@ -168,7 +182,7 @@ module _ (codes after : List ℤ) (n m : ℕ) (lent : LentMatrix codes n m) (low
       taxa = lent .taxa;
       characters = lent .characters;
       links = links-within _ n (answer .network) (lent .taxa) found-network;
-      placements = placements-within difference n (rowsOf codes m n) (built .placements) (built .count) (lent .taxa) found-placements;
+      placements = placements-within difference order n (rowsOf codes m n) (built .placements) (built .count) (lent .taxa) found-placements;
     };
     full = record { lowFull = a ∙ full .lowFull; highFull = b ∙ full .highFull; chosenFull = d ∙ full .chosenFull };
     network = found-network;

@@ -23,6 +23,7 @@ use Rattle.listing.specs.Blocks.{primLine, wagnerLine, fittedLine, fitte
 use Rattle.listing.specs.Listing.{refusalLine, printed}
 use Rattle.listing.specs.Handed.{namesIn, HoldsNames, HoldsPlacements, HoldsFit, HoldsStates, branchTextAt, branchTexts, stateTextAt, nodeTexts, stateTexts}
 use Rattle.branching.specs.Unasked.{noPlacement}
+use Rattle.wagner.specs.declared.order.Order.{Order}
 use Rattle.wagner.specs.Answers.{mostPlacements}
 use Rattle.wagner.specs.Build.{wagner}
 use Rattle.listing.proofs.Parts.{wagner-count}
@@ -39,9 +40,9 @@ pub links-within : (d : ℕ → ℕ → ℕ) (n : ℕ) (r : Network) → n ≤ 6
 links-within d n r h held = omega (arith, held .count, network-length d n)
 
 -- and its Wagner tree has at most 63 placements
-pub placements-within : (d : List ℤ → List ℤ → ℕ) (n : ℕ) (rows : List (List ℤ)) (array : List Placement) (count : ℕ) → n ≤ 64
-    → HoldsPlacements (wagner d n rows .placements) array count → count ≤ mostPlacements
-placements-within d n rows array count h held = omega (arith, held .count, wagner-count d n rows)
+pub placements-within : (d : List ℤ → List ℤ → ℕ) (order : Order) (n : ℕ) (rows : List (List ℤ)) (array : List Placement) (count : ℕ) → n ≤ 64
+    → HoldsPlacements (wagner d order n rows .placements) array count → count ≤ mostPlacements
+placements-within d order n rows array count h held = omega (arith, held .count, wagner-count d order n rows)
 
 module _ (n : ℕ) (names : List (List ℕ)) (lent : List ℕ) (named : HoldsNames n names lent) where
   -- a `P` line with the names that the lent bytes hold

@@ -16,6 +16,7 @@ use Rattle.wagner.specs.Build.{wagnerLength}
 use Rattle.fitting.specs.Fit.{chosenState, range, fittedLength, fittedTotal, marked}
 use Rattle.rivals.specs.Demand.{NoRivalDoesBetter}
 use Rattle.rivals.proofs.InWords.{for-every-file}
+use Rattle.listing.specs.Meant.{orderMeant}
 use Rattle.listing.specs.Lines.{joined}
 use Rattle.listing.specs.Blocks.{fittedLine, fittedLines, rangeLine, rangeLines}
 use Rattle.listing.specs.Listing.{primBlock, wagnerBlock, fittedBlock, rangeBlock, blocks, listing, printed}
@@ -60,17 +61,17 @@ pub no-rival-in-print : (file : List ℕ) (job : Job) → readAnswer file ≡ va
 unfolding printed wagnerLength lengthUnder fittedTotal fittedLength
 no-rival-in-print file job e =
     let claim : NoRivalDoesBetter plain (job .n) (job .m) (job .rows) = for-every-file file job e in
-    let fit = claim .fit (builtOf plain job .tree) (claim .whole) in
+    let fit = claim .fit (builtOf plain job .tree) (claim .whole (orderMeant (job .order))) in
     record {
       printed = numbersOf job;
       lines = output-printed file (value job) e ∙ ap joined (numbers-listed job);
       connected = claim .network .ours;
       p-length = claim .network .length;
       no-network-shorter = claim .network .least;
-      no-hanging-adds-less = claim .build;
+      no-hanging-adds-less = claim .build (orderMeant (job .order));
       w-length = refl;
       w-sum = sym (wagner-total job (accepted-exactly file job .0 e .0));
-      whole = claim .whole;
+      whole = claim .whole (orderMeant (job .order));
       assigns = fit .assigns;
       t-length = refl;
       branch-lengths = λ v. refl;

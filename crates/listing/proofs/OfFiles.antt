@@ -29,8 +29,8 @@ module _ (file : List ℕ) (job : Job) (read : readAnswer file ≡ value job) wh
   pub one-taxon-file : job .n ≡ 1 → output file ≡ joined (totalLine "p" 0 ∷ totalLine "w" 0 ∷ totalLine "t" 0 ∷ [])
   one-taxon-file e =
       accepted-output
-      ∙ ap (λ (n : ℕ). joined (listing plain (record { n = n; m = job .m; names = job .names; rows = job .rows }))) e
-      ∙ ap joined (one-taxon plain (job .m) (job .names) (job .rows))
+      ∙ ap (λ (n : ℕ). joined (listing plain (record { n = n; m = job .m; order = job .order; names = job .names; rows = job .rows }))) e
+      ∙ ap joined (one-taxon plain (job .m) (job .order) (job .names) (job .rows))
 
   -- of two taxa: one `P`, one `W` and one `T` line, and no `H`
   pub two-taxa-file : job .n ≡ 2 → (output file ≡ joined (listing plain job)) × OneOfEach plain job

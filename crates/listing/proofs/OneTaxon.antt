@@ -7,6 +7,7 @@ use Rattle.lists.specs.Sums.{sumOver}
 use Rattle.lists.specs.Numbers.{numbers}
 use Rattle.lists.specs.Filters.{keep}
 use Rattle.difference.specs.Rows.{Measure}
+use Rattle.matrix_file.specs.declared.answer.OrderWord.{OrderWord}
 use Rattle.prim.specs.Network.{network, networkLength, grow}
 use Rattle.branching.specs.Nodes.{nodesIn, otherNodes}
 use Rattle.branching.specs.Branches.{treeLength}
@@ -18,8 +19,8 @@ use Rattle.listing.specs.Blocks.{totalLine, fittedLines, rangeLines}
 use Rattle.listing.specs.Listing.{primBlock, wagnerBlock, fittedBlock, rangeBlock, blocks, listing}
 
 -- one taxon: three totals of 0
-pub one-taxon : (measure : Measure) (m : ℕ) (names : List (List ℕ)) (rows : List (List ℤ))
-    → listing measure (record { n = 1; m = m; names = names; rows = rows }) ≡ totalLine "p" 0 ∷ totalLine "w" 0 ∷ totalLine "t" 0 ∷ []
+pub one-taxon : (measure : Measure) (m : ℕ) (word : OrderWord) (names : List (List ℕ)) (rows : List (List ℤ))
+    → listing measure (record { n = 1; m = m; order = word; names = names; rows = rows }) ≡ totalLine "p" 0 ∷ totalLine "w" 0 ∷ totalLine "t" 0 ∷ []
 unfolding listing blocks primBlock wagnerBlock fittedBlock rangeBlock network networkLength grow wagner wagnerLength build buildOn
     lengthUnder treeLength nodesIn otherNodes numbers keep sumOver fittedLines rangeLines fittedTotal total flatMap
-one-taxon measure m names rows = refl
+one-taxon measure m word names rows = refl

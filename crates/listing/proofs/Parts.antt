@@ -13,8 +13,10 @@ use Rattle.difference.specs.Rows.{Measure, nodeDifference}
 use Rattle.prim.specs.Network.{Link, network, networkLength}
 use Rattle.prim.proofs.Placing.{network-length}
 use Rattle.branching.specs.Nodes.{otherNodes}
+use Rattle.wagner.specs.declared.order.Order.{Order}
 use Rattle.wagner.specs.Build.{Built, wagner, wagnerLength, build, buildOn}
 use Rattle.fitting.specs.Fit.{fittedTotal}
+use Rattle.listing.specs.Meant.{orderMeant}
 use Rattle.listing.specs.Lines.{joined}
 use Rattle.listing.specs.Blocks.{totalLine, primLine, wagnerLine, fittedLine, fittedLines, rangeLine, rangeLines}
 use Rattle.listing.specs.Listing.{primBlock, wagnerBlock, fittedBlock, rangeBlock, blocks, listing}
@@ -41,9 +43,9 @@ build-count d next n zero tree rows = refl
 build-count d next n (suc count) tree rows = ap suc (build-count d next n count _ _)
 
 -- the Wagner tree of n taxa has n-1 placements
-pub wagner-count : (d : List ℤ → List ℤ → ℕ) (n : ℕ) (rows : List (List ℤ)) → length (wagner d n rows .placements) ≡ n - 1
+pub wagner-count : (d : List ℤ → List ℤ → ℕ) (order : Order) (n : ℕ) (rows : List (List ℤ)) → length (wagner d order n rows .placements) ≡ n - 1
 unfolding wagner build
-wagner-count d n rows = build-count d _ n (n - 1) _ rows
+wagner-count d order n rows = build-count d _ n (n - 1) _ rows
 
 module _ (measure : Measure) (job : Job) where
   -- the links of the job's Prim Network
@@ -52,7 +54,7 @@ module _ (measure : Measure) (job : Job) where
 
   -- the job's Wagner tree
   abbrev pub builtOf : Built
-  builtOf = wagner (measure .rows) (job .n) (job .rows)
+  builtOf = wagner (measure .rows) (orderMeant (job .order)) (job .n) (job .rows)
 
   -- its `P` lines
   abbrev pub primLines : List (List ℕ)
@@ -95,7 +97,7 @@ module _ (measure : Measure) (job : Job) where
   -- n-1 `W` lines
   pub wagner-lines : length wagnerLines ≡ job .n - 1
   wagner-lines =
-      length-map (builtOf .placements) (wagnerLine (job .n) (job .names)) ∙ wagner-count (measure .rows) (job .n) (job .rows)
+      length-map (builtOf .placements) (wagnerLine (job .n) (job .names)) ∙ wagner-count (measure .rows) (orderMeant (job .order)) (job .n) (job .rows)
 
   -- 2n-3 `T` lines
   pub tree-count : length treeLines ≡ 2 * job .n - 3

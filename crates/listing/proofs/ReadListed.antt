@@ -75,15 +75,23 @@ module _ (file : List ℕ) (oldMatrix : List ℤ) (oldNames : List ℕ) (matrix 
         subst⁻¹ (λ lent. HoldsNames (told .job .n) (told .job .names) lent) (told .names) (names-held (told .job) (told .within) oldNames room)
 
     -- the listing of the job that the lists hold is what is printed
-    job-printed : joined (listing plain (heldJob (told .job .n) (told .job .m) (told .job .names) matrix)) ≡ output file
+    job-printed : joined (listing plain (heldJob (headerOf (told .job)) (told .job .names) matrix)) ≡ output file
     unfolding printed
     job-printed =
-        ap (λ (rows : List (List ℤ)). joined (listing plain (record { n = told .job .n; m = told .job .m; names = told .job .names; rows = rows }))) (sym accepted-rows)
+        ap
+        (λ (rows : List (List ℤ)). joined (listing plain (record {
+          n = told .job .n;
+          m = told .job .m;
+          order = told .job .order;
+          names = told .job .names;
+          rows = rows;
+        })))
+        (sym accepted-rows)
         ∙ sym (output-printed file (value (told .job)) (told .read))
 
     -- so where the job's listing was put, what is printed was put
-    pub accepted-printed : {old new : List ℕ} {next : ℕ} → ListsJob (header .n) (header .m) names matrix old new next → Put (output file) old 0 new next
+    pub accepted-printed : {old new : List ℕ} {next : ℕ} → ListsJob header names matrix old new next → Put (output file) old 0 new next
     accepted-printed {old} {new} {next} listed =
-        let lists : ListsJob (told .job .n) (told .job .m) names matrix old new next =
-        subst⁻¹ (λ said. ListsJob (said .n) (said .m) names matrix old new next) (told .says) listed in
+        let lists : ListsJob (headerOf (told .job)) names matrix old new next =
+        subst⁻¹ (λ said. ListsJob said names matrix old new next) (told .says) listed in
         put-same job-printed (lists .is (told .job .names) accepted-names)

@@ -22,6 +22,7 @@ use Rattle.wagner.specs.Build.{wagnerLength, addedLength}
 use Rattle.wagner.proofs.Difference.{wagner-length}
 use Rattle.fitting.specs.Fit.{fittedLength, fittedTotal}
 use Rattle.fitting.proofs.Matrix.EachFitted.{lengths-total}
+use Rattle.listing.specs.Meant.{orderMeant}
 use Rattle.listing.proofs.Parts.{linksOf, builtOf}
 
 -- the limits of n and m, from the question that asks for them
@@ -70,4 +71,4 @@ module _ (job : Job) (within : JobWithinLimits job) where
   unfolding addedLength
   wagner-total =
       let known = limits (job .n) (job .m) (within .limits) in
-      wagner-length (job .n) (job .m) (known .taxon) (known .taxa) (job .rows) (within .row-count) rows-sized
+      wagner-length (orderMeant (job .order)) (job .n) (job .m) (known .taxon) (known .taxa) (job .rows) (within .row-count) rows-sized

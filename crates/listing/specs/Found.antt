@@ -6,11 +6,13 @@ use lib.IntN.{ℤ}
 use lib.ListN.{length}
 use Rattle.matrix.specs.Shape.{columns, matrixSize, row}
 use Rattle.matrix.specs.NodeRows.{rowsOf}
+use Rattle.matrix_file.specs.declared.answer.Header.{Header}
 use Rattle.matrix_file.specs.Job.{Job}
 use Rattle.difference.specs.Rows.{difference, nodeDifference, plain}
 use Rattle.prim.specs.Network.{network}
 use Rattle.prim.specs.Answers.{mostLinks, Holds}
 use Rattle.branching.specs.Ancestors.{ancestors}
+use Rattle.wagner.specs.declared.order.Order.{Order}
 use Rattle.wagner.specs.Build.{wagnerLength}
 use Rattle.wagner.specs.Answers.{mostPlacements, wagnerIn}
 use Rattle.fitting.specs.Calls.{FitOf}
@@ -35,15 +37,15 @@ pub record Listable (n m : ℕ) (r : Results) : Type 0 where
   pub placements : r .built .count ≤ mostPlacements
 
 -- what was found of a lent matrix: its Prim Network, its Wagner tree, the fit of that tree, and its states in three lists
-pub record ResultsOf (codes : List ℤ) (n m : ℕ) (low high chosen : List ℤ) (r : Results) : Type 0 where
+pub record ResultsOf (order : Order) (codes : List ℤ) (n m : ℕ) (low high chosen : List ℤ) (r : Results) : Type 0 where
   pub listable : Listable n m r
   pub full : StateLists low high chosen
   pub network : Holds (network (nodeDifference difference (row codes m)) n) (r .network)
-  pub tree : ancestors (r .built .tree) ≡ wagnerIn codes n m .tree
-  pub placements : HoldsPlacements (wagnerIn codes n m .placements) (r .built .placements) (r .built .count)
-  pub whole : r .built .length ≡ wagnerLength difference n (wagnerIn codes n m)
-  pub fit : FitOf (plain .step) (wagnerIn codes n m .tree) (rowsOf codes m n) n m (r .fit)
-  pub states : HoldsStates (wagnerIn codes n m .tree) (rowsOf codes m n) n m low high chosen
+  pub tree : ancestors (r .built .tree) ≡ wagnerIn order codes n m .tree
+  pub placements : HoldsPlacements (wagnerIn order codes n m .placements) (r .built .placements) (r .built .count)
+  pub whole : r .built .length ≡ wagnerLength difference n (wagnerIn order codes n m)
+  pub fit : FitOf (plain .step) (wagnerIn order codes n m .tree) (rowsOf codes m n) n m (r .fit)
+  pub states : HoldsStates (wagnerIn order codes n m .tree) (rowsOf codes m n) n m low high chosen
 
 -- the text put for what was found: the blocks of network, build and fitted tree, and the `H` lines
 unfoldable pub resultTexts : ℕ → List (List ℕ) → ℕ → Results → List ℤ → List ℤ → List ℤ → List ℕ
@@ -51,10 +53,16 @@ resultTexts n names m r low high chosen =
     primTexts n names (r .network)
     ++ (wagnerTexts n names (r .built) ++ (fittedTexts n names (r .built .tree) (r .fit) ++ stateTexts n names low high chosen m))
 
--- the job of n taxa and m characters with these names and the taxa's rows of a matrix
-abbrev pub heldJob : ℕ → ℕ → List (List ℕ) → List ℤ → Job
-heldJob n m names codes = record { n = n; m = m; names = names; rows = rowsOf codes m n }
+-- the job with this header, these names and the taxa's rows of a matrix
+abbrev pub heldJob : Header → List (List ℕ) → List ℤ → Job
+heldJob header names codes = record {
+  n = header .n;
+  m = header .m;
+  order = header .order;
+  names = names;
+  rows = rowsOf codes (header .m) (header .n);
+}
 
 -- the listing of the job that lent lists hold was put in front of a list
-pub record ListsJob (n m : ℕ) (lent : List ℕ) (codes : List ℤ) (old new : List ℕ) (next : ℕ) : Type 0 where
-  pub is : (names : List (List ℕ)) → HoldsNames n names lent → Put (joined (listing plain (heldJob n m names codes))) old 0 new next
+pub record ListsJob (header : Header) (lent : List ℕ) (codes : List ℤ) (old new : List ℕ) (next : ℕ) : Type 0 where
+  pub is : (names : List (List ℕ)) → HoldsNames (header .n) names lent → Put (joined (listing plain (heldJob header names codes))) old 0 new next

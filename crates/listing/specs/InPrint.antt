@@ -22,6 +22,7 @@ use Rattle.branching.specs.RowLengths.{lengthUnder}
 use Rattle.wagner.specs.Build.{Built}
 use Rattle.fitting.specs.Assignments.{branchLength, total, IsAssignment, Occurs}
 use Rattle.rivals.specs.Demand.{BuildIsLeast}
+use Rattle.listing.specs.Meant.{orderMeant}
 use Rattle.listing.specs.Lines.{joined}
 use Rattle.listing.specs.Blocks.{totalLine, primLine, wagnerLine, branchLine, stateLine}
 use Rattle.listing.specs.Listing.{output}
@@ -65,9 +66,9 @@ pub record NoRivalInPrint (file : List ℕ) (job : Job) : Type 0 where
   pub p-length : linksLength (nodeDifference difference (rowOf (job .rows))) (linkEnds (printed .links)) ≡ printed .p
   pub no-network-shorter : (rival : List (ℕ × ℕ)) → Connected (job .n) rival
       → printed .p ≤ linksLength (nodeDifference difference (rowOf (job .rows))) rival
-  -- each `W` line but the first is a hanging of its taxon of which none adds less; `w` is the length of the tree with the rows so made, and
-  -- the sum of the lengths that the `W` lines add
-  pub no-hanging-adds-less : BuildIsLeast difference (job .n) (job .m) (job .rows) (printed .built)
+  -- each `W` line but the first is a hanging of its taxon of which none adds less, and in the order `closest` none of any taxon that is not
+  -- placed; `w` is the length of the tree with the rows so made, and the sum of the lengths that the `W` lines add
+  pub no-hanging-adds-less : BuildIsLeast (orderMeant (job .order)) difference (job .n) (job .m) (job .rows) (printed .built)
   pub w-length : lengthUnder difference (job .n) (printed .built .tree) (printed .built .rows) ≡ printed .w
   pub w-sum : sumOver (λ (placement : Placement). placement .added) (printed .built .placements) ≡ printed .w
   -- the tree is a branching of all taxa; the chosen states are an assignment, of total `t`, whose branches have the lengths of the `T` lines

@@ -11,6 +11,7 @@ use Rattle.difference.specs.Rows.{Measure, plain, nodeDifference}
 use Rattle.prim.specs.Network.{network, networkLength}
 use Rattle.wagner.specs.Build.{Built, wagner, wagnerLength}
 use Rattle.fitting.specs.Fit.{fittedTotal}
+use Rattle.listing.specs.Meant.{orderMeant}
 use Rattle.listing.specs.Lines.{line, joined}
 use Rattle.listing.specs.Blocks.{totalLine, primLine, wagnerLine, fittedLines, rangeLines}
 
@@ -39,7 +40,7 @@ rangeBlock job tree = rangeLines (job .n) (job .names) tree (job .rows) (job .m)
 -- the blocks that a job prints, as change is measured, in their order
 unfoldable pub blocks : Measure → Job → List (List (List ℕ))
 blocks measure job =
-    let built = wagner (measure .rows) (job .n) (job .rows) in
+    let built = wagner (measure .rows) (orderMeant (job .order)) (job .n) (job .rows) in
     primBlock measure job
     ∷ wagnerBlock measure job built
     ∷ fittedBlock measure job (built .tree)

@@ -42,9 +42,7 @@ fn put_file(
 {
     match read(file, matrix, names) {
         Read::Refused { refusal, line } => put_refusal_line(out, 0, number(refusal), line),
-        Read::Accepted(header) => {
-            put_job(out, header.n, header.m, names, matrix, low, high, chosen)
-        }
+        Read::Accepted(header) => { put_job(out, header, names, matrix, low, high, chosen) }
     }
 }
 

@@ -6,13 +6,16 @@ use crate::blocks::put_prim_total;
 use crate::blocks::put_state_lines;
 use crate::blocks::put_wagner_lines;
 use crate::blocks::put_wagner_total;
+use crate::order::order_meant;
 use branching::tree::Tree;
 use fitting::whole::Fit;
 use fitting::whole::fit_tree;
+use matrix_file::answer::Header;
 use prim::answer::Network;
 use prim::network::network;
 use wagner::build::WagnerTree;
 use wagner::build::build;
+use wagner::order::Order;
 ghost use Prim.Native.Nat.{_≤_};
 ghost use Rattle.matrix.specs.Questions.{LentMatrix};
 ghost use Rattle.prim.specs.Answers.{mostLinks};
@@ -90,23 +93,24 @@ fn put_results(
     put_state_lines(out, c, n, m, names, low, high, chosen)
 }
 
-// The network, the build and the fit of a lent matrix. The rows of the HTUs are written into the matrix, their states into three lists of
-// its shape.
+// The network, the build in an order of placing, and the fit of a lent matrix. The rows of the HTUs are written into the matrix, their
+// states into three lists of its shape.
 fn results_of(
     matrix: &mut [i32],
     n: usize,
     m: usize,
+    order: Order,
     low: &mut [i32],
     high: &mut [i32],
     chosen: &mut [i32],
 ) -> Results
     requires { ⌜ LentMatrix (now matrix) n m ⌝ }
     requires { ⌜ StateLists (now low) (now high) (now chosen) ⌝ }
-    ensures { λ r. ⌜ ResultsOf (now (matrix .entry)) n m (now (low .exit)) (now (high .exit)) (now (chosen .exit)) r ⌝ }
+    ensures { λ r. ⌜ ResultsOf order (now (matrix .entry)) n m (now (low .exit)) (now (high .exit)) (now (chosen .exit)) r ⌝ }
 {
     let answer = network(matrix, n, m);
     let links = answer.network;
-    let built = build(matrix, n, m);
+    let built = build(matrix, n, m, order);
     let tree = built.tree;
     let fit = fit_tree(matrix, n, m, tree, low, high, chosen);
     Results {
@@ -116,21 +120,24 @@ fn results_of(
     }
 }
 
-// Puts the listing of the job that lent lists hold in front of a list.
+// Puts the listing of the job with this header that lent lists hold in front of a list.
 pub(crate) fn put_job(
     out: &mut [u8],
-    n: usize,
-    m: usize,
+    header: Header,
     names: &[u8],
     matrix: &mut [i32],
     low: &mut [i32],
     high: &mut [i32],
     chosen: &mut [i32],
 ) -> usize
-    requires { ⌜ LentMatrix (now matrix) n m ⌝ }
+    requires { ⌜ LentMatrix (now matrix) (header .n) (header .m) ⌝ }
     requires { ⌜ StateLists (now low) (now high) (now chosen) ⌝ }
-    ensures { λ r. ⌜ ListsJob n m (now (names .entry)) (now (matrix .entry)) (now (out .entry)) (now (out .exit)) r ⌝ }
+    ensures { λ r. ⌜ ListsJob header (now (names .entry)) (now (matrix .entry)) (now (out .entry)) (now (out .exit)) r ⌝ }
 {
-    let found = results_of(matrix, n, m, low, high, chosen);
+    let n = header.n;
+    let m = header.m;
+    let word = header.order;
+    let order = order_meant(word);
+    let found = results_of(matrix, n, m, order, low, high, chosen);
     put_results(out, n, m, names, found, low, high, chosen)
 }

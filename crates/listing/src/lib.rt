@@ -3,4 +3,5 @@ mod blocks;
 pub mod call;
 mod job;
 mod lines;
+pub mod order;
 mod put;

@@ -18,7 +18,11 @@ use Rattle.branching.specs.Ancestors.{ancestor, places}
 use Rattle.branching.specs.Nodes.{inTree, nodesIn, nodesOut, otherNodes, taxaPlaced}
 use Rattle.branching.specs.Hanging.{noBranches, linked, hung, nextHtu}
 use Rattle.branching.specs.Placing.{AfterPlacing, fromInterval, nearestInterval, medianRow, linkFirst, hang, placeOn, place}
-use Rattle.wagner.specs.Build.{Built, advancement, byAdvancement, buildOn, build, wagner}
+use Rattle.wagner.specs.declared.order.Order.{Order}
+use Rattle.wagner.specs.declared.order.Order.the-variants.{Advance, Closest}
+use Rattle.wagner.specs.Next.{advancement, byAdvancement, nextBy}
+use Rattle.wagner.specs.Build.{Built, buildOn, build, wagner}
+use Rattle.wagner.proofs.Closest.{adds, closeness-least}
 use Rattle.listing.proofs.Bounds.Rows.{mostApart, AllNear, near-more, near-medians, node-apart, interval-apart}
 
 -- the first of the least of numbers within a bound is within it
@@ -68,13 +72,19 @@ module _ (n : ℕ) (taxa : 1 ≤ n) where
       let inside = numbers-within 2 (2 * n - 3) v (keep-mem (inTree tree) (numbers 2 (2 * n - 3)) v m .0) in
       omega arith
 
-  -- the next taxon by advancement is
-  advancement-within : (d : List ℤ → List ℤ → ℕ) (tree : List ℕ) (rows : List (List ℤ)) → byAdvancement d n tree rows ≤ 2 * n
-  unfolding byAdvancement nodesOut
-  advancement-within d tree rows =
-      least-within (advancement d rows) (2 * n) (nodesOut tree (numbers 1 n)) λ v m.
+  -- the taxon of least key is
+  key-within : (key : ℕ → ℕ) (tree : List ℕ) → leastOf key (nodesOut tree (numbers 1 n)) ≤ 2 * n
+  unfolding nodesOut
+  key-within key tree =
+      least-within key (2 * n) (nodesOut tree (numbers 1 n)) λ v m.
       let inside = numbers-within 1 n v (keep-mem _ (numbers 1 n) v m .0) in
       omega arith
+
+  -- so the next taxon in an order of placing is
+  taxon-within : (d : List ℤ → List ℤ → ℕ) (order : Order) (tree : List ℕ) (rows : List (List ℤ)) → nextBy d order n tree rows ≤ 2 * n
+  unfolding nextBy byAdvancement
+  taxon-within d Advance tree rows = key-within (advancement d rows) tree
+  taxon-within d Closest tree rows = rw (closeness-least d n tree rows) (key-within (adds d n tree rows) tree)
 
   module _ (tree : List ℕ) (rows : List (List ℤ)) (inside : AncestorsWithin (2 * n) tree) (near : AllNear rows) (b : ℕ) (taxon : b ≤ 2 * n) where
     -- a taxon placed on any interval
@@ -107,21 +117,21 @@ module _ (n : ℕ) (taxa : 1 ≤ n) where
     pub placements : (p : Placement) → List·Memᴰ p (built .placements) → Small n p
 
   -- so many placements in turn
-  build-small : (count : ℕ) (tree : List ℕ) (rows : List (List ℤ)) → AncestorsWithin (2 * n) tree → AllNear rows
-      → SmallBuilt (buildOn difference (byAdvancement difference) n count tree rows)
+  build-small : (order : Order) (count : ℕ) (tree : List ℕ) (rows : List (List ℤ)) → AncestorsWithin (2 * n) tree → AllNear rows
+      → SmallBuilt (buildOn difference (nextBy difference order) n count tree rows)
   unfolding buildOn
-  build-small zero tree rows inside near = record { ancestors = inside; placements = λ p m. absurd (List·Memᴰ·not-nil m) }
-  build-small (suc count) tree rows inside near =
-      let b = byAdvancement difference n tree rows in
-      let now = place-small tree rows inside near b (advancement-within difference tree rows) in
-      let rest = build-small count (place difference n tree rows b .tree) (place difference n tree rows b .rows) (now .ancestors) (now .rows) in
+  build-small order zero tree rows inside near = record { ancestors = inside; placements = λ p m. absurd (List·Memᴰ·not-nil m) }
+  build-small order (suc count) tree rows inside near =
+      let b = nextBy difference order n tree rows in
+      let now = place-small tree rows inside near b (taxon-within difference order tree rows) in
+      let rest = build-small order count (place difference n tree rows b .tree) (place difference n tree rows b .rows) (now .ancestors) (now .rows) in
       record {
         ancestors = rest .ancestors;
         placements = λ p m. ⊎-elim (λ e. rw e (now .placement)) (rest .placements p) (List·Memᴰ·cases-cons m);
       }
 
   -- the Wagner tree
-  pub wagner-small : (rows : List (List ℤ)) → AllNear rows → SmallBuilt (wagner difference n rows)
+  pub wagner-small : (order : Order) (rows : List (List ℤ)) → AllNear rows → SmallBuilt (wagner difference order n rows)
   unfolding wagner build noBranches ancestor
-  wagner-small rows near =
-      build-small (n - 1) noBranches rows (λ v. rw (getD-replicate {A = ℕ} 0 places v) (omega arith)) near
+  wagner-small order rows near =
+      build-small order (n - 1) noBranches rows (λ v. rw (getD-replicate {A = ℕ} 0 places v) (omega arith)) near

@@ -22,6 +22,7 @@ use Rattle.wagner.proofs.Whole.{wagner-branching}
 use Rattle.fitting.specs.Assignments.{character, branchLength}
 use Rattle.fitting.specs.Fit.{chosenState, range, fittedLength}
 use Rattle.fitting.proofs.Matrix.OnlyCodes.{Each, chosenState-each, range-each}
+use Rattle.listing.specs.Meant.{orderMeant}
 use Rattle.listing.proofs.Parts.{builtOf}
 use Rattle.listing.proofs.Totals.{Limits, limits}
 use Rattle.listing.proofs.Bounds.Rows.{mostApart, near-job}
@@ -48,7 +49,7 @@ module _ (job : Job) (within : JobWithinLimits job) (two : 2 ≤ job .n) where
 
   -- it is a branching
   whole : Branching (job .n) tree
-  whole = wagner-branching difference (job .n) (known .taxon) (known .taxa) (job .rows)
+  whole = wagner-branching difference (orderMeant (job .order)) (job .n) (known .taxon) (known .taxa) (job .rows)
 
   -- of two taxa at least
   grown : Grown (job .n) (job .n) tree

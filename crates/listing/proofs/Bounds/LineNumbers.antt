@@ -1,19 +1,19 @@
 -- The line that a refusal gives is at most 66, two behind the last row of 64.
 use mathlib.Core.Path.{_≡_, refl}
-use mathlib.Core.Bool.{Bool, true, false}
+use mathlib.Core.Bool.{true}
 use mathlib.Core.List.{List, [], _∷_}
 use Prim.Native.Nat.{ℕ, zero, suc, _+_, _≤_}
 use native.Mathlib.Nat.{add-zero}
 use native.Mathlib.Omega.{arith}
 use Rattle.matrix.specs.Outcomes.{ask, Outcome, value, refused, onLine, thenWith}
 use Rattle.matrix.specs.Questions.{withinLimits}
-use Rattle.matrix.specs.declared.refusal.Refusal.{Refusal}
-use Rattle.matrix.specs.declared.refusal.Refusal.the-variants.{FirstLine, BeyondLimits, FileGoesOn}
+use Rattle.matrix.specs.declared.refusal.Refusal.the-variants.{FirstLine, UnknownOrder, BeyondLimits, FileGoesOn}
 use Rattle.matrix.specs.declared.refusal.Asked.{Asked}
 use Rattle.matrix.specs.declared.refusal.Asked.the-variants.{Passed, Refused}
 use Rattle.matrix_file.specs.declared.answer.Header.{Header}
 use Rattle.matrix_file.specs.Lines.{linesOf}
-use Rattle.matrix_file.specs.Header.{headerIn, rowLine, behindHeader, firstLineForm, askFirstLine, askHeader}
+use Rattle.matrix_file.specs.Header.{headerIn, rowLine, behindHeader, firstLineForm, firstFields, orderKnown, askFirstLine, askHeader}
+use Rattle.matrix.proofs.Passing.{ask-passed}
 use Rattle.matrix_file.specs.Rows.{nameIn, askRow, askRows}
 use Rattle.matrix_file.specs.Reading.{jobOf, nothingMore, askEnd, askBehind, askFile, askLength, readAnswer}
 use Rattle.listing.proofs.Totals.{Limits, limits}
@@ -48,11 +48,13 @@ rows-lines most header earlier line (suc left) (row ∷ next ∷ lines) follow h
     on-line most line (askRow header earlier row) (askRows header (nameIn row ∷ earlier) (suc line) left (next ∷ lines) follow) (omega arith)
     (λ e. rows-lines most header (nameIn row ∷ earlier) (suc line) left (next ∷ lines) follow (omega arith) (λ others. rw same (own others)))
 
--- of two questions that pass the second passes
-second-passes : (a b : Bool) (p q : Refusal) → ask a p (ask b q Passed) ≡ Passed → b ≡ true
-second-passes true true p q e = refl
-second-passes true false p q e = let z : _≡_ {A = ℕ} 0 1 = cc in absurd (omega arith)
-second-passes false b p q e = let z : _≡_ {A = ℕ} 0 1 = cc in absurd (omega arith)
+-- line 1 that passes its questions has n and m within their limits
+first-limits : (lines : List (List ℕ)) → askFirstLine lines ≡ Passed → withinLimits (headerIn lines .n) (headerIn lines .m) ≡ true
+unfolding askFirstLine
+first-limits lines passed =
+    let form = ask-passed (firstLineForm lines) FirstLine _ passed in
+    let order = ask-passed (orderKnown (firstFields lines)) UnknownOrder _ (form .1) in
+    ask-passed (withinLimits (headerIn lines .n) (headerIn lines .m)) BeyondLimits Passed (order .1) .0
 
 -- the questions on what stands behind a header of at most 64 taxa
 behind-lines : (header : Header) (lines : List (List ℕ)) → header .n ≤ 64 → LineWithin 66 (askBehind header lines)
@@ -64,7 +66,7 @@ behind-lines header lines h =
 
 -- the questions on a file
 pub file-line : (file : List ℕ) → LineWithin 66 (readAnswer file)
-unfolding readAnswer askFile askHeader askFirstLine
+unfolding readAnswer askFile askHeader
 file-line file =
     let lines : List (List ℕ) = linesOf file in
     let header : Header = headerIn lines in
@@ -72,5 +74,5 @@ file-line file =
     on-line 66 0 (askLength file) (askFile lines) (omega arith) λ e.
     then-line 66 1 first header (λ header. askBehind header (behindHeader header lines)) (omega arith) λ passed.
     let inside : Limits (header .n) (header .m) =
-    limits (header .n) (header .m) (second-passes (firstLineForm lines) (withinLimits (header .n) (header .m)) FirstLine BeyondLimits passed) in
+    limits (header .n) (header .m) (first-limits lines passed) in
     behind-lines header (behindHeader header lines) (inside .taxa)

@@ -8,7 +8,7 @@ use Rattle.matrix_file.specs.Decimal.{digitsOf}
 use Rattle.matrix.specs.Outcomes.{Outcome, value, refused}
 use Rattle.matrix_file.specs.Job.{Job}
 use Rattle.matrix_file.specs.Reading.{readAnswer}
-use Rattle.matrix_file.proofs.File.Numbered.{refused-number}
+use Rattle.matrix_file.proofs.File.Numbered.{highestNumber, refused-bounds}
 use Rattle.matrix_file.specs.Text.{bytes}
 use Rattle.matrix_file.proofs.File.Accepted.{accepted-exactly}
 use Rattle.listing.specs.Lines.{joined}
@@ -21,7 +21,7 @@ use Rattle.listing.proofs.Bounds.LineNumbers.{LineWithin, none, some, f
 use Rattle.listing.proofs.Bounds.Room.{job-room}
 
 -- the line of a refusal
-refusal-room : (number at : ℕ) → number ≤ 11 → at ≤ 66 → length (joined (refusalLine number at ∷ [])) ≤ outputSize
+refusal-room : (number at : ℕ) → number ≤ highestNumber → at ≤ 66 → length (joined (refusalLine number at ∷ [])) ≤ outputSize
 unfolding refusalLine sizes bytes
 refusal-room number at few h =
     omega (
@@ -39,4 +39,4 @@ output-room file = by (readAnswer file) refl (file-line file)
   where
     by : (outcome : Outcome Job) → readAnswer file ≡ outcome → LineWithin 66 outcome → length (joined (printed outcome)) ≤ outputSize
     by (value job) e none = job-room job (accepted-exactly file job .0 e .0)
-    by (refused number line) e (some h) = refusal-room number line (refused-number file number line e .1) h
+    by (refused number line) e (some h) = refusal-room number line (refused-bounds file number line e .1) h

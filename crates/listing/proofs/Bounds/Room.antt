@@ -22,6 +22,7 @@ use Rattle.branching.specs.Ancestors.{ancestor}
 use Rattle.branching.specs.Nodes.{otherNodes}
 use Rattle.wagner.specs.Build.{wagnerLength}
 use Rattle.fitting.specs.Fit.{chosenState, range, fittedLength, fittedTotal, marked}
+use Rattle.listing.specs.Meant.{orderMeant}
 use Rattle.listing.specs.Lines.{nodeName, joined}
 use Rattle.listing.specs.Blocks.{mark, totalLine, primLine, wagnerLine, branchLine, stateLine, fittedLine, fittedLines, rangeLine, rangeLines}
 use Rattle.listing.specs.Listing.{listing}
@@ -75,7 +76,7 @@ module _ (job : Job) (within : JobWithinLimits job) where
 
   -- its placements and ancestors are within bounds
   small : SmallBuilt (job .n) (known .taxon) (builtOf plain job)
-  small = wagner-small (job .n) (known .taxon) (job .rows) (near-job job within)
+  small = wagner-small (job .n) (known .taxon) (orderMeant (job .order)) (job .rows) (near-job job within)
 
   -- a `P` line
   prim-size : (l : Link) → List·Memᴰ l (linksOf plain job) → length (primLine (job .n) (job .names) l) ≤ mostLine
@@ -169,7 +170,7 @@ module _ (job : Job) (within : JobWithinLimits job) where
         arith,
         ap length (joined-map (wagnerLine (job .n) (job .names)) (builtOf plain job .placements)),
         texts-room (wagnerLine (job .n) (job .names)) mostLine (builtOf plain job .placements) wagner-size,
-        wagner-count difference (job .n) (job .rows),
+        wagner-count difference (orderMeant (job .order)) (job .n) (job .rows),
       )
 
   -- `w`
@@ -178,7 +179,7 @@ module _ (job : Job) (within : JobWithinLimits job) where
   wagner-total-size =
       let total = wagnerLength difference (job .n) (builtOf plain job) in
       let most = sum-most (λ (p : Placement). p .added) mostApart (builtOf plain job .placements) (λ p m. small .placements p m .added) in
-      let below : total < 100000000 = omega (arith, wagner-total job within, most, wagner-count difference (job .n) (job .rows), known .taxa) in
+      let below : total < 100000000 = omega (arith, wagner-total job within, most, wagner-count difference (orderMeant (job .order)) (job .n) (job .rows), known .taxa) in
       total-size "w" total refl below
 
   -- the `T` lines together

@@ -1,51 +1,38 @@
--- `exports::calls::wagner_fit` meets its contract: a refusal is that of its questions; else the built tree is fitted. Assumes nothing.
+-- `exports::calls::wagner_fit` meets its contract: the sizes and the number are asked, then build and fit. Assumes nothing.
 use mathlib.Core.Path.{sym, _∙_}
-use borrow.Author.Tests.{not-true, not-false}
-use Rattle.exports.proofs.Fitted.{lists-refused, matrix-refused, matrix-fitted}
+use Rattle.exports.proofs.OrderNumbers.{lists-full}
+use Rattle.exports.proofs.Fitted.{sizes-refused, sizes-passed}
 use borrow.Author.Needs.{needs}
 use Rattle.exports.proofs.calls.wagner_fit.Statement.{statement}
 use Rattle.exports.proofs.calls.wagner_fit.Tie as tie
 
-lists-full-requires : tie.Need-lists-full-requires
-lists-full-requires c κs = search needs
+ask-fit-order-requires : tie.Need-ask-fit-order-requires
+ask-fit-order-requires c κs = search needs
+
+enum-known-refusal : tie.Need-enum-known-refusal
+enum-known-refusal c = search needs
 
 refused-requires : tie.Need-refused-requires
 refused-requires c κs = search needs
 
-returns : tie.Need-returns
-returns c =
-    let full = c .before .before in
-    lists-refused _ _ _ _ _ _ _ (sym (full .lists-full .ensures) ∙ not-true _ (c .before .if1 .taken)) (c .refused .ensures)
-
-build-requires : tie.Need-build-requires
-build-requires c κs = search needs
-
-enum-known-asked : tie.Need-enum-known-asked
-enum-known-asked c = search needs
-
-refused-requires-2 : tie.Need-refused-requires-2
-refused-requires-2 c κs = search needs
-
 enum-told : tie.Need-enum-told
 enum-told c = search needs
 
-fit-tree-requires : tie.Need-fit-tree-requires
-fit-tree-requires c κs = search needs
+order-numbered-requires : tie.Need-order-numbered-requires
+order-numbered-requires c κs = search needs
 
-is-requires : tie.Need-is-requires
-is-requires c κs = search needs
+fit-in-requires : tie.Need-fit-in-requires
+fit-in-requires c κs =
+    let told = c .before .before .before .before .before in
+    lists-full _ _ _ _ _ (sym (told .before .before .ask-fit-order .ensures) ∙ told .enum-told .given .1)
+
+returns : tie.Need-returns
+returns c =
+    let told = c .before .before in
+    sizes-refused _ _ _ _ _ _ _ _ (sym (told .before .before .ask-fit-order .ensures) ∙ told .refusal .given .1) _ (c .refused .ensures)
 
 same-length : tie.Need-same-length
 same-length c = search needs
-
-returns-2 : tie.Need-returns-2
-returns-2 c =
-    let told = c .before .before in
-    let built = told .before .before .before .before in
-    let full = built .before .before in
-    let lists = sym (full .before .lists-full .ensures) ∙ not-false _ (full .if1 .left) in
-    matrix-refused _ _ _ _ _ _ lists _ _ (built .build .ensures) _ _
-    (told .asked .given .1) (c .refused2 .ensures)
 
 same-length-2 : tie.Need-same-length-2
 same-length-2 c = search needs
@@ -56,36 +43,27 @@ same-length-3 c = search needs
 same-length-4 : tie.Need-same-length-4
 same-length-4 c = search needs
 
-same-length-5 : tie.Need-same-length-5
-same-length-5 c = search needs
-
-returns-3 : tie.Need-returns-3
-returns-3 c =
+returns-2 : tie.Need-returns-2
+returns-2 c =
     let done = c .before .before .before .before in
-    let told = done .before .before .before .before .before in
-    let built = told .before .before .before .before in
-    let full = built .before .before in
-    let lists = sym (full .before .lists-full .ensures) ∙ not-false _ (full .if1 .left) in
-    matrix-fitted _ _ _ _ _ _ lists _ _ (built .build .ensures) _ _ _ _ _
-    (told .enum-told .given .1) (done .fit-tree .ensures) (c .is .ensures)
+    let numbered = done .before .before .before .before in
+    let told = numbered .before .before in
+    sizes-passed _ _ _ _ _ _ _ (sym (told .before .before .ask-fit-order .ensures) ∙ told .enum-told .given .1) _
+    (numbered .order-numbered .ensures) _ _ _ _ _ (done .fit-in .ensures)
 
 pub wagner-fit-spec : {M : Type 1} → statement M
 wagner-fit-spec =
     tie.close
     (tie.spec
-    lists-full-requires
+    ask-fit-order-requires
+    enum-known-refusal
     refused-requires
-    returns
-    build-requires
-    enum-known-asked
-    refused-requires-2
     enum-told
-    fit-tree-requires
-    is-requires
+    order-numbered-requires
+    fit-in-requires
+    returns
     same-length
-    returns-2
     same-length-2
     same-length-3
     same-length-4
-    same-length-5
-    returns-3)
+    returns-2)

@@ -16,6 +16,9 @@ number-requires c κs = search needs
 enum-known-header : tie.Need-enum-known-header
 enum-known-header c = search needs
 
+accepted-requires : tie.Need-accepted-requires
+accepted-requires c κs = search needs
+
 same-length : tie.Need-same-length
 same-length c = search needs
 
@@ -36,9 +39,9 @@ same-length-4 c = search needs
 
 returns-2 : tie.Need-returns-2
 returns-2 c =
-    let told = c .before in
+    let told = c .before .before in
     let done = told .before .before .before .before .before in
-    read-accepted _ _ _ _ _ _ (done .read .ensures) _ (told .header .given .1)
+    read-accepted _ _ _ _ _ _ (done .read .ensures) _ (told .header .given .1) _ (c .accepted .ensures)
 
 pub wagner-read-spec : {M : Type 1} → statement M
 wagner-read-spec =
@@ -48,6 +51,7 @@ wagner-read-spec =
     enum-known-refusal
     number-requires
     enum-known-header
+    accepted-requires
     same-length
     same-length-2
     returns

@@ -5,6 +5,9 @@ use Rattle.listing.proofs.FoundResults.{results-listed}
 use Rattle.listing.proofs.job.put_job.Statement.{statement}
 use Rattle.listing.proofs.job.put_job.Tie as tie
 
+order-meant-requires : tie.Need-order-meant-requires
+order-meant-requires c κs = search needs
+
 results-of-requires : tie.Need-results-of-requires
 results-of-requires c κs = search needs
 
@@ -31,13 +34,17 @@ returns c =
     let put = c .before .before in
     let found = put .before .before .before .before .before .before .before .before .before in
     record {
-      is = λ names named. put-same (results-listed _ _ _ _ _ _ _ (found .results-of .ensures) names _ named) (put .put-results .ensures);
+      is = λ names named.
+          put-same
+          (results-listed _ _ (found .before .before .before .before .before .order-meant .ensures) _ _ _ _ _ (found .results-of .ensures) names _ named)
+          (put .put-results .ensures);
     }
 
 pub put-job-spec : {M : Type 1} → statement M
 put-job-spec =
     tie.close
     (tie.spec
+    order-meant-requires
     results-of-requires
     put-results-requires
     same-length

@@ -1,0 +1,75 @@
+-- Orders of placing by number: each order is read back from its number, and the questions put to a number, test by test.
+use mathlib.Core.Path.{_≡_, refl}
+use mathlib.Core.Logic.{_≢_}
+use mathlib.Core.Bool.{true, false}
+use Prim.Native.Nat.{ℕ}
+use borrow.Author.Tests.{eq-eqb, ne-eqb}
+use Rattle.matrix.specs.Shape.{matrixSize}
+use Rattle.matrix.specs.declared.refusal.Refusal.the-variants.{ListSize, UnknownOrder}
+use Rattle.matrix.specs.declared.refusal.Asked.{Asked}
+use Rattle.matrix.specs.declared.refusal.Asked.the-variants.{Passed, Refused}
+use Rattle.matrix.proofs.Passing.{ask-passed}
+use Rattle.wagner.specs.declared.order.Order.{Order}
+use Rattle.wagner.specs.declared.order.Order.the-variants.{Advance, Closest}
+use Rattle.fitting.specs.Calls.{listsFull}
+use Rattle.exports.specs.Orders.{orderNumber, isOrder, orderNumbered, askOrder, askFitOrder}
+
+-- an order is read back from its number, which passes
+pub number-back : (order : Order) → (orderNumbered (orderNumber order) ≡ order) × (isOrder (orderNumber order) ≡ true)
+unfolding orderNumbered isOrder
+number-back Advance = (refl, refl)
+number-back Closest = (refl, refl)
+
+-- no other number passes
+no-order : (isOrder 0 ≡ false) × (isOrder 3 ≡ false)
+unfolding isOrder
+no-order = (refl, refl)
+
+-- 2 is the order in which the closest taxon comes first
+pub numbered-closest : (number : ℕ) → number ≡ 2 → Closest ≡ orderNumbered number
+unfolding orderNumbered
+numbered-closest number e = rw e refl
+
+-- any other number gives the order by advancement
+pub numbered-advance : (number : ℕ) → number ≢ 2 → Advance ≡ orderNumbered number
+unfolding orderNumbered
+numbered-advance number ne = rw (ne-eqb number 2 ne) refl
+
+module _ (size number : ℕ) where
+  -- the matrix has not its full size
+  pub size-refused : size ≢ matrixSize → Refused ListSize ≡ askOrder size number
+  unfolding askOrder
+  size-refused ne = rw (ne-eqb size matrixSize ne) refl
+
+  module _ (full : size ≡ matrixSize) where
+    -- the order by advancement
+    pub one-passes : number ≡ 1 → Passed ≡ askOrder size number
+    unfolding askOrder isOrder
+    one-passes e = rw (eq-eqb size matrixSize full, e) refl
+
+    -- the closest first
+    pub two-passes : number ≡ 2 → Passed ≡ askOrder size number
+    unfolding askOrder isOrder
+    two-passes e = rw (eq-eqb size matrixSize full, e) refl
+
+    -- no order
+    pub other-refused : number ≢ 1 → number ≢ 2 → Refused UnknownOrder ≡ askOrder size number
+    unfolding askOrder isOrder
+    other-refused one two = rw (eq-eqb size matrixSize full, ne-eqb number 1 one, ne-eqb number 2 two) refl
+
+module _ (low high chosen size number : ℕ) where
+  -- one of the three lists has not its full size
+  pub lists-refused : listsFull low high chosen ≡ false → Refused ListSize ≡ askFitOrder low high chosen size number
+  unfolding askFitOrder
+  lists-refused e = rw e refl
+
+  -- if the questions pass, they have it
+  pub lists-full : askFitOrder low high chosen size number ≡ Passed → listsFull low high chosen ≡ true
+  unfolding askFitOrder
+  lists-full told = ask-passed (listsFull low high chosen) ListSize _ told .0
+
+  -- they have it: the matrix and the number decide
+  pub lists-pass : listsFull low high chosen ≡ true → (asked : Asked) → asked ≡ askOrder size number
+      → asked ≡ askFitOrder low high chosen size number
+  unfolding askFitOrder
+  lists-pass e asked is = rw e is
