@@ -56,7 +56,7 @@ pub fn write_ranges(low: &mut [i32], high: &mut [i32], data: &Data, found: &Rang
     for v in data.n + 1..found.ranges.len() {
         for j in 1..=data.m {
             let Range::Ordered(ends) = found.ranges[v][j - 1] else {
-                panic!("an unordered character in a file without requests");
+                panic!("an unordered character before M-108");
             };
             low[place(v, j)] = ends.low;
             high[place(v, j)] = ends.high;

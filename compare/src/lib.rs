@@ -4,6 +4,12 @@
 pub mod lent;
 pub mod plain;
 
+use wagner_reference::data::Requests;
+use wagner_reference::tree::Order;
+
+/// So many requests are in force, from M-100 on.
+pub const IN_FORCE: Requests = Requests(1);
+
 /// A lent matrix has 126 rows of 128 codes.
 pub const ROWS: usize = 126;
 pub const COLUMNS: usize = 128;
@@ -15,8 +21,21 @@ pub const NAMES_SIZE: usize = 1024;
 /// So many bytes are lent for what is printed.
 pub const OUTPUT_SIZE: usize = 1_048_576;
 
-/// What a read answers: refusal 0, line 0, n and m; or the number of the
-/// refusal, its line, and zeros.
+/// The orders of placing by number: by rising advancement, and the closest
+/// taxon first.
+pub const ADVANCE: u64 = 1;
+pub const CLOSEST: u64 = 2;
+
+/// The number of an order of the reference.
+pub fn order_number(order: Order) -> u64 {
+    match order {
+        Order::Advance => ADVANCE,
+        Order::Closest => CLOSEST,
+    }
+}
+
+/// What a read answers: refusal 0, line 0, n, m and the number of the order;
+/// or the number of the refusal, its line, and zeros.
 #[repr(C)]
 #[derive(Clone, Copy, PartialEq, Eq, Debug)]
 pub struct FileRead {
@@ -24,6 +43,7 @@ pub struct FileRead {
     pub line: usize,
     pub n: usize,
     pub m: usize,
+    pub order: u64,
 }
 
 /// What a call on a lent matrix answers: refusal 0 and a length; or the
@@ -65,12 +85,14 @@ mod library {
             matrix_length: usize,
             n: usize,
             m: usize,
+            order: u64,
         ) -> Measured;
         pub fn wagner_fit(
             matrix: *mut i32,
             matrix_length: usize,
             n: usize,
             m: usize,
+            order: u64,
             low: *mut i32,
             low_length: usize,
             high: *mut i32,
@@ -106,17 +128,19 @@ pub fn network(matrix: &[i32], n: usize, m: usize) -> Measured {
     unsafe { library::wagner_network(matrix.as_ptr(), matrix.len(), n, m) }
 }
 
-/// The Wagner tree of a lent matrix: HTU rows written, its length.
-pub fn build(matrix: &mut [i32], n: usize, m: usize) -> Measured {
-    unsafe { library::wagner_build(matrix.as_mut_ptr(), matrix.len(), n, m) }
+/// The Wagner tree of a lent matrix in an order of placing: HTU rows written,
+/// its length.
+pub fn build(matrix: &mut [i32], n: usize, m: usize, order: u64) -> Measured {
+    unsafe { library::wagner_build(matrix.as_mut_ptr(), matrix.len(), n, m, order) }
 }
 
-/// The Wagner tree of a lent matrix, fitted: HTU rows and the states of the
-/// HTUs written, the fitted total.
+/// The Wagner tree of a lent matrix in an order of placing, fitted: HTU rows
+/// and the states of the HTUs written, the fitted total.
 pub fn fit(
     matrix: &mut [i32],
     n: usize,
     m: usize,
+    order: u64,
     low: &mut [i32],
     high: &mut [i32],
     chosen: &mut [i32],
@@ -127,6 +151,7 @@ pub fn fit(
             matrix.len(),
             n,
             m,
+            order,
             low.as_mut_ptr(),
             low.len(),
             high.as_mut_ptr(),

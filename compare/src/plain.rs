@@ -1,7 +1,7 @@
 //! The same work in plain Rust loops over the lent matrix: what the parts of
 //! the proved library are measured against.
 
-use crate::{COLUMNS, MATRIX_SIZE, NAMES_SIZE};
+use crate::{ADVANCE, CLOSEST, COLUMNS, MATRIX_SIZE, NAMES_SIZE};
 
 /// A link of the network: a taxon, the one that it joins, their difference.
 #[derive(Clone, Copy)]
@@ -59,43 +59,84 @@ pub fn network(matrix: &[i32], n: usize, m: usize) -> (Vec<Link>, u64) {
     (links, total)
 }
 
-/// The Wagner tree: ancestors by node number, its placements and its length.
-pub fn build(matrix: &mut [i32], n: usize, m: usize) -> ([usize; 127], Vec<Placement>, u64) {
+/// What hanging taxon b on the interval of node c would add, and c.
+fn hanging(matrix: &[i32], m: usize, tree: &[usize; 127], b: usize, c: usize) -> (u64, usize) {
+    let (rb, rc, rd) = (row(matrix, b, m), row(matrix, c, m), row(matrix, tree[c], m));
+    ((difference(rb, rc) + difference(rb, rd) - difference(rc, rd)) / 2, c)
+}
+
+/// The interval of taxon b: what is added, and the lower end.
+fn nearest(matrix: &[i32], n: usize, m: usize, tree: &[usize; 127], b: usize) -> (u64, usize) {
+    let mut best = (u64::MAX, 0);
+    for c in (2..2 * n - 1).filter(|&c| tree[c] != 0) {
+        best = best.min(hanging(matrix, m, tree, b, c));
+    }
+    best
+}
+
+/// The interval of taxon v after b was hung on that of c by HTU y (0: on row
+/// 1): sought again if it is gone, else compared with the three new ones.
+fn renewed(
+    matrix: &[i32],
+    n: usize,
+    m: usize,
+    tree: &[usize; 127],
+    v: usize,
+    before: (u64, usize),
+    [b, c, y]: [usize; 3],
+) -> (u64, usize) {
+    if before.1 == c {
+        return nearest(matrix, n, m, tree, v);
+    }
+    [b, c, y].iter().fold(before, |best, &end| best.min(hanging(matrix, m, tree, v, end)))
+}
+
+/// Writes the median codes of three nodes into the row of node y.
+fn write_median(matrix: &mut [i32], m: usize, [b, c, d]: [usize; 3], y: usize) {
+    for j in 0..m {
+        let at = |v: usize| matrix[(v - 1) * COLUMNS + j];
+        let (p, q, r) = (at(b), at(c), at(d));
+        matrix[(y - 1) * COLUMNS + j] = p.max(q).min(p.min(q).max(r));
+    }
+}
+
+/// The Wagner tree in an order of placing: ancestors by node number, its
+/// placements and its length. Kept for each taxon: its advancement, or, by
+/// closeness, what its placement would add, and the lower end.
+pub fn build(
+    matrix: &mut [i32],
+    n: usize,
+    m: usize,
+    order: u64,
+) -> ([usize; 127], Vec<Placement>, u64) {
     let mut tree = [0; 127];
     let mut placements = Vec::new();
-    let mut order: Vec<usize> = (2..=n).collect();
-    order.sort_by_key(|&v| (difference(row(matrix, v, m), row(matrix, 1, m)), v));
+    let mut left: Vec<usize> = (2..=n).collect();
+    let mut keys: Vec<(u64, usize)> = (0..=n)
+        .map(|v| if v < 2 { (0, 0) } else { (difference(row(matrix, v, m), row(matrix, 1, m)), 0) })
+        .collect();
     let mut length = 0;
-    for (k, &b) in order.iter().enumerate() {
-        if k == 0 {
+    while !left.is_empty() {
+        let at = (0..left.len()).min_by_key(|&i| keys[left[i]].0).unwrap();
+        let b = left.remove(at);
+        let known = placements.is_empty() || order == CLOSEST;
+        let (added, c) = if known { keys[b] } else { nearest(matrix, n, m, &tree, b) };
+        let (upper, y) = if c == 0 { (1, 0) } else { (tree[c], n + placements.len()) };
+        if c == 0 {
             tree[b] = 1;
-            let added = difference(row(matrix, b, m), row(matrix, 1, m));
-            placements.push(Placement { taxon: b, lower: 0, upper: 1, htu: 0, added });
-            length += added;
-            continue;
+        } else {
+            write_median(matrix, m, [b, c, upper], y);
+            tree[y] = upper;
+            tree[c] = y;
+            tree[b] = y;
         }
-        let mut best = (u64::MAX, 0);
-        for c in 2..2 * n - 1 {
-            if tree[c] == 0 {
-                continue;
-            }
-            let (rb, rc, rd) = (row(matrix, b, m), row(matrix, c, m), row(matrix, tree[c], m));
-            let apart = (difference(rb, rc) + difference(rb, rd) - difference(rc, rd)) / 2;
-            if apart < best.0 {
-                best = (apart, c);
+        placements.push(Placement { taxon: b, lower: c, upper, htu: y, added });
+        length += added;
+        if order == CLOSEST {
+            for &v in &left {
+                keys[v] = renewed(matrix, n, m, &tree, v, keys[v], [b, c, y]);
             }
         }
-        let (c, y) = (best.1, n + k);
-        for j in 0..m {
-            let at = |v: usize| matrix[(v - 1) * COLUMNS + j];
-            let (p, q, r) = (at(b), at(c), at(tree[c]));
-            matrix[(y - 1) * COLUMNS + j] = p.max(q).min(p.min(q).max(r));
-        }
-        placements.push(Placement { taxon: b, lower: c, upper: tree[c], htu: y, added: best.0 });
-        tree[y] = tree[c];
-        tree[c] = y;
-        tree[b] = y;
-        length += best.0;
     }
     (tree, placements, length)
 }
@@ -180,8 +221,9 @@ fn number(field: &[u8], signed: bool) -> Option<i32> {
     Some(if minus { -value } else { value })
 }
 
-/// A read of a sound file: n and m, or none if a question is answered "no".
-pub fn read(file: &[u8], matrix: &mut [i32], names: &mut [u8]) -> Option<(usize, usize)> {
+/// A read of a sound file: n, m and the order, or none if a question is
+/// answered "no".
+pub fn read(file: &[u8], matrix: &mut [i32], names: &mut [u8]) -> Option<(usize, usize, u64)> {
     if file.len() > 45_000 || file.last() != Some(&b'\n') {
         return None;
     }
@@ -192,6 +234,11 @@ pub fn read(file: &[u8], matrix: &mut [i32], names: &mut [u8]) -> Option<(usize,
     }
     let n = number(first.next()?, false)? as usize;
     let m = number(first.next()?, false)? as usize;
+    let order = match first.next() {
+        None | Some(b"advance") => ADVANCE,
+        Some(b"closest") => CLOSEST,
+        Some(_) => return None,
+    };
     if first.next().is_some() || n < 1 || n > 64 || m < 1 || m > 128 {
         return None;
     }
@@ -215,7 +262,7 @@ pub fn read(file: &[u8], matrix: &mut [i32], names: &mut [u8]) -> Option<(usize,
             return None;
         }
     }
-    lines.next().is_none().then_some((n, m))
+    lines.next().is_none().then_some((n, m, order))
 }
 
 /// A page of lines: fields parted by tabs.
@@ -269,10 +316,10 @@ impl Page<'_> {
 /// The listing of a sound file, in the bytes of a list that is lent for it.
 pub fn list(file: &[u8], lent: Vec<u8>) -> Option<Vec<u8>> {
     let (mut matrix, mut names) = ([0; MATRIX_SIZE], [0; NAMES_SIZE]);
-    let (n, m) = read(file, &mut matrix, &mut names)?;
+    let (n, m, order) = read(file, &mut matrix, &mut names)?;
     let [mut low, mut high, mut chosen] = [[0; MATRIX_SIZE]; 3];
     let (links, p) = network(&matrix, n, m);
-    let (tree, placements, w) = build(&mut matrix, n, m);
+    let (tree, placements, w) = build(&mut matrix, n, m, order);
     let (lengths, t) = fit(&matrix, n, m, &tree, &mut low, &mut high, &mut chosen);
     let mut page = Page { text: lent, names: &names, n };
     page.text.clear();

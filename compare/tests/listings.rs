@@ -1,12 +1,13 @@
 //! The whole listing held to the reference's: its bytes, their number, and
 //! every lent byte behind them, for sound, damaged and refused files.
 
-use compare::{lent, list, plain, OUTPUT_SIZE};
+use compare::{lent, list, plain, IN_FORCE, OUTPUT_SIZE};
 use std::sync::atomic::{AtomicU64, Ordering};
 use std::sync::OnceLock;
 use wagner_reference::data::Requests;
-use wagner_reference::files::{generate, Random};
+use wagner_reference::files::Random;
 use wagner_reference::listing::listing;
+use wagner_reference::read::read;
 
 mod seeds;
 
@@ -16,9 +17,10 @@ fn before() -> &'static [u8] {
     BYTES.get_or_init(|| lent::bytes(OUTPUT_SIZE))
 }
 
-/// The listing of these bytes; answers the number of the refusal, or 0.
-fn check_listing(file: &[u8]) -> usize {
-    let expected = listing(file, Requests(0)).into_bytes();
+/// The listing of these bytes is the reference's under these requests; answers
+/// the number of the refusal, or 0.
+fn check_listing(file: &[u8], requests: Requests) -> usize {
+    let expected = listing(file, requests).into_bytes();
     let mut out = before().to_vec();
     let length = list(file, &mut out);
     assert_eq!(length, expected.len());
@@ -64,7 +66,7 @@ fn damaged(mut file: Vec<u8>, random: &mut Random) -> Vec<u8> {
 }
 
 /// How many files were accepted (place 0), and refused by each number.
-struct Tally([AtomicU64; 13]);
+struct Tally([AtomicU64; 16]);
 
 impl Tally {
     fn none() -> Tally {
@@ -77,26 +79,40 @@ impl Tally {
 
     fn print(&self, what: &str) {
         let counts: Vec<u64> = self.0.iter().map(|n| n.load(Ordering::Relaxed)).collect();
-        println!("{what}: accepted {}, refused by 1 to 11: {:?}", counts[0], &counts[1..12]);
+        println!("{what}: accepted {}, refused by 1 to 15: {:?}", counts[0], &counts[1..]);
     }
 }
 
 #[test]
 fn generated_files() {
     let tally = Tally::none();
-    seeds::each(|seed| tally.count(check_listing(&generate(seed, Requests(0)).bytes)));
+    seeds::each(IN_FORCE, |_, file| tally.count(check_listing(&file, IN_FORCE)));
     tally.print("generated files");
 }
 
 #[test]
 fn damaged_files() {
     let tally = Tally::none();
-    seeds::each(|seed| {
+    seeds::each(IN_FORCE, |seed, file| {
         let mut random = Random(seed ^ 0x6461_6d61_6765);
-        let file = generate(seed, Requests(0)).bytes;
-        tally.count(check_listing(&damaged(file, &mut random)));
+        tally.count(check_listing(&damaged(file, &mut random), IN_FORCE));
     });
     tally.print("damaged files");
+}
+
+/// What the base accepts is listed as the base lists it.
+#[test]
+fn files_of_the_base() {
+    let (as_before, other) = (Tally::none(), Tally::none());
+    seeds::each(Requests::NONE, |_, file| {
+        if read(&file, Requests::NONE).is_ok() {
+            as_before.count(check_listing(&file, Requests::NONE));
+        } else {
+            other.count(check_listing(&file, IN_FORCE));
+        }
+    });
+    as_before.print("files that the base accepts");
+    other.print("files that the base refuses");
 }
 
 #[test]
@@ -117,6 +133,6 @@ fn files_of_the_greatest_size() {
     for (length, refusal) in [(44_999, 11), (45_000, 11), (45_001, 1), (45_002, 1), (3_000_000, 1)] {
         let mut file = start.to_vec();
         file.resize(length, b'\n');
-        assert_eq!(check_listing(&file), refusal);
+        assert_eq!(check_listing(&file, IN_FORCE), refusal);
     }
 }

@@ -3,10 +3,11 @@
 
     cases.py BIN
 
-BIN is the folder of the reference's two programs, wagner-reference and wagner-files (cargo build --release in a copy of reference/). What a
-file brings is what wagner-reference prints with --requests 0; a text of more than 1,500 bytes stands as its length and its checksum Adler-32.
-Behind each stands how many of 1,048,576 lent bytes are left. A case is the length of the file and the number of bytes that are kept of it,
-each in three bytes, the highest first, and these bytes; the file goes on with `x`.
+BIN is the folder of the reference's two programs, wagner-reference and wagner-files (cargo build --release in a copy of reference/). What
+a file brings is what wagner-reference prints with the requests in force; a text of more than 1,500 bytes stands as its length and its
+checksum Adler-32. Behind each stands how many of 1,048,576 lent bytes are left. The files of the base come first: they bring what they
+bring with --requests 0, but for a fourth field in line 1, which the base refuses. A case is the length of the file and the number of bytes
+that are kept of it, each in three bytes, the highest first, and these bytes; the file goes on with `x`.
 """
 import os
 import subprocess
@@ -17,11 +18,13 @@ BIN = sys.argv[1]
 HERE = os.path.dirname(os.path.abspath(__file__))
 LENT = 1048576
 MOST_PRINTED = 1500
+IN_FORCE = 1  # so many requests, from M-100 on
+EXAMPLE = b'W\t4\t3\nA\t0\t0\t0\nB\t2\t1\t0\nC\t2\t3\t1\nD\t-1\t1\t2\n'
 
 
-def run(program, *words, given=b''):
-    """What one of the reference's programs prints."""
-    command = [os.path.join(BIN, program), *words, '--requests', '0']
+def run(program, *words, requests, given=b''):
+    """What one of the reference's programs prints with so many requests in force."""
+    command = [os.path.join(BIN, program), *words, '--requests', str(requests)]
     return subprocess.run(command, input=given, stdout=subprocess.PIPE, check=True).stdout
 
 
@@ -33,9 +36,8 @@ def matrix(n, m, code=lambda v, j: (v * 7 + j * 3) % 19 - 9):
 
 def named_edges():
     """The scope paper's edges, and a refusal of every number from 1 to 11."""
-    example = b'W\t4\t3\nA\t0\t0\t0\nB\t2\t1\t0\nC\t2\t3\t1\nD\t-1\t1\t2\n'
     small = b'W\t1\t1\nA\t0\n'
-    yield example
+    yield EXAMPLE
     for code in [b'999', b'-999', b'1000', b'-1000', b'1000000', b'-1000000', b'-0']:
         yield b'W\t2\t2\nA\t0\t0\nB\t5\t' + code + b'\n'
     yield matrix(2, 2, lambda v, j: -999 if v == 1 else 999)    # the greatest difference of a code, twice
@@ -44,7 +46,7 @@ def named_edges():
     yield matrix(1, 128)
     yield matrix(1, 129)
     yield matrix(64, 128, lambda v, j: (v * v + j * j * v) % 10)  # a listing above 64 KiB
-    yield example[:-1]                                          # a missing last line feed
+    yield EXAMPLE[:-1]                                          # a missing last line feed
     yield b'W\t2\t2\nA\t1\t2\nB\t1\t2\n'                        # equal rows under two names
     yield b'W\t5\t2\nA\t1\t2\nB\t1\t2\nC\t1\t2\nD\t1\t2\nE\t1\t2\n'
     yield b'W\t2\t2\nA\t1\t2\n1B\t1\n'                          # a bad name and too few codes
@@ -66,12 +68,63 @@ def named_edges():
         yield small + b'x' * (length - len(small))
 
 
-def generated(first, count, least, most):
-    """Generated files from a seed on, with a length within limits."""
+def fields_of_line_1(file):
+    return file.split(b'\n')[0].count(b'\t') + 1
+
+
+def with_field(file, word):
+    """A file with one field more in line 1."""
+    return file.replace(b'\n', b'\t' + word + b'\n', 1)
+
+
+def fourth_fields():
+    """The fourth field of line 1, right and wrong, and beside what is asked before and after it."""
+    small = b'W\t1\t1\nA\t0\n'
+    for word in [b'advance', b'closest']:
+        yield with_field(small, word)
+        yield with_field(b'W\t0\t1\nA\t0\n', word)             # 4
+        yield with_field(b'W\t1\t129\nA\t0\n', word)
+        yield with_field(b'W\t2\t1\nA\t0\n', word)             # 5
+        yield with_field(small, word) + b'B\t0\n'               # 11
+    for word in [b'', b'Closest', b'ADVANCE', b'closest ', b' advance', b'closest\r', b'clos', b'closestt', b'advance,closest', b'3',
+                 b'clo\xf3est', b'closest\0']:
+        yield with_field(small, word)                           # 15
+    for line in [b'W\t01\t1\tnot', b'W\t1\t1000000\tnot', b'V\t1\t1\tnot', b'W\t1\t1\tnot\t', b'W\t1\t1\tclosest\tadvance',
+                 b'W\t1\tclosest', b'W\tclosest\t1\t1']:
+        yield line + b'\nA\t0\n'                               # 3, before 15
+    yield b'W\t1\t1\tclosest'
+    yield b'W\t1\t1\tnot'
+    for line in [b'W\t0\t1\tnot', b'W\t65\t1\t', b'W\t1\t129\tnot', b'W\t2\t1\tnot']:
+        yield line + b'\nA\t0\n'                               # 15, before 4 and 5
+    for length in [45000, 45001]:
+        start = with_field(small, b'closest')
+        yield start + b'x' * (length - len(start))
+
+
+def in_both_orders():
+    """Files that are placed in both orders: ties, taxa that a placement brings nearer or puts farther off, the least and the largest."""
+    tied = [
+        [(0, 0), (2, 0), (1, 3), (0, 3)],                       # two taxa equally near, the lower row more advanced
+        [(0, 0), (10, 0), (0, 11), (12, 0)],                    # the closer one more advanced
+        [(0, 0), (1, 0), (0, 1), (0, 3), (3, 0)],               # equally near, the lower row to the higher lower end
+        [(0, 0), (0, 3), (2, 0), (-4, 0)],                      # three intervals equally near
+        [(1, 2)] * 5,
+        [(0, 0), (1, 0), (5, 0), (0, 6), (9, 1)],               # brought nearer
+        [(0, 0), (4, 4), (0, 9), (4, -6), (-8, 2)],             # put farther off
+    ]
+    files = [EXAMPLE, *(matrix(n, 3) for n in [1, 2, 3]), *(matrix(len(rows), 2, lambda v, j: rows[v - 1][j - 1]) for rows in tied)]
+    files += [matrix(64, 1), matrix(1, 128), matrix(64, 128, lambda v, j: (v * v + j * j * v) % 10)]
+    for file in files:
+        yield with_field(file, b'advance')
+        yield with_field(file, b'closest')
+
+
+def generated(first, count, least, most, requests=0, fields=None):
+    """Generated files from a seed on, with a length within limits and, if it is said, so many fields in line 1."""
     seed = first
     while count:
-        file = run('wagner-files', str(seed))
-        if least <= len(file) <= most:
+        file = run('wagner-files', str(seed), requests=requests)
+        if least <= len(file) <= most and fields in [None, fields_of_line_1(file)]:
             count -= 1
             yield file
         seed += 1
@@ -83,14 +136,24 @@ def packed(file):
 
 
 def printed(file):
-    text = run('wagner-reference', given=file)
+    text = run('wagner-reference', requests=IN_FORCE, given=file)
     left = b'k\t%d\n' % (LENT - len(text))
     if len(text) <= MOST_PRINTED:
         return text + left
     return b'L\t%d\t%d\n' % (len(text), zlib.adler32(text)) + left
 
 
-files = [*named_edges(), *generated(1, 300, 0, 400), *generated(20000, 40, 401, 1500), *generated(40000, 2, 5000, 9000)]
+def as_before(file):
+    """A file brings what it brought with the base alone, but for a fourth field, which the base refuses by 3."""
+    before = run('wagner-reference', requests=0, given=file)
+    now = run('wagner-reference', requests=IN_FORCE, given=file)
+    return before == now or (before == b'R\t3\t1\n' and fields_of_line_1(file) == 4)
+
+
+base = [*named_edges(), *generated(1, 300, 0, 400), *generated(20000, 40, 401, 1500), *generated(40000, 2, 5000, 9000)]
+assert all(map(as_before, base))
+files = [*base, *fourth_fields(), *in_both_orders()]
+files += [*generated(60000, 80, 0, 400, IN_FORCE, 4), *generated(80000, 10, 401, 1500, IN_FORCE, 4)]
 # three numbers of lent bytes that are not the full size: refused with 12, 0 bytes counted, all of them left
 refused = b''.join(b'R\t12\t0\nk\t%d\n' % size for size in [40, LENT - 1, LENT + 1])
 with open(os.path.join(HERE, 'data', 'cases'), 'wb') as cases:

@@ -2,10 +2,10 @@
 //!
 //! `cargo run --release --bin benchmark`
 
-use compare::{lent, plain, MATRIX_SIZE, OUTPUT_SIZE};
+use compare::{lent, plain, ADVANCE, CLOSEST, IN_FORCE, MATRIX_SIZE, OUTPUT_SIZE};
 use std::hint::black_box;
 use std::time::{Duration, Instant};
-use wagner_reference::data::{Data, Requests};
+use wagner_reference::data::Data;
 use wagner_reference::files::Random;
 use wagner_reference::fit::fit;
 use wagner_reference::listing::listing;
@@ -43,13 +43,15 @@ fn time(mut work: impl FnMut()) -> f64 {
     least.as_secs_f64() * 1e6
 }
 
-/// The parts of one program, in microseconds. `both` is build and fit,
-/// `whole` is from a file's bytes to those of its listing.
+/// The parts of one program, in microseconds. `build` is by advancement and
+/// `closest` the other order; `both` is `build` and fit, `whole` is from a
+/// file's bytes to those of its listing, by advancement.
 #[derive(Clone, Copy)]
 struct Parts {
     read: f64,
     network: f64,
     build: f64,
+    closest: f64,
     both: f64,
     whole: f64,
 }
@@ -68,25 +70,27 @@ impl Parts {
             read: self.read.min(other.read),
             network: self.network.min(other.network),
             build: self.build.min(other.build),
+            closest: self.closest.min(other.closest),
             both: self.both.min(other.both),
             whole: self.whole.min(other.whole),
         }
     }
 
-    fn all(self) -> [f64; 6] {
-        [self.read, self.network, self.build, self.fit(), self.print(), self.whole]
+    fn all(self) -> [f64; 7] {
+        let (fit, print) = (self.fit(), self.print());
+        [self.read, self.network, self.build, self.closest, fit, print, self.whole]
     }
 }
 
 /// The least times of several rounds of measuring, so that other work on the
 /// machine shows less.
-fn rounds(measure: impl Fn() -> Parts) -> [f64; 6] {
+fn rounds(measure: impl Fn() -> Parts) -> [f64; 7] {
     (0..ROUNDS).map(|_| measure()).reduce(Parts::least).unwrap().all()
 }
 
 const ROUNDS: usize = 5;
 
-const NAMES: [&str; 6] = ["read", "network", "build", "fit", "print", "whole"];
+const NAMES: [&str; 7] = ["read", "network", "build", "closest", "fit", "print", "whole"];
 
 fn ours(file: &[u8]) -> Parts {
     let (mut matrix, mut names) = (vec![0; MATRIX_SIZE], lent::names());
@@ -99,18 +103,21 @@ fn ours(file: &[u8]) -> Parts {
         black_box(compare::network(black_box(&matrix), n, m));
     });
     let build = time(|| {
-        black_box(compare::build(black_box(&mut matrix), n, m));
+        black_box(compare::build(black_box(&mut matrix), n, m, ADVANCE));
+    });
+    let closest = time(|| {
+        black_box(compare::build(black_box(&mut matrix), n, m, CLOSEST));
     });
     let [mut low, mut high, mut chosen] = [1, 2, 3].map(|mark| lent::codes(MATRIX_SIZE, mark));
     let both = time(|| {
         let matrix = black_box(&mut matrix);
-        black_box(compare::fit(matrix, n, m, &mut low, &mut high, &mut chosen));
+        black_box(compare::fit(matrix, n, m, ADVANCE, &mut low, &mut high, &mut chosen));
     });
     let mut out = lent::bytes(OUTPUT_SIZE);
     let whole = time(|| {
         black_box(compare::list(black_box(file), &mut out));
     });
-    Parts { read, network, build, both, whole }
+    Parts { read, network, build, closest, both, whole }
 }
 
 fn plain_loops(file: &[u8]) -> Parts {
@@ -118,17 +125,20 @@ fn plain_loops(file: &[u8]) -> Parts {
     let read = time(|| {
         black_box(plain::read(black_box(file), &mut matrix, &mut names));
     });
-    let (n, m) = plain::read(file, &mut matrix, &mut names).unwrap();
+    let (n, m, _) = plain::read(file, &mut matrix, &mut names).unwrap();
     let network = time(|| {
         black_box(plain::network(black_box(&matrix), n, m));
     });
     let build = time(|| {
-        black_box(plain::build(black_box(&mut matrix), n, m));
+        black_box(plain::build(black_box(&mut matrix), n, m, ADVANCE));
+    });
+    let closest = time(|| {
+        black_box(plain::build(black_box(&mut matrix), n, m, CLOSEST));
     });
     let [mut low, mut high, mut chosen] = [1, 2, 3].map(|mark| lent::codes(MATRIX_SIZE, mark));
     let both = time(|| {
         let matrix = black_box(&mut matrix);
-        let (tree, _, _) = plain::build(matrix, n, m);
+        let (tree, _, _) = plain::build(matrix, n, m, ADVANCE);
         black_box(plain::fit(matrix, n, m, &tree, &mut low, &mut high, &mut chosen));
     });
     let mut out = Vec::with_capacity(OUTPUT_SIZE);
@@ -136,14 +146,14 @@ fn plain_loops(file: &[u8]) -> Parts {
         out = plain::list(black_box(file), std::mem::take(&mut out)).unwrap();
         black_box(&out);
     });
-    Parts { read, network, build, both, whole }
+    Parts { read, network, build, closest, both, whole }
 }
 
 fn theirs(file: &[u8]) -> Parts {
     let read_time = time(|| {
-        black_box(read(black_box(file), Requests(0)).unwrap());
+        black_box(read(black_box(file), IN_FORCE).unwrap());
     });
-    let data: Data = read(file, Requests(0)).unwrap().data;
+    let data: Data = read(file, IN_FORCE).unwrap().data;
     let network = time(|| {
         black_box(prim_network(black_box(&data)).unwrap());
     });
@@ -151,15 +161,18 @@ fn theirs(file: &[u8]) -> Parts {
     let build_time = time(|| {
         black_box(build(black_box(&mut built_data), Order::Advance).unwrap());
     });
+    let closest = time(|| {
+        black_box(build(black_box(&mut built_data), Order::Closest).unwrap());
+    });
     let both = time(|| {
         let built = build(black_box(&mut built_data), Order::Advance).unwrap();
         black_box(fit(black_box(&data), &built.branches).unwrap());
         black_box(ranges(black_box(&data), &built.branches).unwrap());
     });
     let whole = time(|| {
-        black_box(listing(black_box(file), Requests(0)));
+        black_box(listing(black_box(file), IN_FORCE));
     });
-    Parts { read: read_time, network, build: build_time, both, whole }
+    Parts { read: read_time, network, build: build_time, closest, both, whole }
 }
 
 fn line(name: &str, ours: f64, plain: f64, theirs: f64) {
@@ -178,8 +191,8 @@ fn growth(sizes: [(usize, usize); 4]) {
         for part in parts {
             print!(" {part:9.1}");
         }
-        println!(" {:8.2}", parts[5] / before);
-        before = parts[5];
+        println!(" {:8.2}", parts[6] / before);
+        before = parts[6];
     }
 }
 

@@ -1,8 +1,10 @@
-//! The seeds of the generated files.
+//! The generated files, by their seeds.
 
 use std::env;
 use std::sync::atomic::{AtomicU64, Ordering};
 use std::thread;
+use wagner_reference::data::Requests;
+use wagner_reference::files::generate;
 
 /// A number from the environment, or what stands in for it.
 fn number(name: &str, otherwise: u64) -> u64 {
@@ -12,9 +14,10 @@ fn number(name: &str, otherwise: u64) -> u64 {
     }
 }
 
-/// Runs a check for each seed: COMPARE_FILES of them (20,000 if it is not
-/// set) from COMPARE_FIRST on (0 if it is not set).
-pub fn each(check: impl Fn(u64) + Sync) {
+/// Runs a check for each seed and its file under these requests: COMPARE_FILES
+/// of them (20,000 if it is not set) from COMPARE_FIRST on (0 if it is not
+/// set).
+pub fn each(requests: Requests, check: impl Fn(u64, Vec<u8>) + Sync) {
     let first = number("COMPARE_FIRST", 0);
     let end = first + number("COMPARE_FILES", 20_000);
     let next = AtomicU64::new(first);
@@ -25,8 +28,8 @@ pub fn each(check: impl Fn(u64) + Sync) {
                 if seed >= end {
                     break;
                 }
-                let told = Told(seed);
-                check(seed);
+                let told = Told(seed, requests);
+                check(seed, generate(seed, requests).bytes);
                 std::mem::forget(told);
             });
         }
@@ -34,10 +37,11 @@ pub fn each(check: impl Fn(u64) + Sync) {
 }
 
 /// Says which seed failed.
-struct Told(u64);
+struct Told(u64, Requests);
 
 impl Drop for Told {
     fn drop(&mut self) {
-        eprintln!("seed {}: wagner-files {} --requests 0", self.0, self.0);
+        let Told(seed, Requests(count)) = self;
+        eprintln!("seed {seed}: wagner-files {seed} --requests {count}");
     }
 }

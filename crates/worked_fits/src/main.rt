@@ -21,6 +21,7 @@ use fitting::calls::total;
 use fitting::whole::fit_tree;
 use matrix::rows::write_row;
 use wagner::build::build;
+use wagner::order::Order;
 use wagner::records::branches;
 use worked_cases::digests::print_digest;
 use worked_cases::generated::fill;
@@ -35,7 +36,7 @@ fn own(
     chosen: &mut [i32; 16128],
     last: usize,
 ) {
-    let built = build(codes, n, m);
+    let built = build(codes, n, m, Order::Advance);
     let tree: Tree = built.tree;
     let none = branch(0, 0);
     let records = branches(codes, n, m, tree, [none; 125]);

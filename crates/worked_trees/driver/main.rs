@@ -55,10 +55,10 @@ impl Pairs {
 }
 
 impl Work {
-    fn show(&mut self, n: usize, m: usize) {
+    fn show(&mut self, n: usize, m: usize, order: Order) {
         self.data.n = n;
         self.data.m = m;
-        match build(&mut self.data, Order::Advance) {
+        match build(&mut self.data, order) {
             Ok(built) => {
                 built.placements.iter().for_each(print_placement);
                 line("w", &[built.length as u64]);
@@ -85,88 +85,136 @@ impl Work {
         digest(&self.data);
         larger
     }
+    /// Codes of row 1, row 2, ...
+    fn rows(&mut self, rows: &[&[i32]]) {
+        for (i, row) in rows.iter().enumerate() {
+            put(&mut self.data, i + 1, row);
+        }
+    }
+    fn example(&mut self, order: Order) {
+        self.rows(&[&[0, 0, 0], &[2, 1, 0], &[2, 3, 1], &[-1, 1, 2]]);
+        self.show(4, 3, order);
+        self.show(1, 3, order);
+        self.show(2, 3, order);
+    }
+    fn one_by_one(&mut self) {
+        let mut tree = Pairs::alone();
+        for b in [3, 3, 1, 0, 5, 2, 4, 4] {
+            tree = self.hand(4, 3, tree, b);
+        }
+        self.hand(4, 3, Pairs::alone(), 1);
+    }
+    fn handed_in(&mut self) {
+        let tree = Pairs::alone().link(2).hang(4, 2, 5);
+        put(&mut self.data, 5, &[1, 1, 1]);
+        self.hand(4, 3, tree, 3);
+        put(&mut self.data, 5, &[-7, 9, 999]);
+        self.hand(4, 3, tree, 3);
+        put(&mut self.data, 5, &[3, 3, 3]);
+        put(&mut self.data, 6, &[4, 4, 4]);
+        put(&mut self.data, 7, &[5, 5, 5]);
+        self.hand(5, 3, Pairs::alone().link(4).hang(3, 4, 6).hang(2, 6, 7), 5);
+        self.hand(5, 3, Pairs::alone().link(4).hang(3, 4, 6).hang(2, 3, 7), 5);
+    }
+    fn no_trees(&mut self) {
+        self.hand(4, 3, Pairs::alone().link(2).link(4), 3);
+        self.hand(4, 3, Pairs::alone().link(2).hang(4, 2, 6), 3);
+        self.hand(4, 3, Pairs::alone().link(5), 3);
+        self.hand(4, 3, Pairs::alone().link(2).hang(4, 3, 5), 3);
+        self.hand(4, 3, Pairs::alone().link(2).hang(4, 2, 5).hang(5, 2, 6), 3);
+        self.hand(4, 3, Pairs::alone().link(2).link(4), 5);
+        self.hand(4, 3, Pairs::alone().link(2).link(4), 2);
+    }
+    fn refusals(&mut self, order: Order) {
+        let tree = Pairs::alone().link(2).hang(4, 2, 5);
+        self.show(0, 3, order);
+        self.show(65, 3, order);
+        self.show(4, 0, order);
+        self.show(4, 129, order);
+        self.hand(65, 3, tree, 3);
+        self.hand(4, 129, tree, 3);
+        put(&mut self.data, 5, &[0, 1000, 0]);
+        self.hand(4, 3, tree, 3);
+        self.hand(4, 3, tree, 2);
+        self.hand(4, 1, tree, 3);
+        put(&mut self.data, 6, &[-1000, 0, 0]);
+        self.hand(4, 1, tree, 3);
+        put(&mut self.data, 3, &[0, 0, -1000]);
+        self.show(4, 3, order);
+        self.hand(4, 3, tree, 3);
+        self.hand(4, 3, tree, 9);
+        self.show(4, 2, order);
+    }
+    fn ends(&mut self, order: Order) {
+        self.rows(&[&[-999; 128], &[999; 128], &[0; 128], &[999; 128]]);
+        self.show(4, 1, order);
+        self.show(4, 128, order);
+    }
+    fn generated(&mut self, order: Order) {
+        fill(&mut self.data, [-2, -1, -1, 0, 0, 0, 1, 2], 1);
+        self.show(64, 1, order);
+        self.show(64, 4, order);
+        self.show(23, 9, order);
+        fill(&mut self.data, [0, 1, 0, 1, 0, 1, 0, 1], 2);
+        self.show(64, 12, order);
+        self.show(16, 128, order);
+        fill(&mut self.data, [-999, -500, -37, 0, 1, 250, 998, 999], 3);
+        self.show(64, 20, order);
+        self.show(9, 128, order);
+    }
+    fn nearness(&mut self, order: Order) {
+        self.rows(&[&[0, 0], &[2, 0], &[1, 3]]);
+        self.show(1, 2, order);
+        self.show(2, 2, order);
+        self.show(3, 2, order);
+        self.rows(&[&[0, 0], &[2, 0], &[1, 3], &[0, 3]]);
+        self.show(4, 2, order);
+        self.rows(&[&[0, 0], &[10, 0], &[0, 11], &[12, 0]]);
+        self.show(4, 2, order);
+        self.rows(&[&[0, 0], &[1, 0], &[0, 1], &[0, 3], &[3, 0]]);
+        self.show(5, 2, order);
+    }
+    fn renewals(&mut self, order: Order) {
+        self.rows(&[&[0, 0], &[0, 0], &[0, 0], &[0, 0]]);
+        self.show(4, 2, order);
+        self.rows(&[&[0, 0], &[0, 3], &[2, 0], &[-4, 0]]);
+        self.show(4, 2, order);
+        self.rows(&[&[0, 0], &[1, 0], &[5, 0], &[0, 6], &[9, 1]]);
+        self.show(5, 2, order);
+        self.rows(&[&[0, 0], &[4, 4], &[0, 9], &[4, -6], &[-8, 2]]);
+        self.show(5, 2, order);
+    }
+    fn builds(&mut self, order: Order) {
+        self.refusals(order);
+        short(order);
+        self.ends(order);
+        self.generated(order);
+        self.nearness(order);
+        self.renewals(order);
+    }
 }
 
-fn main() {
-    let mut w = Work { data: Data::blank(4, 3) };
-    put(&mut w.data, 1, &[0, 0, 0]);
-    put(&mut w.data, 2, &[2, 1, 0]);
-    put(&mut w.data, 3, &[2, 3, 1]);
-    put(&mut w.data, 4, &[-1, 1, 2]);
-    w.show(4, 3);
-    w.show(1, 3);
-    w.show(2, 3);
-
-    let mut tree = Pairs::alone();
-    for b in [3, 3, 1, 0, 5, 2, 4, 4] {
-        tree = w.hand(4, 3, tree, b);
-    }
-    w.hand(4, 3, Pairs::alone(), 1);
-
-    let tree = Pairs::alone().link(2).hang(4, 2, 5);
-    put(&mut w.data, 5, &[1, 1, 1]);
-    w.hand(4, 3, tree, 3);
-    put(&mut w.data, 5, &[-7, 9, 999]);
-    w.hand(4, 3, tree, 3);
-    put(&mut w.data, 5, &[3, 3, 3]);
-    put(&mut w.data, 6, &[4, 4, 4]);
-    put(&mut w.data, 7, &[5, 5, 5]);
-    w.hand(5, 3, Pairs::alone().link(4).hang(3, 4, 6).hang(2, 6, 7), 5);
-    w.hand(5, 3, Pairs::alone().link(4).hang(3, 4, 6).hang(2, 3, 7), 5);
-
-    w.hand(4, 3, Pairs::alone().link(2).link(4), 3);
-    w.hand(4, 3, Pairs::alone().link(2).hang(4, 2, 6), 3);
-    w.hand(4, 3, Pairs::alone().link(5), 3);
-    w.hand(4, 3, Pairs::alone().link(2).hang(4, 3, 5), 3);
-    w.hand(4, 3, Pairs::alone().link(2).hang(4, 2, 5).hang(5, 2, 6), 3);
-    w.hand(4, 3, Pairs::alone().link(2).link(4), 5);
-    w.hand(4, 3, Pairs::alone().link(2).link(4), 2);
-
-    w.show(0, 3);
-    w.show(65, 3);
-    w.show(4, 0);
-    w.show(4, 129);
-    w.hand(65, 3, tree, 3);
-    w.hand(4, 129, tree, 3);
-    put(&mut w.data, 5, &[0, 1000, 0]);
-    w.hand(4, 3, tree, 3);
-    w.hand(4, 3, tree, 2);
-    w.hand(4, 1, tree, 3);
-    put(&mut w.data, 6, &[-1000, 0, 0]);
-    w.hand(4, 1, tree, 3);
-    put(&mut w.data, 3, &[0, 0, -1000]);
-    w.show(4, 3);
-    w.hand(4, 3, tree, 3);
-    w.hand(4, 3, tree, 9);
-    w.show(4, 2);
-
-    let mut short = Data::blank(0, 0);
-    short.matrix.pop();
-    line("R", &[build(&mut short, Order::Advance).unwrap_err().number as u64, 0]);
-    short.n = 3;
-    short.m = 1;
+fn short(order: Order) {
+    let mut data = Data::blank(0, 0);
+    data.matrix.pop();
+    line("R", &[build(&mut data, order).unwrap_err().number as u64, 0]);
+    data.n = 3;
+    data.m = 1;
     let mut two = Pairs::alone().link(2).link(3).tree(3);
-    line("R", &[place(&mut short, &mut two, 9).unwrap_err().number as u64, 0]);
+    line("R", &[place(&mut data, &mut two, 9).unwrap_err().number as u64, 0]);
     let unchanged = Pairs::of(&two);
     for v in (0..127).filter(|&v| unchanged.0[v] != 0) {
         line("A", &[v as u64, unchanged.0[v] as u64]);
     }
+}
 
-    put(&mut w.data, 1, &[-999; 128]);
-    put(&mut w.data, 2, &[999; 128]);
-    put(&mut w.data, 3, &[0; 128]);
-    put(&mut w.data, 4, &[999; 128]);
-    w.show(4, 1);
-    w.show(4, 128);
-
-    fill(&mut w.data, [-2, -1, -1, 0, 0, 0, 1, 2], 1);
-    w.show(64, 1);
-    w.show(64, 4);
-    w.show(23, 9);
-    fill(&mut w.data, [0, 1, 0, 1, 0, 1, 0, 1], 2);
-    w.show(64, 12);
-    w.show(16, 128);
-    fill(&mut w.data, [-999, -500, -37, 0, 1, 250, 998, 999], 3);
-    w.show(64, 20);
-    w.show(9, 128);
+fn main() {
+    let mut work = Work { data: Data::blank(4, 3) };
+    work.example(Order::Advance);
+    work.one_by_one();
+    work.handed_in();
+    work.no_trees();
+    work.builds(Order::Advance);
+    work.example(Order::Closest);
+    work.builds(Order::Closest);
 }

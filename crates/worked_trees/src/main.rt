@@ -7,6 +7,7 @@ use matrix::refusal::Asked;
 use matrix::rows::write_row;
 use wagner::build::WagnerTree;
 use wagner::build::build;
+use wagner::order::Order;
 use wagner::records::branches;
 use worked_cases::digests::print_digest;
 use worked_cases::generated::fill;
@@ -55,9 +56,9 @@ fn print_built(built: WagnerTree, codes: &[i32; 16128], n: usize, m: usize) {
     print_branches(branches(codes, n, m, tree, [none; 125]));
 }
 
-// The lines of a build from a matrix of n taxa and m characters.
-fn show(codes: &mut [i32; 16128], n: usize, m: usize) {
-    let built = build(codes, n, m);
+// The lines of a build, in an order of placing, from a matrix of n taxa and m characters.
+fn show(codes: &mut [i32; 16128], n: usize, m: usize, order: Order) {
+    let built = build(codes, n, m, order);
     let asked = built.asked;
     match asked {
         Asked::Passed => print_built(built, codes, n, m),
@@ -84,14 +85,14 @@ fn hand(codes: &mut [i32; 16128], n: usize, m: usize, tree: Tree, b: usize) -> T
 }
 
 // Document 01's example, and the first one and two of its taxa.
-fn example(codes: &mut [i32; 16128]) {
+fn example(codes: &mut [i32; 16128], order: Order) {
     write_row(codes, 1, &[0, 0, 0]);
     write_row(codes, 2, &[2, 1, 0]);
     write_row(codes, 3, &[2, 3, 1]);
     write_row(codes, 4, &[-1, 1, 2]);
-    show(codes, 4, 3);
-    show(codes, 1, 3);
-    show(codes, 2, 3);
+    show(codes, 4, 3, order);
+    show(codes, 1, 3, order);
+    show(codes, 2, 3, order);
 }
 
 // Placements one by one, in another order than by advancement; taxa that are in the tree, and taxa that do not exist.
@@ -151,12 +152,12 @@ fn no_trees(codes: &mut [i32; 16128]) {
 }
 
 // Refusals of the matrix: n, then m, then a code of a taxon; then the code of an HTU of the tree; codes that are not read.
-fn refusals(codes: &mut [i32; 16128]) {
+fn refusals(codes: &mut [i32; 16128], order: Order) {
     let tree = Tree::alone().link(2).hang(4, 2, 5);
-    show(codes, 0, 3);
-    show(codes, 65, 3);
-    show(codes, 4, 0);
-    show(codes, 4, 129);
+    show(codes, 0, 3, order);
+    show(codes, 65, 3, order);
+    show(codes, 4, 0, order);
+    show(codes, 4, 129, order);
     hand(codes, 65, 3, tree, 3);
     hand(codes, 4, 129, tree, 3);
     write_row(codes, 5, &[0, 1000, 0]);
@@ -166,16 +167,16 @@ fn refusals(codes: &mut [i32; 16128]) {
     write_row(codes, 6, &[-1000, 0, 0]);
     hand(codes, 4, 1, tree, 3);
     write_row(codes, 3, &[0, 0, -1000]);
-    show(codes, 4, 3);
+    show(codes, 4, 3, order);
     hand(codes, 4, 3, tree, 3);
     hand(codes, 4, 3, tree, 9);
-    show(codes, 4, 2);
+    show(codes, 4, 2, order);
 }
 
 // A matrix that is not of full size.
-fn short() {
+fn short(order: Order) {
     let mut codes = [0i32; 16127];
-    let built = build(&mut codes, 0, 0);
+    let built = build(&mut codes, 0, 0, order);
     let asked = built.asked;
     match asked {
         Asked::Passed => end_line(),
@@ -192,37 +193,92 @@ fn short() {
 }
 
 // Both ends of the range, and equal rows.
-fn ends(codes: &mut [i32; 16128]) {
+fn ends(codes: &mut [i32; 16128], order: Order) {
     write_row(codes, 1, &[-999i32; 128]);
     write_row(codes, 2, &[999i32; 128]);
     write_row(codes, 3, &[0i32; 128]);
     write_row(codes, 4, &[999i32; 128]);
-    show(codes, 4, 1);
-    show(codes, 4, 128);
+    show(codes, 4, 1, order);
+    show(codes, 4, 128, order);
 }
 
 // Matrices of few codes, where many intervals are equally near and many HTUs equal a node, and of codes over the whole range.
-fn generated(matrix: &mut [i32; 16128]) {
+fn generated(matrix: &mut [i32; 16128], order: Order) {
     fill(matrix, [-2, -1, -1, 0, 0, 0, 1, 2], 1);
-    show(matrix, 64, 1);
-    show(matrix, 64, 4);
-    show(matrix, 23, 9);
+    show(matrix, 64, 1, order);
+    show(matrix, 64, 4, order);
+    show(matrix, 23, 9, order);
     fill(matrix, [0, 1, 0, 1, 0, 1, 0, 1], 2);
-    show(matrix, 64, 12);
-    show(matrix, 16, 128);
+    show(matrix, 64, 12, order);
+    show(matrix, 16, 128, order);
     fill(matrix, [-999, -500, -37, 0, 1, 250, 998, 999], 3);
-    show(matrix, 64, 20);
-    show(matrix, 9, 128);
+    show(matrix, 64, 20, order);
+    show(matrix, 9, 128, order);
+}
+
+// One to three taxa; two taxa equally near to the one interval, the lower row more advanced; a taxon that is closer and more advanced than
+// another; two taxa equally near to one interval each, that of the lower row with the higher lower end.
+fn nearness(codes: &mut [i32; 16128], order: Order) {
+    write_row(codes, 1, &[0, 0]);
+    write_row(codes, 2, &[2, 0]);
+    write_row(codes, 3, &[1, 3]);
+    show(codes, 1, 2, order);
+    show(codes, 2, 2, order);
+    show(codes, 3, 2, order);
+    write_row(codes, 4, &[0, 3]);
+    show(codes, 4, 2, order);
+    write_row(codes, 2, &[10, 0]);
+    write_row(codes, 3, &[0, 11]);
+    write_row(codes, 4, &[12, 0]);
+    show(codes, 4, 2, order);
+    write_row(codes, 2, &[1, 0]);
+    write_row(codes, 3, &[0, 1]);
+    write_row(codes, 4, &[0, 3]);
+    write_row(codes, 5, &[3, 0]);
+    show(codes, 5, 2, order);
+}
+
+// Equal rows; a taxon equally near to three intervals; one that a placement brings nearer than the one that was next; one that a placement
+// takes the nearest interval from, so that another is next.
+fn renewals(codes: &mut [i32; 16128], order: Order) {
+    write_row(codes, 1, &[0, 0]);
+    write_row(codes, 2, &[0, 0]);
+    write_row(codes, 3, &[0, 0]);
+    write_row(codes, 4, &[0, 0]);
+    show(codes, 4, 2, order);
+    write_row(codes, 2, &[0, 3]);
+    write_row(codes, 3, &[2, 0]);
+    write_row(codes, 4, &[-4, 0]);
+    show(codes, 4, 2, order);
+    write_row(codes, 2, &[1, 0]);
+    write_row(codes, 3, &[5, 0]);
+    write_row(codes, 4, &[0, 6]);
+    write_row(codes, 5, &[9, 1]);
+    show(codes, 5, 2, order);
+    write_row(codes, 2, &[4, 4]);
+    write_row(codes, 3, &[0, 9]);
+    write_row(codes, 4, &[4, -6]);
+    write_row(codes, 5, &[-8, 2]);
+    show(codes, 5, 2, order);
+}
+
+// What is built in an order of placing, beside the example.
+fn builds(codes: &mut [i32; 16128], order: Order) {
+    refusals(codes, order);
+    short(order);
+    ends(codes, order);
+    generated(codes, order);
+    nearness(codes, order);
+    renewals(codes, order);
 }
 
 fn main() {
     let mut codes = [0i32; 16128];
-    example(&mut codes);
+    example(&mut codes, Order::Advance);
     one_by_one(&mut codes);
     handed_in(&mut codes);
     no_trees(&mut codes);
-    refusals(&mut codes);
-    short();
-    ends(&mut codes);
-    generated(&mut codes);
+    builds(&mut codes, Order::Advance);
+    example(&mut codes, Order::Closest);
+    builds(&mut codes, Order::Closest);
 }
