@@ -74,21 +74,24 @@ fn nearest(matrix: &[i32], n: usize, m: usize, tree: &[usize; 127], b: usize) ->
     best
 }
 
-/// The interval of taxon v after b was hung on that of c by HTU y (0: on row
-/// 1): sought again if it is gone, else compared with the three new ones.
+/// The interval of taxon v after a placement changed those of three nodes:
+/// what is kept of these is computed again, and the least of all is found.
 fn renewed(
     matrix: &[i32],
     n: usize,
     m: usize,
     tree: &[usize; 127],
     v: usize,
-    before: (u64, usize),
-    [b, c, y]: [usize; 3],
+    kept: &mut [u64; 127],
+    changed: [usize; 3],
 ) -> (u64, usize) {
-    if before.1 == c {
-        return nearest(matrix, n, m, tree, v);
+    for c in changed {
+        if tree[c] != 0 {
+            kept[c] = hanging(matrix, m, tree, v, c).0;
+        }
     }
-    [b, c, y].iter().fold(before, |best, &end| best.min(hanging(matrix, m, tree, v, end)))
+    let intervals = (2..2 * n - 1).filter(|&c| tree[c] != 0);
+    intervals.map(|c| (kept[c], c)).min().unwrap()
 }
 
 /// Writes the median codes of three nodes into the row of node y.
@@ -102,7 +105,8 @@ fn write_median(matrix: &mut [i32], m: usize, [b, c, d]: [usize; 3], y: usize) {
 
 /// The Wagner tree in an order of placing: ancestors by node number, its
 /// placements and its length. Kept for each taxon: its advancement, or, by
-/// closeness, what its placement would add, and the lower end.
+/// closeness, what its placement would add, and the lower end; and what each
+/// interval would add.
 pub fn build(
     matrix: &mut [i32],
     n: usize,
@@ -115,6 +119,7 @@ pub fn build(
     let mut keys: Vec<(u64, usize)> = (0..=n)
         .map(|v| if v < 2 { (0, 0) } else { (difference(row(matrix, v, m), row(matrix, 1, m)), 0) })
         .collect();
+    let mut kept = vec![[0; 127]; if order == CLOSEST { n + 1 } else { 0 }];
     let mut length = 0;
     while !left.is_empty() {
         let at = (0..left.len()).min_by_key(|&i| keys[left[i]].0).unwrap();
@@ -134,7 +139,7 @@ pub fn build(
         length += added;
         if order == CLOSEST {
             for &v in &left {
-                keys[v] = renewed(matrix, n, m, &tree, v, keys[v], [b, c, y]);
+                keys[v] = renewed(matrix, n, m, &tree, v, &mut kept[v], [b, c, y]);
             }
         }
     }

@@ -27,8 +27,8 @@ use Rattle.branching.specs.Within.{nextHtuWithin}
 use Rattle.branching.proofs.Within.{next-plain}
 use Rattle.branching.proofs.Nodes.{inTree-iff}
 use Rattle.branching.specs.Nodes.{inTree, nodesIn, otherNodes}
-use Rattle.branching.specs.Unasked.{intervalAt, mediansAt, nearestAt, hungAt, NearestOf}
-use Rattle.branching.specs.Nearest.{NearestBelow, Leaves}
+use Rattle.branching.specs.Unasked.{intervalAt, mediansAt, nearestAt, hungAt}
+use Rattle.branching.specs.Nearest.{NearestBelow, NearestOf, Leaves}
 
 -- the interval difference of three rows of a matrix, of at most 128 codes each
 pub interval-rows : (codes : List ℤ) (m b c e r : ℕ) (tree : List ℕ) (xs ys zs : List ℤ) → m ≤ 128 → e ≡ ancestor tree c

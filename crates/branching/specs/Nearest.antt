@@ -10,11 +10,16 @@ use Rattle.branching.specs.declared.placement.Nearest.{Nearest}
 use Rattle.branching.specs.declared.placement.Unasked.{Unasked}
 use Rattle.branching.specs.Ancestors.{ancestors}
 use Rattle.branching.specs.Nodes.{inTree}
-use Rattle.branching.specs.Unasked.{AfterUnasked, intervalAt}
+use Rattle.branching.specs.Unasked.{AfterUnasked, intervalAt, nearestAt}
 
 -- r is the nearest interval of those whose lower end is below c: its lower end, 0 if there is none yet, and its interval difference
 pub record NearestBelow (codes : List ℤ) (m : ℕ) (tree : List ℕ) (b c : ℕ) (r : Nearest) : Type 0 where
   pub lower : r .lower ≡ scanned (intervalAt codes m tree b) (inTree tree) 2 c
+  pub added : r .lower ≢ 0 → r .added ≡ intervalAt codes m tree b (r .lower)
+
+-- r is the nearest interval of all
+pub record NearestOf (codes : List ℤ) (n m : ℕ) (tree : List ℕ) (b : ℕ) (r : Nearest) : Type 0 where
+  pub lower : r .lower ≡ nearestAt codes m n tree b
   pub added : r .lower ≢ 0 → r .added ≡ intervalAt codes m tree b (r .lower)
 
 -- what is handed back and what the matrix then holds are what a placement leaves

@@ -1,11 +1,10 @@
--- For the layer `place_unasked`, `find_nearest` and private contracts alone: a reader has to believe `Placing.antt`, and not this file. What a
--- placement without its questions does with every matrix, tree and number, by the rows of a lent matrix; on every tree that the questions let
--- pass it is the placement of `Placing.antt` (`proofs/Unasked.antt` `unasked-placed`).
+-- For the layer `place_unasked` and private contracts alone: a reader has to believe `Placing.antt`, and not this file. What a placement
+-- without its questions does with every matrix, tree and number, by the rows of a lent matrix; on every tree that the questions let pass it
+-- is the placement of `Placing.antt` (`proofs/Unasked.antt` `unasked-placed`).
 use mathlib.Core.Path.{_≡_}
 use mathlib.Core.List.{List}
-use mathlib.Core.Logic.{_≢_}
 use mathlib.Core.Bool.{cond, _&&_}
-use Prim.Native.Nat.{ℕ, zero, suc, _≤_, _<_}
+use Prim.Native.Nat.{ℕ, zero, suc}
 use lib.Dec.{leb}
 use lib.IntN.{ℤ}
 use Rattle.lists.specs.Least.{leastOf}
@@ -71,17 +70,6 @@ unasked codes n m tree b =
 -- no interval
 abbrev pub noInterval : Nearest
 noInterval = record { lower = 0; added = 0 }
-
--- r is the nearest interval of taxon b: its lower end, 0 if there is none, and its interval difference
-pub record NearestOf (codes : List ℤ) (n m : ℕ) (tree : List ℕ) (b : ℕ) (r : Nearest) : Type 0 where
-  pub lower : r .lower ≡ nearestAt codes m n tree b
-  pub added : r .lower ≢ 0 → r .added ≡ intervalAt codes m tree b (r .lower)
-
--- r is the nearest interval of taxon b, and none for more than 64 taxa or more than 128 characters
-pub record NearestFound (codes : List ℤ) (n m : ℕ) (tree : List ℕ) (b : ℕ) (r : Nearest) : Type 0 where
-  pub within : n ≤ mostTaxa → m ≤ mostCharacters → NearestOf codes n m tree b r
-  pub many : mostTaxa < n → r ≡ noInterval
-  pub wide : mostCharacters < m → r ≡ noInterval
 
 -- what such a placement hands back, and what the matrix then holds
 pub record UnaskedDone (codes new : List ℤ) (n m : ℕ) (before : List ℕ) (b : ℕ) (r : Unasked) : Type 0 where

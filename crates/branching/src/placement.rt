@@ -20,9 +20,9 @@ ghost use Rattle.matrix.specs.Shape.{mostTaxa, mostCharacters, row};
 ghost use Rattle.matrix.specs.NodeRows.{withRow};
 ghost use Rattle.difference.specs.Rows.{difference, medians};
 ghost use Rattle.branching.specs.Ancestors.{ancestors, ancestor};
-ghost use Rattle.branching.specs.Unasked.{intervalAt, mediansAt, linkedAt, hungAt, NearestOf, NearestFound, UnaskedDone};
+ghost use Rattle.branching.specs.Unasked.{intervalAt, mediansAt, linkedAt, hungAt, UnaskedDone};
 ghost use Rattle.branching.specs.Placing.{noPlacement};
-ghost use Rattle.branching.specs.Nearest.{NearestBelow, Leaves};
+ghost use Rattle.branching.specs.Nearest.{NearestBelow, NearestOf, Leaves};
 ghost use Rattle.branching.specs.Asking.{askPlacement};
 ghost use Rattle.branching.specs.Placed.{PlacementDone};
 
@@ -120,19 +120,6 @@ fn nearest_interval(matrix: &[i32], n: usize, m: usize, tree: Tree, b: usize) ->
         c += 1;
     }
     best
-}
-
-// The nearest interval of taxon b, without the questions of a placement; none for more than 64 taxa or 128 characters.
-pub fn find_nearest(matrix: &[i32], n: usize, m: usize, tree: Tree, b: usize) -> Nearest
-    ensures { λ r. ⌜ NearestFound (now (matrix .entry)) n m (ancestors tree) b r ⌝ }
-{
-    if MOST_TAXA < n {
-        return Nearest { lower: 0, added: 0 };
-    }
-    if MOST_CHARACTERS < m {
-        return Nearest { lower: 0, added: 0 };
-    }
-    nearest_interval(matrix, n, m, tree, b)
 }
 
 // Writes the medians of three rows over the front of a list.

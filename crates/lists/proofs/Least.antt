@@ -43,7 +43,7 @@ module _ {A : Type 0} where
     take-later x z h = rw (lt-leb (key x) (key z) h)
 
     -- a fact about the choice between x and a later one, from the fact in each of the two cases
-    pub choice-cases : (P : A → Type 0) (x z : A) → (key x ≤ key z → P x) → (key z < key x → P z) → P (earlier x z)
+    choice-cases : (P : A → Type 0) (x z : A) → (key x ≤ key z → P x) → (key z < key x → P z) → P (earlier x z)
     choice-cases P x z low high = go (leb (key x) (key z)) refl
       where
         go : (b : Bool) → leb (key x) (key z) ≡ b → P (cond b x z)

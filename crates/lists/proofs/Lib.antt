@@ -9,4 +9,3 @@ pub mod Over
 pub mod Stripes
 pub mod Filled
 pub mod Pairs
-pub mod Foremost

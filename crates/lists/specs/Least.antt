@@ -1,8 +1,8 @@
 -- The choice that settles a tie. A key gives each item a number, as a difference or an advancement; of a list the first item with the
 -- least key is chosen.
-use mathlib.Core.List.{List, [], _∷_, List·Memᴰ}
+use mathlib.Core.List.{List, [], _∷_}
 use mathlib.Core.Bool.{Bool, cond}
-use Prim.Native.Nat.{ℕ, _-_, _≤_}
+use Prim.Native.Nat.{ℕ, _-_}
 use lib.Dec.{leb}
 use Rattle.lists.specs.Filters.{keep}
 use Rattle.lists.specs.Numbers.{numbers}
@@ -22,13 +22,3 @@ leastOf key (v ∷ vs) = firstLeast key v vs
 -- a scan: of the numbers from `first` up to but not with `end` that pass a test, the first with the least key, and 0 if none passes
 unfoldable pub scanned : (ℕ → ℕ) → (ℕ → Bool) → ℕ → ℕ → ℕ
 scanned key test first end = leastOf key (keep test (numbers first (end - first)))
-
--- by a key, u comes before v or is v: its key is less, or the same and u is not higher
-pub record Before (key : ℕ → ℕ) (u v : ℕ) : Type 0 where
-  pub least : key u ≤ key v
-  pub first : key v ≤ key u → u ≤ v
-
--- r is one of a list of numbers and comes before all others
-pub record Foremost (key : ℕ → ℕ) (vs : List ℕ) (r : ℕ) : Type 0 where
-  pub mem : List·Memᴰ r vs
-  pub before : (u : ℕ) → List·Memᴰ u vs → Before key r u

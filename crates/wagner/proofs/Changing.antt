@@ -7,7 +7,6 @@ use native.Mathlib.Omega.{arith}
 use native.Mathlib.Decide.{ℕ-discrete}
 use lib.IntN.{ℤ}
 use lib.ListN.{length}
-use Rattle.lists.proofs.Least.{leastOf-none}
 use Rattle.matrix.specs.Shape.{row}
 use Rattle.matrix.specs.NodeRows.{rowsOf}
 use Rattle.difference.specs.Rows.{difference, nodeDifference, intervalDifference}
@@ -18,14 +17,14 @@ use Rattle.branching.specs.Facts.{InTree, Grown, GrowingTree, alone, several}
 use Rattle.branching.specs.Hanging.{nextHtu, linked, hung}
 use Rattle.branching.specs.Placing.{AfterPlacing, nearestInterval, linkFirst, hang}
 use Rattle.branching.specs.Placed.{lastRow, placeIn, matrixPlaced}
-use Rattle.branching.specs.Unasked.{intervalAt, nearestAt}
+use Rattle.branching.specs.Unasked.{intervalAt}
 use Rattle.branching.proofs.Nodes.{nodesIn-node, node-nodesIn}
 use Rattle.branching.proofs.BranchSums.{Joint, hung-taxon, hung-lower, hung-htu, hung-other}
-use Rattle.branching.proofs.Hanging.{hung-joint, htu-out, stays}
-use Rattle.branching.proofs.Linking.{linked-taxon}
+use Rattle.branching.proofs.Hanging.{hung-joint, htu-out}
+use Rattle.branching.proofs.Linking.{linked-taxon, linked-other}
 use Rattle.branching.proofs.Placing.{place-first, place-later, nearest-in, nearest-node}
 use Rattle.branching.proofs.Standing.{Standing, standing-placed, last-is, placed-other}
-use Rattle.wagner.specs.Closeness.{intervals, Cut, Changed, AllChanged}
+use Rattle.wagner.specs.Closeness.{intervals, AllChanged}
 
 -- taxon b placed on a growing tree that stands in a matrix
 module _ (codes : List ℤ) (n m k : ℕ) (tree : List ℕ) (s : Standing codes n m k tree) (b : ℕ) (u : Unplaced n tree b) where
@@ -62,18 +61,19 @@ module _ (codes : List ℤ) (n m k : ℕ) (tree : List ℕ) (s : Standing codes 
     unfolding placeIn
     is-linked = place-first difference n tree rows b none
 
-    -- no taxon has an interval before
-    none-before : (v : ℕ) → nearestAt codes m n tree v ≡ 0
-    unfolding nearestAt
-    none-before v =
-        leastOf-none (intervalAt codes m tree v) (nodesIn tree (otherNodes n)) (λ e mem. omega (arith, node-nodesIn tree n e mem, none e))
-
     -- b is the lower end of one now
     one-interval : List·Memᴰ b (intervals n (linked tree b))
     one-interval =
         nodesIn-node (linked tree b) n b (u .other) (omega (arith, u .other, u .taxon))
         (inr (omega (arith, linked-taxon n tree none room b u)))
 
+    -- and of no other
+    only-interval : (e : ℕ) → List·Memᴰ e (intervals n (linked tree b)) → e ≡ b
+    only-interval e mem =
+        by-cases (ℕ-discrete e b) (λ is. is)
+        (λ ne. absurd (omega (arith, node-nodesIn (linked tree b) n e mem .2, linked-other n tree none room b u e ne)))
+
+    -- what the first link changes
     changed-first : AllChanged codes now n m tree (ours .tree) (ours .placement)
     unfolding linkFirst
     changed-first v free = record {
@@ -81,8 +81,7 @@ module _ (codes : List ℤ) (n m k : ℕ) (tree : List ℕ) (s : Standing codes 
       before = record { other = free .other; taxon = free .taxon; free = none v };
       advancement = advancement-stays v (omega (arith, free .other)) (free .taxon);
       someInterval = rw is-linked one-interval;
-      first = λ _. none-before v;
-      hung = λ some. absurd (some (ap (λ (after : AfterPlacing). after .placement .lower) is-linked));
+      each = λ e mem. inl (inl (rw is-linked (only-interval e (rw is-linked at mem))));
     }
 
   -- a hanging
@@ -114,12 +113,6 @@ module _ (codes : List ℤ) (n m k : ℕ) (tree : List ℕ) (s : Standing codes 
     -- a node with an immediate ancestor in the new tree
     interval-new : (e : ℕ) → 2 ≤ e → e ≤ 2 * n - 2 → 1 ≤ ancestor new e → List·Memᴰ e (intervals n new)
     interval-new e low high a = nodesIn-node new n e low high (inr a)
-
-    -- an earlier interval is one now
-    interval-stays : (e : ℕ) → List·Memᴰ e (intervals n tree) → List·Memᴰ e (intervals n new)
-    interval-stays e mem =
-        let w = node-nodesIn tree n e mem in
-        nodesIn-node new n e (w .0) (w .1) (stays n k tree g room b c u inside e (inr (w .2)))
 
     -- an interval now is that of b, that of y, or an earlier one
     interval-only : (e : ℕ) → List·Memᴰ e (intervals n new) → (e ≡ b) ⊎ ((e ≡ y) ⊎ List·Memᴰ e (intervals n tree))
@@ -176,19 +169,15 @@ module _ (codes : List ℤ) (n m k : ℕ) (tree : List ℕ) (s : Standing codes 
     taxon-interval : List·Memᴰ b (intervals n new)
     taxon-interval = interval-new b (joint .taxon .1) (joint .taxon .2) (omega (arith, hung-taxon n tree b c y joint, g .atLeastTwo))
 
-    -- the three intervals, and the others
-    cut : (v : ℕ) → 1 ≤ v → v ≤ n → (p : Placement) → p .taxon ≡ b → p .lower ≡ c → p .htu ≡ y → Cut codes now n m tree new v p
-    cut v low high p taxon lower htu = record {
-      lower = rw lower (nearest-in difference n tree rows b k g);
-      lowerStays =
-          rw lower
-          (interval-new c (joint .lower .1) (joint .lower .2) (omega (arith, hung-lower n tree b c y joint, g .atLeastTwo)));
-      htuNew = rw htu (interval-new y (joint .htu .1) (joint .htu .2) (omega (arith, hung-htu n tree b c y joint, inside)));
-      taxonNew = rw taxon taxon-interval;
-      stays = interval-stays;
-      only = rw (taxon, htu) interval-only;
-      same = rw lower (interval-same v low high);
-    }
+    -- an interval belongs to the placement, or is an earlier one from which a taxon is as far as before
+    interval-each : (v : ℕ) → 1 ≤ v → v ≤ n → (e : ℕ) → List·Memᴰ e (intervals n new)
+        → ((e ≡ b) ⊎ ((e ≡ y) ⊎ (e ≡ c))) ⊎ (List·Memᴰ e (intervals n tree) × (intervalAt now m new v e ≡ intervalAt codes m tree v e))
+    interval-each v low high e mem =
+        ⊎-elim (λ is. inl (inl is))
+        (λ rest. ⊎-elim (λ is. inl (inr (inl is)))
+        (λ was. by-cases (ℕ-discrete e c) (λ is. inl (inr (inr is))) (λ nc. inr (was, interval-same v low high e was nc)))
+        rest)
+        (interval-only e mem)
 
     -- what a hanging changes
     changed-later : AllChanged codes now n m tree (ours .tree) (ours .placement)
@@ -205,8 +194,7 @@ module _ (codes : List ℤ) (n m k : ℕ) (tree : List ℕ) (s : Standing codes 
           before = free-before v here;
           advancement = advancement-stays v low (free .taxon);
           someInterval = rw (grown, taxon) taxon-interval;
-          first = λ zero. absurd (omega (arith, lower, nearest-node difference n tree rows b k g .0));
-          hung = λ _. rw grown (cut v low (free .taxon) (ours .placement) taxon lower htu);
+          each = rw (grown, taxon, lower, htu) (interval-each v low (free .taxon));
         }
 
   -- every placement

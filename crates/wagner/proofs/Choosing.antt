@@ -1,12 +1,14 @@
 -- The choice of the taxon to place next, taxon by taxon.
 use lib.Seq.{getD-set-same, getD-set-other}
 use native.Mathlib.Decide.{ℕ-discrete}
-use mathlib.Core.Path.{_≡_, sym, ap, ap₂, _∙_}
+use mathlib.Core.Path.{_≡_, refl, sym, ap, ap₂, _∙_}
 use mathlib.Core.Logic.{_≢_, by-cases}
-use mathlib.Core.Bool.{true, false, not}
+use mathlib.Core.Bool.{Bool, true, false, not, true≢false}
 use mathlib.Core.List.{List}
-use Prim.Native.Nat.{ℕ, _+_, _-_, _≤_, _<_}
+use Prim.Native.Nat.{ℕ, _+_, _*_, _-_, _≤_, _<_}
 use native.Mathlib.Omega.{arith}
+use borrow.Author.Tests.{eq-eqb, ne-eqb}
+use lib.Dec.{eqb}
 use lib.IntN.{ℤ}
 use lib.ListN.{length, getD, set}
 use Rattle.lists.specs.Filters.{keep}
@@ -21,7 +23,9 @@ use Rattle.matrix.proofs.NodeRows.{rowOf-rowsOf}
 use Rattle.difference.specs.Rows.{difference, nodeDifference}
 use Rattle.branching.specs.Nodes.{inTree, nodesIn, nodesOut, otherNodes, Unplaced}
 use Rattle.branching.specs.Hanging.{noBranches}
-use Rattle.branching.proofs.Nodes.{node-nodesIn, noBranches-none}
+use Rattle.branching.specs.Ancestors.{ancestor}
+use Rattle.branching.proofs.Nodes.{false-inTree, node-nodesIn, noBranches-none}
+use Rattle.branching.proofs.Searching.{has-above}
 use Rattle.branching.specs.declared.placement.Nearest.{Nearest}
 use Rattle.branching.specs.declared.placement.Placement.{Placement}
 use Rattle.branching.specs.Placed.{lastRow, placeIn}
@@ -33,6 +37,7 @@ use Rattle.wagner.specs.declared.order.Order.{Order}
 use Rattle.wagner.specs.declared.order.Order.the-variants.{Advance, Closest}
 use Rattle.wagner.specs.Next.{advancement, byAdvancement, nextBy}
 use Rattle.wagner.specs.Order.{keyOf, unplacedTest, keyBy, Right, Keys, Sooner, NextTaxon}
+use Rattle.wagner.specs.Closeness.{kept, NearestKept}
 use Rattle.wagner.proofs.Closest.{adds, closeness-least}
 
 -- one advancement more is kept
@@ -48,30 +53,60 @@ key-next codes m keys v x room is before u low high =
     (λ e. rw (e, is) (getD-set-same keys v (record { lower = 0; added = difference (row codes m v) (row codes m 1) }) noInterval room))
     (λ ne. getD-set-other keys v u (record { lower = 0; added = x }) noInterval ne ∙ before u low (omega arith))
 
--- from the taxon to place next of those before v to that of those up to v
-module _ (key : ℕ → ℕ) (tree : List ℕ) (best v : ℕ) (within : best ≤ 64) (low : 1 ≤ v) (high : v ≤ 64) where
-  -- a placed taxon is passed over
-  pub sooner-placed : inTree tree v ≡ true → Sooner key tree best v best
-  unfolding unplacedTest
-  sooner-placed placed = record { among = within; is = λ e. step-fails key (unplacedTest tree) 1 v best low e (ap not placed) }
+-- from the one chosen of those before v to that of those up to v
+module _ (key : ℕ → ℕ) (test : ℕ → Bool) (best v : ℕ) where
+  -- one that fails the test is passed over
+  pub sooner-over : test v ≡ false → Sooner key test best v best
+  sooner-over fails = record {
+    among = λ most low high. low;
+    is = λ first one low e. step-fails key test first v best low e fails;
+  }
 
-  module _ (out : inTree tree v ≡ false) where
-    -- v is not placed
-    free : unplacedTest tree v ≡ true
-    unfolding unplacedTest
-    free = ap not out
-
+  module _ (passes : test v ≡ true) where
     -- the first one is taken
-    pub sooner-first : best ≡ 0 → Sooner key tree best v v
-    sooner-first none = record { among = high; is = λ e. step-first key (unplacedTest tree) 1 v best low e free (omega arith) none }
+    pub sooner-first : best ≡ 0 → Sooner key test best v v
+    sooner-first none = record {
+      among = λ most low high. high;
+      is = λ first one low e. step-first key test first v best low e passes one none;
+    }
 
     -- one of lesser key is taken
-    pub sooner-moves : best ≢ 0 → key v < key best → Sooner key tree best v v
-    sooner-moves some less = record { among = high; is = λ e. step-less key (unplacedTest tree) 1 v best low e free some less }
+    pub sooner-moves : best ≢ 0 → key v < key best → Sooner key test best v v
+    sooner-moves some less = record {
+      among = λ most low high. high;
+      is = λ first one low e. step-less key test first v best low e passes some less;
+    }
 
     -- otherwise it is passed over
-    pub sooner-stays : best ≢ 0 → key best ≤ key v → Sooner key tree best v best
-    sooner-stays some more = record { among = within; is = λ e. step-stays key (unplacedTest tree) 1 v best low e free some more }
+    pub sooner-stays : best ≢ 0 → key best ≤ key v → Sooner key test best v best
+    sooner-stays some more = record {
+      among = λ most low high. low;
+      is = λ first one low e. step-stays key test first v best low e passes some more;
+    }
+
+-- a placed taxon is one that is passed over
+pub placed-over : (tree : List ℕ) (v : ℕ) → inTree tree v ≡ not (unplacedTest tree v)
+unfolding unplacedTest
+placed-over tree v = twice (inTree tree v)
+  where
+    twice : (t : Bool) → t ≡ not (not t)
+    twice true = refl
+    twice false = refl
+
+-- what is not in a tree is not row 1
+pub not-row-one : (tree : List ℕ) (v : ℕ) → inTree tree v ≡ false → v ≢ 1
+unfolding inTree
+not-row-one tree v out one = true≢false (sym (ap (inTree tree) one) ∙ out)
+
+-- a node without an immediate ancestor, other than row 1, is one that is passed over
+pub out-over : (tree : List ℕ) (c above : ℕ) → 2 ≤ c → above ≡ ancestor tree c → eqb above 0 ≡ not (inTree tree c)
+out-over tree c above low is = by-cases (ℕ-discrete above 0) out inside
+  where
+    out : above ≡ 0 → eqb above 0 ≡ not (inTree tree c)
+    out none = eq-eqb above 0 none ∙ sym (ap not (false-inTree tree c low (sym is ∙ none)))
+
+    inside : above ≢ 0 → eqb above 0 ≡ not (inTree tree c)
+    inside some = ne-eqb above 0 some ∙ sym (ap not (has-above tree c above is some))
 
 -- before the first taxon there is none
 pub sooner-start : (key : ℕ → ℕ) (tree : List ℕ) → 0 ≡ scanned key (unplacedTest tree) 1 1
@@ -142,3 +177,15 @@ module _ (now : List ℤ) (n m placed : ℕ) (tree : List ℕ) (stands : Standin
       let u = unplaced-taxon n tree v mem in
       known .each v u .key ∙ closest-key v u)
       ∙ sym (closeness-least difference n tree rows)
+
+-- all nodes gone through, it is the nearest interval by what is kept
+pub kept-end : (table : List ℕ) (n : ℕ) (tree : List ℕ) (v c best added : ℕ) → 2 ≤ n → c ≡ 2 * n - 1
+    → best ≡ scanned (kept table v) (inTree tree) 2 c → added ≡ kept table v best
+    → NearestKept table n tree v (record { lower = best; added = added })
+unfolding scanned nodesIn otherNodes
+kept-end table n tree v c best added two end is found =
+    let count : c - 2 ≡ 2 * n - 3 = omega arith in
+    record {
+      lower = is ∙ ap (λ (k : ℕ). leastOf (kept table v) (keep (inTree tree) (numbers 2 k))) count;
+      added = found;
+    }

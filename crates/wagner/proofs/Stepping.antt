@@ -20,8 +20,8 @@ use Rattle.wagner.specs.declared.build.Building.{Building}
 use Rattle.wagner.specs.declared.build.WagnerTree.{WagnerTree}
 use Rattle.wagner.specs.declared.order.Order.{Order}
 use Rattle.wagner.specs.Answers.{buildSays, placementsIn, BuildDone}
-use Rattle.wagner.specs.Order.{keyOf, Keys}
-use Rattle.wagner.specs.Closeness.{AllChanged}
+use Rattle.wagner.specs.Order.{keyOf}
+use Rattle.wagner.specs.Closeness.{KeysNext}
 use Rattle.wagner.specs.Steps.{Begun, nextOf, nextPlacement, WithPlacement, OneMore, BuiltFrom}
 
 -- the unplaced taxon of least key placed
@@ -34,19 +34,21 @@ module _ (now new : List ℤ) (n m : ℕ) (before : Building) (b : ℕ) (done : 
   next-done = placed .placement ∙ ap (λ (v : ℕ). unasked now n m (ancestors (before .tree)) v .placement) chosen
 
   -- the build with it, and the keys that were found
-  pub next-more : (order : Order) (keys : List Nearest)
-      → ((codes : List ℤ) (old : List ℕ) → AllChanged codes new n m old (ancestors (done .tree)) (done .placement)
-      → Keys order codes n m old (before .keys) → Keys order new n m (ancestors (done .tree)) keys)
-      → (r : Building) → WithPlacement before done keys r → OneMore order now new n m before r
+  pub next-more : (order : Order) (keys : List Nearest) (old table : List ℕ)
+      → KeysNext order new n m (ancestors (done .tree)) (done .placement) (before .keys) old table keys
+      → (r : Building) → WithPlacement before done keys r → OneMore order now new n m before old table r
   unfolding nextPlacement nextOf
-  next-more order keys renewed r more =
+  next-more order keys old table renewed r more =
       record {
+        size = renewed .size;
         tree = ap ancestors (more .tree) ∙ placed .tree ∙ ap (λ (v : ℕ). unasked now n m (ancestors (before .tree)) v .tree) chosen;
         placements = more .placements ∙ ap (λ (p : Placement). set (before .placements) (before .count) p) next-done;
         count = more .count;
         more = more .more ∙ ap (λ (p : Placement). before .length + p .added) next-done;
         matrix = placed .matrix ∙ ap (λ (v : ℕ). unasked now n m (ancestors (before .tree)) v .codes) chosen;
-        keys = λ changed kept. rw (more .tree, more .keys) (renewed now (ancestors (before .tree)) (rw (more .tree, ← next-done) at changed) kept);
+        keys = λ changed known right.
+            rw (more .tree, more .keys)
+            (renewed .each now (ancestors (before .tree)) (rw (more .tree, ← next-done) at changed) known right);
       }
 
 -- what is handed back of a build, with what the questions answered

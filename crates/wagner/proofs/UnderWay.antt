@@ -26,7 +26,7 @@ use Rattle.branching.specs.Hanging.{noBranches}
 use Rattle.branching.specs.Placing.{AfterPlacing, place}
 use Rattle.branching.specs.Placed.{lastRow, placeIn, matrixPlaced}
 use Rattle.branching.specs.Unasked.{noPlacement, noInterval, unasked}
-use Rattle.branching.proofs.Nodes.{noBranches-none, noBranches-places}
+use Rattle.branching.proofs.Nodes.{node-nodesIn, noBranches-none, noBranches-places}
 use Rattle.branching.proofs.Unasked.{AsPlaced, unasked-placed, no-row}
 use Rattle.branching.proofs.Standing.{Standing, standing-placed, standing-test, last-is, Step, first, later, placed-step, added-most}
 use Rattle.branching.proofs.Standing.{placed-other, placed-rows, placed-standing}
@@ -37,6 +37,7 @@ use Rattle.wagner.specs.Build.{Built, addedLength, buildOn, build, wagne
 use Rattle.wagner.specs.Matrix.{matrixAfter}
 use Rattle.wagner.specs.Answers.{mostPlacements, wagnerIn}
 use Rattle.wagner.specs.Order.{Keys, Advancements}
+use Rattle.wagner.specs.Closeness.{Table}
 use Rattle.wagner.specs.Steps.{Begun, nextOf, nextPlacement, OneMore, BuiltFrom}
 use Rattle.wagner.proofs.Choosing.{alone-right, next-right}
 use Rattle.wagner.proofs.Changing.{placed-changed}
@@ -53,7 +54,13 @@ abbrev pub left : Order → List ℤ → ℕ → ℕ → ℕ → List ℕ → Bu
 left order now n m placed tree = buildOn difference (nextBy difference order) n (n - placed) tree (rowsNow now n m tree)
 
 -- of a build from the matrix `codes`, so many taxa are placed by the placements `done`, and the matrix now is `now`
-pub record UnderWay (order : Order) (codes now : List ℤ) (n m placed : ℕ) (building : Building) (done : List Placement) : Type 0 where
+pub record UnderWay
+    (order : Order)
+    (codes now : List ℤ)
+    (n m placed : ℕ)
+    (building : Building)
+    (kept : List ℕ)
+    (done : List Placement) : Type 0 where
   pub standing : Standing now n m placed (ancestors (building .tree))
   pub taxa : (v : ℕ) → 1 ≤ v → v ≤ n → row now m v ≡ row codes m v
   pub written : now ≡ withRows codes (suc n) (drop n (rowsNow now n m (ancestors (building .tree))))
@@ -63,6 +70,7 @@ pub record UnderWay (order : Order) (codes now : List ℤ) (n m placed : ℕ) (b
   pub whole : building .length ≡ addedLength done
   pub most : building .length ≤ length done * 255744
   pub keys : Keys order now n m (ancestors (building .tree)) (building .keys)
+  pub table : Table order now n m (ancestors (building .tree)) kept
   pub leftTree : wagnerIn order codes n m .tree ≡ left order now n m placed (ancestors (building .tree)) .tree
   pub leftRows : wagnerIn order codes n m .rows ≡ left order now n m placed (ancestors (building .tree)) .rows
   pub leftPlacements : wagnerIn order codes n m .placements ≡ done ++ left order now n m placed (ancestors (building .tree)) .placements
@@ -96,10 +104,10 @@ module _ (order : Order) (codes : List ℤ) (n m : ℕ) (lent : LentMatrix codes
     each = λ v u. alone-right order codes n m v (getD keys v noInterval) (known .each v (omega (arith, u .other)) (u .taxon));
   }
 
-  pub begun-underWay : (keys : List Nearest) → Advancements codes n m keys → (building : Building) → Begun keys building
-      → UnderWay order codes codes n m 1 building []
+  pub begun-underWay : (keys : List Nearest) → Advancements codes n m keys → (table : List ℕ) (building : Building) → Begun keys building
+      → UnderWay order codes codes n m 1 building table []
   unfolding addedLength sumOver
-  begun-underWay keys known building begun =
+  begun-underWay keys known table building begun =
       record {
         standing = rw (begun .tree) alone-standing;
         taxa = λ v low high. refl;
@@ -110,6 +118,7 @@ module _ (order : Order) (codes : List ℤ) (n m : ℕ) (lent : LentMatrix codes
         whole = begun .none;
         most = omega (arith, begun .none);
         keys = rw (begun .tree, begun .keys) (alone-keys keys known);
+        table = rw (begun .tree) (λ _ v u c mem. absurd (omega (arith, node-nodesIn noBranches n c mem .2, noBranches-none c)));
         leftTree = rw (begun .tree) (ap (λ (built : Built). built .tree) alone-left);
         leftRows = rw (begun .tree) (ap (λ (built : Built). built .rows) alone-left);
         leftPlacements = rw (begun .tree) (ap (λ (built : Built). built .placements) alone-left);
@@ -124,8 +133,8 @@ one-behind codes n last hs r h e =
     ap (λ (p : ℕ). over p r (stripes columns (rowStart (suc n)) hs codes)) place ∙ sym (stripes-snoc columns (rowStart (suc n)) hs r codes)
 
 -- one placement more
-module _ (order : Order) (codes now : List ℤ) (n m placed : ℕ) (before : Building) (done : List Placement)
-    (w : UnderWay order codes now n m placed before done) (less : placed < n) where
+module _ (order : Order) (codes now : List ℤ) (n m placed : ℕ) (before : Building) (kept : List ℕ) (done : List Placement)
+    (w : UnderWay order codes now n m placed before kept done) (less : placed < n) where
   -- the tree before it
   abbrev tree : List ℕ
   tree = ancestors (before .tree)
@@ -203,10 +212,10 @@ module _ (order : Order) (codes now : List ℤ) (n m placed : ℕ) (before : Bui
         placements = p .placement ∷ buildOn difference (nextBy difference order) n count (p .tree) rows .placements;
       }
 
-  pub next-underWay : (new : List ℤ) (r : Building) → OneMore order now new n m before r
-      → UnderWay order codes new n m (placed + 1) r (done ++ (ours .placement ∷ []))
+  pub next-underWay : (new : List ℤ) (table : List ℕ) (r : Building) → OneMore order now new n m before kept table r
+      → UnderWay order codes new n m (placed + 1) r table (done ++ (ours .placement ∷ []))
   unfolding nextPlacement addedLength
-  next-underWay new r more =
+  next-underWay new table r more =
       let grown : ancestors (r .tree) ≡ ours .tree = more .tree ∙ same .tree in
       let held : new ≡ matrixPlaced now n m tree b = more .matrix ∙ same .codes-after in
       let added : r .length ≡ before .length + ours .placement .added =
@@ -216,6 +225,8 @@ module _ (order : Order) (codes now : List ℤ) (n m placed : ℕ) (before : Bui
       let most = added-most now n m placed tree (w .standing) b fresh in
       let before-most = w .most in
       let one : placed + 1 ≡ suc placed = omega arith in
+      let again =
+      more .keys (rw (grown, held, same .placement) (placed-changed now n m placed tree (w .standing) b fresh)) (w .keys) (w .table) in
       record {
         standing = rw (grown, held, one) (placed-standing now n m placed tree (w .standing) b fresh);
         taxa = λ v low high. rw held
@@ -233,8 +244,8 @@ module _ (order : Order) (codes now : List ℤ) (n m placed : ℕ) (before : Bui
             added ∙ ap (λ (k : ℕ). k + ours .placement .added) (w .whole)
             ∙ sym (sum-snoc (λ (p : Placement). p .added) done (ours .placement));
         most = omega arith;
-        keys =
-            more .keys (rw (grown, held, same .placement) (placed-changed now n m placed tree (w .standing) b fresh)) (w .keys);
+        keys = again .0;
+        table = again .1;
         leftTree = rw (grown, held) (w .leftTree ∙ ap (λ (built : Built). built .tree) left-next);
         leftRows = rw (grown, held) (w .leftRows ∙ ap (λ (built : Built). built .rows) left-next);
         leftPlacements = rw (grown, held)
@@ -244,10 +255,10 @@ module _ (order : Order) (codes now : List ℤ) (n m placed : ℕ) (before : Bui
       }
 
 -- all taxa placed, the build is done
-pub done-underWay : (order : Order) (codes now : List ℤ) (n m placed : ℕ) (building : Building) (done : List Placement) → LentMatrix codes n m
-    → UnderWay order codes now n m placed building done → placed ≡ n → BuiltFrom order codes now n m building
+pub done-underWay : (order : Order) (codes now : List ℤ) (n m placed : ℕ) (building : Building) (table : List ℕ) (done : List Placement) → LentMatrix codes n m
+    → UnderWay order codes now n m placed building table done → placed ≡ n → BuiltFrom order codes now n m building
 unfolding buildOn matrixAfter
-done-underWay order codes now n m placed building done lent w all =
+done-underWay order codes now n m placed building table done lent w all =
     let tree : List ℕ = ancestors (building .tree) in
     let none : n - placed ≡ 0 = omega arith in
     let nothing : left order now n m placed tree ≡ record { tree = tree; rows = rowsNow now n m tree; placements = [] } =

@@ -1,57 +1,97 @@
 -- For the proofs of the private functions alone; no public contract cites this file.
--- What a placement changes of the intervals that a taxon may be hung on, and the comparisons by which its nearest one is found again.
+-- The interval differences that are kept of each taxon and each interval, and what a placement changes of them.
 use mathlib.Core.Path.{_≡_}
 use mathlib.Core.Logic.{_≢_, _⊎_}
-use mathlib.Core.List.{List, _∷_, List·Memᴰ}
-use Prim.Native.Nat.{ℕ}
+use mathlib.Core.List.{List, List·Memᴰ}
+use Prim.Native.Nat.{ℕ, _+_, _*_, _<_}
 use lib.IntN.{ℤ}
-use Rattle.lists.specs.Least.{Foremost}
+use lib.ListN.{length, getD}
+use Rattle.lists.specs.Least.{leastOf}
 use Rattle.matrix.specs.Shape.{row}
 use Rattle.difference.specs.Rows.{difference, nodeDifference}
 use Rattle.branching.specs.declared.placement.Nearest.{Nearest}
 use Rattle.branching.specs.declared.placement.Placement.{Placement}
 use Rattle.branching.specs.Nodes.{nodesIn, otherNodes, Unplaced}
-use Rattle.branching.specs.Unasked.{intervalAt, nearestAt}
+use Rattle.branching.specs.Unasked.{intervalAt}
+use Rattle.wagner.specs.declared.order.Order.{Order}
+use Rattle.wagner.specs.declared.order.Order.the-variants.{Closest}
+use Rattle.wagner.specs.Order.{Right, Keys}
 
--- an interval is the nearest of taxon v among those with these lower ends, the least of them among equals
-pub record FirstOf (codes : List ℤ) (m : ℕ) (tree : List ℕ) (v : ℕ) (ends : List ℕ) (kept : Nearest) : Type 0 where
-  pub added : kept .added ≡ intervalAt codes m tree v (kept .lower)
-  pub foremost : Foremost (intervalAt codes m tree v) ends (kept .lower)
+-- so many places are kept for a taxon, one for each node
+abbrev pub stripe : ℕ
+stripe = 128
 
--- r is the nearest once that of node c is compared too
-abbrev pub Closer : List ℤ → ℕ → List ℕ → ℕ → Nearest → ℕ → Nearest → Type 0
-Closer codes m tree v best c r = (ends : List ℕ) → FirstOf codes m tree v ends best → FirstOf codes m tree v (c ∷ ends) r
+-- and so many for all, by row; those of row 0 are of no taxon
+abbrev pub keptSize : ℕ
+keptSize = 8320
 
--- r is the nearest once the three that belong to a placement are compared too
-abbrev pub ThreeCompared : List ℤ → ℕ → List ℕ → ℕ → Nearest → Placement → Nearest → Type 0
-ThreeCompared codes m tree v best done r =
-    (ends : List ℕ) → FirstOf codes m tree v ends best → FirstOf codes m tree v (done .taxon ∷ done .htu ∷ done .lower ∷ ends) r
+-- what is kept of taxon v and the interval with lower end c
+unfoldable pub kept : List ℕ → ℕ → ℕ → ℕ
+kept table v c = getD table (v * stripe + c) 0
 
 -- the intervals of a tree, by their lower ends
 abbrev pub intervals : ℕ → List ℕ → List ℕ
 intervals n tree = nodesIn tree (otherNodes n)
 
--- what a hanging leaves of the intervals: two are new, that of the lower end is another, and of the rest taxon v is as far as before
-pub record Cut (codes now : List ℤ) (n m : ℕ) (old new : List ℕ) (v : ℕ) (done : Placement) : Type 0 where
-  pub lower : List·Memᴰ (done .lower) (intervals n old)
-  pub lowerStays : List·Memᴰ (done .lower) (intervals n new)
-  pub htuNew : List·Memᴰ (done .htu) (intervals n new)
-  pub taxonNew : List·Memᴰ (done .taxon) (intervals n new)
-  pub stays : (u : ℕ) → List·Memᴰ u (intervals n old) → List·Memᴰ u (intervals n new)
-  pub only : (u : ℕ) → List·Memᴰ u (intervals n new)
-      → (u ≡ done .taxon) ⊎ ((u ≡ done .htu) ⊎ List·Memᴰ u (intervals n old))
-  pub same : (u : ℕ) → List·Memᴰ u (intervals n old) → u ≢ done .lower → intervalAt now m new v u ≡ intervalAt codes m old v u
+-- what is kept of taxon v are its interval differences from the intervals of a tree
+abbrev pub RowRight : List ℤ → ℕ → ℕ → List ℕ → ℕ → List ℕ → Type 0
+RowRight codes n m tree v table = (c : ℕ) → List·Memᴰ c (intervals n tree) → kept table v c ≡ intervalAt codes m tree v c
 
--- what a placement leaves for a taxon that is not placed: it was not placed before, its advancement stays, there is an interval, and what it
--- leaves of the earlier ones; before the first link there was none
+-- one place is written, that of taxon v and node c if there is one
+pub record KeptOne (codes : List ℤ) (m : ℕ) (tree : List ℕ) (v c : ℕ) (old new : List ℕ) : Type 0 where
+  pub size : length new ≡ length old
+  pub here : c < stripe → kept new v c ≡ intervalAt codes m tree v c
+  pub else : (w e : ℕ) → e < stripe → (w ≢ v) ⊎ (e ≢ c) → kept new w e ≡ kept old w e
+
+-- the places of taxon v and the three nodes of a placement are written
+pub record KeptThree (codes : List ℤ) (m : ℕ) (tree : List ℕ) (v : ℕ) (done : Placement) (old new : List ℕ) : Type 0 where
+  pub size : length new ≡ length old
+  pub here : (e : ℕ) → e < stripe → (e ≡ done .taxon) ⊎ ((e ≡ done .htu) ⊎ (e ≡ done .lower)) → kept new v e ≡ intervalAt codes m tree v e
+  pub else : (w e : ℕ) → e < stripe → (w ≢ v) ⊎ ((e ≢ done .taxon) × (e ≢ done .htu) × (e ≢ done .lower)) → kept new w e ≡ kept old w e
+
+-- r is the interval for which the least is kept, the lower end's lower number among equals
+pub record NearestKept (table : List ℕ) (n : ℕ) (tree : List ℕ) (v : ℕ) (r : Nearest) : Type 0 where
+  pub lower : r .lower ≡ leastOf (kept table v) (intervals n tree)
+  pub added : r .added ≡ kept table v (r .lower)
+
+-- what a placement leaves for taxon v, which is not placed: it was not placed before, its advancement stays, there is an interval, and each
+-- interval belongs to the placement or is an earlier one from which the taxon is as far as before
 pub record Changed (codes now : List ℤ) (n m : ℕ) (old new : List ℕ) (v : ℕ) (done : Placement) : Type 0 where
   pub unplaced : Unplaced n new v
   pub before : Unplaced n old v
   pub advancement : nodeDifference difference (row now m) v 1 ≡ nodeDifference difference (row codes m) v 1
   pub someInterval : List·Memᴰ (done .taxon) (intervals n new)
-  pub first : done .lower ≡ 0 → nearestAt codes m n old v ≡ 0
-  pub hung : done .lower ≢ 0 → Cut codes now n m old new v done
+  pub each : (u : ℕ) → List·Memᴰ u (intervals n new)
+      → ((u ≡ done .taxon) ⊎ ((u ≡ done .htu) ⊎ (u ≡ done .lower)))
+      ⊎ (List·Memᴰ u (intervals n old) × (intervalAt now m new v u ≡ intervalAt codes m old v u))
 
 -- so for each taxon that is not placed
 abbrev pub AllChanged : List ℤ → List ℤ → ℕ → ℕ → List ℕ → List ℕ → Placement → Type 0
 AllChanged codes now n m old new done = (v : ℕ) → Unplaced n new v → Changed codes now n m old new v done
+
+-- after a placement: what is kept of the other taxa is as before; what is kept of taxon v, and its key, are right again
+pub record RowRenewed (now : List ℤ) (n m : ℕ) (new : List ℕ) (v : ℕ) (done : Placement) (old table : List ℕ) (r : Nearest) : Type 0 where
+  pub size : length table ≡ length old
+  pub others : (w e : ℕ) → e < stripe → w ≢ v → kept table w e ≡ kept old w e
+  pub row : (codes : List ℤ) (before : List ℕ) → Changed codes now n m before new v done → RowRight codes n m before v old
+      → RowRight now n m new v table
+  pub key : (codes : List ℤ) (before : List ℕ) → Changed codes now n m before new v done → RowRight codes n m before v old
+      → Right Closest now n m new v r
+
+-- by closeness all that is kept of the taxa that are not placed is right
+abbrev pub Table : Order → List ℤ → ℕ → ℕ → List ℕ → List ℕ → Type 0
+Table order codes n m tree table = order ≡ Closest → (v : ℕ) → Unplaced n tree v → RowRight codes n m tree v table
+
+-- after a placement keys and what is kept are right again
+pub record KeysNext
+    (order : Order)
+    (now : List ℤ)
+    (n m : ℕ)
+    (new : List ℕ)
+    (done : Placement)
+    (keys : List Nearest)
+    (old table : List ℕ)
+    (r : List Nearest) : Type 0 where
+  pub size : length table ≡ length old
+  pub each : (codes : List ℤ) (before : List ℕ) → AllChanged codes now n m before new done → Keys order codes n m before keys
+      → Table order codes n m before old → Keys order now n m new r × Table order now n m new table

@@ -48,10 +48,10 @@ pub record Advancements (codes : List ℤ) (n m : ℕ) (keys : List Nearest) : T
   pub size : length keys ≡ keyCount
   pub each : (v : ℕ) → 1 ≤ v → v ≤ n → getD keys v noInterval ≡ record { lower = 0; added = nodeDifference difference (row codes m) v 1 }
 
--- r is the taxon to place next of those up to v, if `best` is that of those before v
-pub record Sooner (key : ℕ → ℕ) (tree : List ℕ) (best v r : ℕ) : Type 0 where
-  pub among : r ≤ mostTaxa
-  pub is : best ≡ scanned key (unplacedTest tree) 1 v → r ≡ scanned key (unplacedTest tree) 1 (v + 1)
+-- r is chosen of those up to v that pass a test, if `best` is chosen of those before v
+pub record Sooner (key : ℕ → ℕ) (test : ℕ → Bool) (best v r : ℕ) : Type 0 where
+  pub among : (most : ℕ) → best ≤ most → v ≤ most → r ≤ most
+  pub is : (first : ℕ) → 1 ≤ first → first ≤ v → best ≡ scanned key test first v → r ≡ scanned key test first (v + 1)
 
 -- r is the taxon to place next
 pub record NextTaxon (key : ℕ → ℕ) (n : ℕ) (tree : List ℕ) (r : ℕ) : Type 0 where

@@ -21,7 +21,7 @@ use Rattle.wagner.specs.Build.{wagnerLength}
 use Rattle.wagner.specs.Matrix.{matrixAfter}
 use Rattle.wagner.specs.Answers.{mostPlacements, wagnerIn}
 use Rattle.wagner.specs.Order.{keyOf, Keys}
-use Rattle.wagner.specs.Closeness.{AllChanged}
+use Rattle.wagner.specs.Closeness.{AllChanged, Table}
 
 -- a build before the first placement
 pub record Begun (given : List Nearest) (r : Building) : Type 0 where
@@ -49,14 +49,16 @@ nextPlacement codes n m before = unasked codes n m (ancestors (before .tree)) (n
 
 -- a build with the next taxon placed: what was right to keep of the taxa is again so, where the placement is one that changes only what
 -- belongs to it
-pub record OneMore (order : Order) (codes new : List ℤ) (n m : ℕ) (before r : Building) : Type 0 where
+pub record OneMore (order : Order) (codes new : List ℤ) (n m : ℕ) (before : Building) (old table : List ℕ) (r : Building) : Type 0 where
+  pub size : length table ≡ length old
   pub tree : ancestors (r .tree) ≡ nextPlacement codes n m before .tree
   pub placements : r .placements ≡ set (before .placements) (before .count) (nextPlacement codes n m before .placement)
   pub count : r .count ≡ before .count + 1
   pub more : r .length ≡ before .length + nextPlacement codes n m before .placement .added
   pub matrix : new ≡ nextPlacement codes n m before .codes
   pub keys : AllChanged codes new n m (ancestors (before .tree)) (ancestors (r .tree)) (nextPlacement codes n m before .placement)
-      → Keys order codes n m (ancestors (before .tree)) (before .keys) → Keys order new n m (ancestors (r .tree)) (r .keys)
+      → Keys order codes n m (ancestors (before .tree)) (before .keys) → Table order codes n m (ancestors (before .tree)) old
+      → Keys order new n m (ancestors (r .tree)) (r .keys) × Table order new n m (ancestors (r .tree)) table
 
 -- a finished build, and what the matrix then holds
 pub record BuiltFrom (order : Order) (codes new : List ℤ) (n m : ℕ) (r : Building) : Type 0 where

@@ -1,4 +1,5 @@
 // The whole build: from row 1 alone, taxon after taxon is placed, by rising advancement or the closest first.
+use crate::closeness::KEPT;
 use crate::closeness::next_keys;
 use crate::order::Order;
 use crate::order::advancements;
@@ -17,6 +18,7 @@ ghost use lib.ListN.{length};
 ghost use Rattle.matrix.specs.Shape.{mostTaxa, mostCharacters};
 ghost use Rattle.matrix.specs.Questions.{LentMatrix, askMatrix};
 ghost use Rattle.wagner.specs.Steps.{Begun, nextPlacement, WithPlacement, OneMore, BuiltFrom};
+ghost use Rattle.wagner.specs.Closeness.{keptSize};
 ghost use Rattle.wagner.specs.Answers.{BuildDone};
 
 // At most 63 taxa are placed.
@@ -72,10 +74,17 @@ fn with_placement(mut building: Building, done: Unasked, keys: [Nearest; 65]) ->
 }
 
 // The next taxon placed.
-fn place_next(building: Building, order: Order, matrix: &mut [i32], n: usize, m: usize) -> Building
-    requires { ⌜ (n ≤ mostTaxa) × (m ≤ mostCharacters) × (building .count < 63)
+fn place_next(
+    building: Building,
+    order: Order,
+    table: &mut [u64],
+    matrix: &mut [i32],
+    n: usize,
+    m: usize,
+) -> Building
+    requires { ⌜ (n ≤ mostTaxa) × (m ≤ mostCharacters) × (building .count < 63) × (length (now table) ≡ keptSize)
         × (building .length + nextPlacement (now matrix) n m building .placement .added < 2 ^ 64) ⌝ }
-    ensures { λ r. ⌜ OneMore order (now (matrix .entry)) (now (matrix .exit)) n m building r ⌝ }
+    ensures { λ r. ⌜ OneMore order (now (matrix .entry)) (now (matrix .exit)) n m building (now (table .entry)) (now (table .exit)) r ⌝ }
 {
     let tree = building.tree;
     let keys = building.keys;
@@ -83,20 +92,20 @@ fn place_next(building: Building, order: Order, matrix: &mut [i32], n: usize, m:
     let done = tree.place_unasked(matrix, n, m, b);
     let larger = done.tree;
     let placement = done.placement;
-    let renewed = next_keys(order, keys, matrix, n, m, larger, placement);
+    let renewed = next_keys(order, keys, table, matrix, n, m, larger, placement);
     with_placement(building, done, renewed)
 }
 
-// The Wagner tree of a matrix that no question refuses.
-fn grow(matrix: &mut [i32], n: usize, m: usize, order: Order) -> Building
-    requires { ⌜ LentMatrix (now matrix) n m ⌝ }
+// The Wagner tree of a matrix that no question refuses, with room to keep what is computed of taxa and intervals.
+fn grow(table: &mut [u64], matrix: &mut [i32], n: usize, m: usize, order: Order) -> Building
+    requires { ⌜ LentMatrix (now matrix) n m × (length (now table) ≡ keptSize) ⌝ }
     ensures { λ r. ⌜ BuiltFrom order (now (matrix .entry)) (now (matrix .exit)) n m r ⌝ }
 {
     let keys = advancements(matrix, n, m);
     let mut building = begun(keys);
     let mut placed = 1;
     while placed < n {
-        building = place_next(building, order, matrix, n, m);
+        building = place_next(building, order, table, matrix, n, m);
         placed += 1;
     }
     building
@@ -121,7 +130,8 @@ fn build_asked(asked: Asked, matrix: &mut [i32], n: usize, m: usize, order: Orde
             }
         }
         Asked::Passed => {
-            let built = grow(matrix, n, m, order);
+            let mut table = [0u64; KEPT];
+            let built = grow(&mut table, matrix, n, m, order);
             let tree = built.tree;
             let placements = built.placements;
             WagnerTree {

@@ -1,66 +1,79 @@
-// The keys by closeness: for each taxon that is not placed, the interval on which it would be placed and the length that this would add. A
-// placement changes three intervals, so a taxon's own is sought again only if it was one of them.
+// The keys by closeness: for each taxon that is not placed, the interval on which it would be placed and the length that this would add. The
+// interval difference of each taxon from each interval is kept, and a placement changes it for three intervals alone.
+use crate::order::KEYS;
 use crate::order::Order;
 use crate::order::is_placed;
+use crate::order::sooner;
 use branching::placement::Nearest;
 use branching::placement::Placement;
-use branching::placement::find_nearest;
 use branching::tree::Tree;
 use difference::rows::interval_difference;
+use matrix::COLUMNS;
 use matrix::rows::row;
 ghost use mathlib.Core.Path.{_≡_};
 ghost use mathlib.Core.List.{List};
 ghost use Prim.Native.Nat.{ℕ, _≤_};
-ghost use lib.IntN.{ℤ};
+ghost use lib.ListN.{length};
 ghost use Rattle.matrix.specs.Shape.{mostTaxa, mostCharacters};
 ghost use Rattle.branching.specs.Ancestors.{ancestors, ancestor};
 ghost use Rattle.wagner.specs.declared.order.Order.the-variants.{Closest};
-ghost use Rattle.wagner.specs.Closeness.{Closer, ThreeCompared, Changed, AllChanged};
-ghost use Rattle.wagner.specs.Order.{Right, Keys};
+ghost use Rattle.wagner.specs.Closeness.{keptSize, KeptOne, KeptThree, NearestKept, RowRenewed, KeysNext};
 
-// Of an interval of taxon v and that of node c, whose immediate ancestor is the node above: the nearer one, and among equals the one with the
-// lower number.
-fn closer(best: Nearest, matrix: &[i32], m: usize, v: usize, c: usize, above: usize) -> Nearest
-    requires { ⌜ m ≤ mostCharacters ⌝ }
-    ensures { λ r. ⌜ ((tree : List ℕ) → above ≡ ancestor tree c → Closer (now (matrix .entry)) m tree v best c r) ⌝ }
+// A place for each taxon and each node; those of row 0 are of no taxon.
+pub(crate) const KEPT: usize = KEYS * COLUMNS;
+
+// Keeps the interval difference of taxon v from the interval of node c, whose immediate ancestor is the node above.
+fn keep(table: &mut [u64], matrix: &[i32], m: usize, v: usize, c: usize, above: usize)
+    requires { ⌜ (m ≤ mostCharacters) × (v ≤ mostTaxa) × (length (now table) ≡ keptSize) ⌝ }
+    ensures { λ _. ⌜ ((tree : List ℕ) → above ≡ ancestor tree c
+        → KeptOne (now (matrix .entry)) m tree v c (now (table .entry)) (now (table .exit))) ⌝ }
 {
-    let added = interval_difference(row(matrix, m, v), row(matrix, m, c), row(matrix, m, above));
-    if added < best.added {
-        return Nearest { lower: c, added };
+    if COLUMNS <= c {
+        return;
     }
-    if best.added < added {
-        return best;
-    }
-    if c < best.lower {
-        return Nearest { lower: c, added };
-    }
-    best
+    table[v * COLUMNS + c] = interval_difference(
+        row(matrix, m, v),
+        row(matrix, m, c),
+        row(matrix, m, above),
+    );
 }
 
-// Of an interval of taxon v and the three that a placement made or changed, the first of the nearest.
-fn nearest_of_four(
-    best: Nearest,
-    matrix: &[i32],
-    m: usize,
-    tree: Tree,
-    v: usize,
-    done: Placement,
-) -> Nearest
-    requires { ⌜ m ≤ mostCharacters ⌝ }
-    ensures { λ r. ⌜ ThreeCompared (now (matrix .entry)) m (ancestors tree) v best done r ⌝ }
+// Keeps those of taxon v from the three intervals that belong to a placement.
+fn keep_three(table: &mut [u64], matrix: &[i32], m: usize, tree: Tree, v: usize, done: Placement)
+    requires { ⌜ (m ≤ mostCharacters) × (v ≤ mostTaxa) × (length (now table) ≡ keptSize) ⌝ }
+    ensures { λ _. ⌜ KeptThree (now (matrix .entry)) m (ancestors tree) v done (now (table .entry)) (now (table .exit)) ⌝ }
 {
     let c = done.lower;
     let y = done.htu;
     let b = done.taxon;
-    let lower = closer(best, matrix, m, v, c, tree.ancestor(c));
-    let upper = closer(lower, matrix, m, v, y, tree.ancestor(y));
-    closer(upper, matrix, m, v, b, tree.ancestor(b))
+    keep(table, matrix, m, v, c, tree.ancestor(c));
+    keep(table, matrix, m, v, y, tree.ancestor(y));
+    keep(table, matrix, m, v, b, tree.ancestor(b));
 }
 
-// The key of taxon v after a placement: nothing is done for a placed taxon; the nearest interval is sought again if it is the one on which
-// the placed taxon was hung, and also after the first link.
+// The nearest interval of taxon v by what is kept.
+fn nearest_kept(table: &[u64], n: usize, tree: Tree, v: usize) -> Nearest
+    requires { ⌜ (2 ≤ n) × (n ≤ mostTaxa) × (v ≤ mostTaxa) × (length (now table) ≡ keptSize) ⌝ }
+    ensures { λ r. ⌜ NearestKept (now (table .entry)) n (ancestors tree) v r ⌝ }
+{
+    let places = tree.ancestors;
+    let at = v * COLUMNS;
+    let end = 2 * n - 1;
+    let mut best = 0;
+    let mut c = 2;
+    while c < end {
+        best = sooner(best, c, places[c] == 0, table[at + c], table[at + best]);
+        c += 1;
+    }
+    Nearest {
+        lower: best,
+        added: table[at + best],
+    }
+}
+
+// The key of taxon v after a placement; nothing is kept for a placed taxon.
 fn renewed(
-    before: Nearest,
+    table: &mut [u64],
     matrix: &[i32],
     n: usize,
     m: usize,
@@ -68,36 +81,34 @@ fn renewed(
     v: usize,
     done: Placement,
 ) -> Nearest
-    requires { ⌜ (n ≤ mostTaxa) × (m ≤ mostCharacters) ⌝ }
-    ensures { λ r. ⌜ ((codes : List ℤ) (old : List ℕ) → Changed codes (now (matrix .entry)) n m old (ancestors tree) v done
-        → Right Closest codes n m old v before → Right Closest (now (matrix .entry)) n m (ancestors tree) v r) ⌝ }
+    requires { ⌜ (1 ≤ v) × (v ≤ n) × (n ≤ mostTaxa) × (m ≤ mostCharacters) × (length (now table) ≡ keptSize) ⌝ }
+    ensures { λ r. ⌜ RowRenewed (now (matrix .entry)) n m (ancestors tree) v done (now (table .entry)) (now (table .exit)) r ⌝ }
 {
     if is_placed(v, tree.ancestor(v)) {
-        return before;
+        return Nearest { lower: 0, added: 0 };
     }
-    if before.lower == done.lower {
-        return find_nearest(matrix, n, m, tree, v);
-    }
-    nearest_of_four(before, matrix, m, tree, v, done)
+    keep_three(table, matrix, m, tree, v, done);
+    nearest_kept(table, n, tree, v)
 }
 
 // The keys by closeness after a placement.
 fn renew(
     keys: [Nearest; 65],
+    table: &mut [u64],
     matrix: &[i32],
     n: usize,
     m: usize,
     tree: Tree,
     done: Placement,
 ) -> [Nearest; 65]
-    requires { ⌜ (n ≤ mostTaxa) × (m ≤ mostCharacters) ⌝ }
-    ensures { λ r. ⌜ ((codes : List ℤ) (old : List ℕ) → AllChanged codes (now (matrix .entry)) n m old (ancestors tree) done
-        → Keys Closest codes n m old keys → Keys Closest (now (matrix .entry)) n m (ancestors tree) r) ⌝ }
+    requires { ⌜ (n ≤ mostTaxa) × (m ≤ mostCharacters) × (length (now table) ≡ keptSize) ⌝ }
+    ensures { λ r. ⌜ KeysNext Closest (now (matrix .entry)) n m (ancestors tree) done keys (now (table .entry)) (now (table .exit)) r ⌝ }
 {
     let mut all = keys;
     let mut v = 1;
     while v <= n {
-        all[v] = renewed(all[v], matrix, n, m, tree, v, done);
+        let key = renewed(table, matrix, n, m, tree, v, done);
+        all[v] = key;
         v += 1;
     }
     all
@@ -107,18 +118,18 @@ fn renew(
 pub(crate) fn next_keys(
     order: Order,
     keys: [Nearest; 65],
+    table: &mut [u64],
     matrix: &[i32],
     n: usize,
     m: usize,
     tree: Tree,
     done: Placement,
 ) -> [Nearest; 65]
-    requires { ⌜ (n ≤ mostTaxa) × (m ≤ mostCharacters) ⌝ }
-    ensures { λ r. ⌜ ((codes : List ℤ) (old : List ℕ) → AllChanged codes (now (matrix .entry)) n m old (ancestors tree) done
-        → Keys order codes n m old keys → Keys order (now (matrix .entry)) n m (ancestors tree) r) ⌝ }
+    requires { ⌜ (n ≤ mostTaxa) × (m ≤ mostCharacters) × (length (now table) ≡ keptSize) ⌝ }
+    ensures { λ r. ⌜ KeysNext order (now (matrix .entry)) n m (ancestors tree) done keys (now (table .entry)) (now (table .exit)) r ⌝ }
 {
     match order {
         Order::Advance => keys,
-        Order::Closest => renew(keys, matrix, n, m, tree, done),
+        Order::Closest => renew(keys, table, matrix, n, m, tree, done),
     }
 }

@@ -5,6 +5,7 @@ use branching::tree::Tree;
 use difference::rows::difference;
 use matrix::rows::row;
 ghost use mathlib.Core.Path.{_≡_};
+ghost use mathlib.Core.Bool.{Bool, not};
 ghost use mathlib.Core.List.{List};
 ghost use Prim.Native.Nat.{ℕ, _≤_};
 ghost use lib.ListN.{replicate};
@@ -56,14 +57,13 @@ pub(crate) fn is_placed(v: usize, above: usize) -> bool
     1 <= above
 }
 
-// Of the taxon to place next among those gone through (0: none yet) and taxon v, the one to place next: v if it is not placed and its own
-// key is less than the least so far.
-fn sooner(best: usize, v: usize, placed: bool, own: u64, least: u64) -> usize
-    requires { ⌜ (best ≤ mostTaxa) × (1 ≤ v) × (v ≤ mostTaxa) ⌝ }
-    ensures { λ r. ⌜ ((key : ℕ → ℕ) (tree : List ℕ) → placed ≡ inTree tree v → own ≡ key v → least ≡ key best
-        → Sooner key tree best v r) ⌝ }
+// Of the one chosen among those gone through (0: none yet) and v, the one to choose: v if it is not passed over and its own key is less than
+// the least so far.
+pub(crate) fn sooner(best: usize, v: usize, over: bool, own: u64, least: u64) -> usize
+    ensures { λ r. ⌜ ((key : ℕ → ℕ) (test : ℕ → Bool) → over ≡ not (test v) → own ≡ key v → least ≡ key best
+        → Sooner key test best v r) ⌝ }
 {
-    if placed {
+    if over {
         return best;
     }
     if best == 0 {

@@ -2,7 +2,7 @@
 -- Assumes nothing.
 use Rattle.matrix.proofs.Passing.{matrix-passes}
 use Rattle.wagner.proofs.Stepping.{build-refused, build-passed}
-use mathlib.Core.Path.{sym, _∙_}
+use mathlib.Core.Path.{refl, sym, _∙_}
 use borrow.Author.Needs.{needs}
 use Rattle.wagner.proofs.build.build_asked.Statement.{statement}
 use Rattle.wagner.proofs.build.build_asked.Tie as tie
@@ -19,10 +19,13 @@ begun-requires c κs = search needs
 enum-told : tie.Need-enum-told
 enum-told c = search needs
 
+slice-aggregate-grow : tie.Need-slice-aggregate-grow
+slice-aggregate-grow c = search needs
+
 grow-requires : tie.Need-grow-requires
 grow-requires c κs =
-    let told = c .before in
-    matrix-passes _ _ _ .0 (sym (told .before .before .pre) ∙ told .enum-told .given .1)
+    let told = c .before .before in
+    (matrix-passes _ _ _ .0 (sym (told .before .before .pre) ∙ told .enum-told .given .1), refl)
 
 returns : tie.Need-returns
 returns c =
@@ -34,8 +37,8 @@ same-length c = search needs
 
 returns-2 : tie.Need-returns-2
 returns-2 c =
-    let grown = c .before .before .before in
-    let told = grown .before .before in
+    let grown = c .before .before .before .before in
+    let told = grown .before .before .before in
     build-passed _ _ _ _ _ _ (sym (told .before .before .pre) ∙ told .enum-told .given .1) (grown .grow .ensures)
 
 pub build-asked-spec : {M : Type 1} → statement M
@@ -46,6 +49,7 @@ build-asked-spec =
     no-keys-requires
     begun-requires
     enum-told
+    slice-aggregate-grow
     grow-requires
     returns
     same-length

@@ -15,20 +15,23 @@ next-keys-requires c κs = search needs
 
 with-placement-requires : tie.Need-with-placement-requires
 with-placement-requires c κs =
-    let place = c .before .before .before .before .before in
+    let place = c .before .before .before .before .before .before .before .before in
     let next = place .before .before in
-    let start = next .before .before .before in
+    let start = next .before .before .before .before in
     let same = next-done _ _ _ _ (start .args .building) _ _ (next .next-taxon .ensures .is) (place .place-unasked .ensures) in
-    (start .pre .2, rw same (start .pre .3))
+    (start .pre .2, rw same (start .pre .4))
 
 same-length : tie.Need-same-length
 same-length c = search needs
 
+same-length-2 : tie.Need-same-length-2
+same-length-2 c = search needs
+
 returns : tie.Need-returns
 returns c =
-    let place = c .before .before .before .before .before .before in
+    let place = c .before .before .before .before .before .before .before .before .before in
     let next = place .before .before in
-    next-more _ _ _ _ _ _ _ (next .next-taxon .ensures .is) (place .place-unasked .ensures) _ _ (c .before .next-keys .ensures) _
+    next-more _ _ _ _ _ _ _ (next .next-taxon .ensures .is) (place .place-unasked .ensures) _ _ _ _ (c .before .before .before .next-keys .ensures) _
     (c .with-placement .ensures)
 
 pub place-next-spec : {M : Type 1} → statement M
@@ -40,4 +43,5 @@ place-next-spec =
     next-keys-requires
     with-placement-requires
     same-length
+    same-length-2
     returns)

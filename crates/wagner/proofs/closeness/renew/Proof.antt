@@ -1,32 +1,33 @@
--- `wagner::closeness::renew` meets its contract. The loop's invariant: what is kept of the taxa before v is right after the placement, and
--- that of the others is as it was. Assumes nothing.
-use mathlib.Core.Path.{_≡_}
+-- `wagner::closeness::renew` meets its contract. The loop's invariant: keys and what is kept of the taxa before v are right after the placement, and
+-- those of the others are as they were. Assumes nothing.
+use mathlib.Core.Path.{_≡_, refl, _∙_}
 use Prim.Native.Nat.{_+_, _-_, _≤_}
 use native.Mathlib.Omega.{arith}
-use borrow.Author.Needs.{needs}
 use lib.ListN.{length}
 use Rattle.branching.specs.Ancestors.{ancestors}
 use Rattle.wagner.proofs.Renewing.{RenewedUpTo, renewed-start, renewed-next, renewed-all}
+use borrow.Author.Needs.{needs}
 use Rattle.wagner.proofs.closeness.renew.Statement.{statement}
 use Rattle.wagner.proofs.closeness.renew.Tie as tie
 
 abbrev Inv-loop : tie.InvT-loop
-Inv-loop matrix n m tree done all₀ v₀ all v =
-    (1 ≤ v) × (v ≤ n + 1) × (n ≤ 64) × (m ≤ 128) × RenewedUpTo matrix n m (ancestors tree) done all₀ v all
+Inv-loop table₀ matrix n m tree done all₀ v₀ table all v =
+    (1 ≤ v)
+    × (v ≤ n + 1)
+    × (n ≤ 64)
+    × (m ≤ 128)
+    × (length table ≡ length table₀)
+    × (length table₀ ≡ 8320)
+    × RenewedUpTo matrix n m (ancestors tree) done all₀ table₀ v table all
 
 abbrev μ-loop : tie.MeasureT-loop
-μ-loop matrix n m tree done all₀ v₀ all v = n + 1 - v
+μ-loop table₀ matrix n m tree done all₀ v₀ table all v = n + 1 - v
 
 loop-holds : tie.Need-loop-holds Inv-loop μ-loop
 loop-holds c =
-    let size : length (c .args .keys) ≡ 65 = search needs in
-    (omega arith, omega arith, c .pre .0, c .pre .1, renewed-start _ _ _ _ _ _ size)
-
-mul-renewed : tie.Need-mul-renewed Inv-loop μ-loop
-mul-renewed c = search needs
-
-array-copy-out-renewed : tie.Need-array-copy-out-renewed Inv-loop μ-loop
-array-copy-out-renewed c = search needs
+    let size : length (c .before .args .keys) ≡ 65 = search needs in
+    let pre = c .before .pre in
+    (omega arith, omega arith, pre .0, pre .1, refl, pre .2, renewed-start _ _ _ (pre .0) _ _ _ _ size)
 
 renewed-requires : tie.Need-renewed-requires Inv-loop μ-loop
 renewed-requires c κs = search needs
@@ -45,13 +46,24 @@ loop-less c = search needs
 
 loop-again : tie.Need-loop-again Inv-loop μ-loop
 loop-again c =
-    let inv = c .before .before .before .loop .inv in
-    (omega arith, omega arith, inv .2, inv .3, renewed-next _ _ _ _ _ _ _ _ _ (omega arith) (inv .4) (c .renewed .ensures))
+    let row = c .before .before in
+    let inv = row .before .before .before .loop .inv in (
+      omega arith,
+      omega arith,
+      inv .2,
+      inv .3,
+      row .renewed .ensures .size ∙ inv .4,
+      inv .5,
+      renewed-next _ _ _ (inv .2) _ _ _ _ _ _ _ _ _ (omega arith) (inv .6) (row .renewed .ensures),
+    )
+
+same-length : tie.Need-same-length Inv-loop μ-loop
+same-length c = c .before .loop .inv .4
 
 returns : tie.Need-returns Inv-loop μ-loop
-returns c codes old changed keys =
+returns c =
     let loop = c .before .loop in
-    renewed-all _ _ _ _ _ _ (loop .v) _ (omega (arith, c .loop-test .left, loop .inv .1)) (loop .inv .4) codes old changed keys
+    renewed-all _ _ _ (loop .inv .2) _ _ _ _ (loop .v) _ _ (omega (arith, c .loop-test .left, loop .inv .1)) (loop .inv .6)
 
 pub renew-spec : {M : Type 1} → statement M
 renew-spec =
@@ -60,12 +72,11 @@ renew-spec =
     Inv-loop
     μ-loop
     loop-holds
-    mul-renewed
-    array-copy-out-renewed
     renewed-requires
     mul-all
     array-set-from-all
     add-v
     loop-less
     loop-again
+    same-length
     returns)

@@ -2,10 +2,10 @@
 use Rattle.branching.specs.Ancestors.{ancestor, ancestors}
 use Rattle.wagner.specs.Order.{keyOf, unplacedTest}
 use Rattle.lists.specs.Least.{scanned}
-use Rattle.wagner.proofs.Choosing.{next-end, sooner-start}
+use Rattle.wagner.proofs.Choosing.{placed-over, next-end, sooner-start}
 use native.Mathlib.Omega.{arith}
 use Prim.Native.Nat.{_+_, _≤_, _-_}
-use mathlib.Core.Path.{_≡_, refl}
+use mathlib.Core.Path.{_≡_, refl, _∙_}
 use borrow.Author.Needs.{needs}
 use Rattle.wagner.proofs.order.next_taxon.Statement.{statement}
 use Rattle.wagner.proofs.order.next_taxon.Tie as tie
@@ -57,8 +57,9 @@ loop-again c =
     let inv = loop .inv in
     let start = c .before .before .before .before .before in
     let tree = ancestors (start .args .tree) in
-    let next = c .sooner .ensures (keyOf (start .args .t2)) tree (c .before .is-placed .ensures tree refl) refl refl in
-    (omega arith, omega arith, next .among, inv .3, next .is (inv .4))
+    let over = c .before .is-placed .ensures tree refl ∙ placed-over tree _ in
+    let next = c .sooner .ensures (keyOf (start .args .t2)) (unplacedTest tree) over refl refl in
+    (omega arith, omega arith, next .among 64 (inv .2) (omega arith), inv .3, next .is 1 (omega arith) (inv .0) (inv .4))
 
 returns : tie.Need-returns Inv-loop μ-loop
 returns c =
