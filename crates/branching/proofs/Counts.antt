@@ -66,7 +66,7 @@ unplaced-taxon n tree v m =
     let out = not-inTree tree v (k .1) in
     record { other = omega arith; taxon = omega arith; free = out .1 }
 
--- and each of these is not placed
+-- and each such taxon is one that is not placed
 pub taxon-unplaced : (n : ℕ) (tree : List ℕ) (v : ℕ) → Unplaced n tree v → List·Memᴰ v (nodesOut tree (numbers 1 n))
 unfolding nodesOut
 taxon-unplaced n tree v u =

@@ -11,7 +11,6 @@ use Rattle.lists.specs.Least.{leastOf}
 use Rattle.matrix.specs.Shape.{mostTaxa, mostCharacters, row}
 use Rattle.matrix.specs.NodeRows.{withRow}
 use Rattle.difference.specs.Rows.{difference, medians, intervalDifference}
-use Rattle.branching.specs.declared.placement.Nearest.{Nearest}
 use Rattle.branching.specs.declared.placement.Placement.{Placement}
 use Rattle.branching.specs.declared.placement.Unasked.{Unasked}
 use Rattle.branching.specs.Ancestors.{ancestors, ancestor}
@@ -66,10 +65,6 @@ unasked codes n m tree b =
     cond (leb n mostTaxa && leb m mostCharacters)
     (placedAt codes m n tree b (nearestAt codes m n tree b))
     (record { tree = tree; placement = noPlacement; codes = codes })
-
--- no interval
-abbrev pub noInterval : Nearest
-noInterval = record { lower = 0; added = 0 }
 
 -- what such a placement hands back, and what the matrix then holds
 pub record UnaskedDone (codes new : List ℤ) (n m : ℕ) (before : List ℕ) (b : ℕ) (r : Unasked) : Type 0 where

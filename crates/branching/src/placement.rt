@@ -49,9 +49,9 @@ pub struct Placed {
 }
 
 // An interval, by its lower end (0: none yet), and the interval difference of the taxon from it.
-pub struct Nearest {
-    pub lower: usize,
-    pub added: u64,
+struct Nearest {
+    lower: usize,
+    added: u64,
 }
 
 // A placement of zeros.

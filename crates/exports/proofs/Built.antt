@@ -33,7 +33,8 @@ module _ (order : Order) (codes new : List ℤ) (n m : ℕ) (built : WagnerTree)
   build-asked e = passed-said (askMatrix codes n m) (sym (ap askedSays e) ∙ done .says)
 
   -- a build that passed hands back the length of the Wagner tree
-  pub build-passed : built .asked ≡ Passed → (r : Measured) → r ≡ measured (value (built .length)) → BuildExported order (askMatrix codes n m) codes new n m r
+  pub build-passed : built .asked ≡ Passed → (r : Measured) → r ≡ measured (value (built .length))
+      → BuildExported order (askMatrix codes n m) codes new n m r
   unfolding buildSays
   build-passed e r is =
       let pass = build-asked e in
@@ -52,7 +53,8 @@ module _ (codes : List ℤ) (n m number : ℕ) where
   order-refused refusal told r is = record { answers = is ∙ rw told; matrix = rw told }
 
   -- they pass: the questions on the matrix decide
-  pub order-passed : askOrder (length codes) number ≡ Passed → (order : Order) → order ≡ orderNumbered number → (new : List ℤ) (r : Measured)
+  pub order-passed : askOrder (length codes) number ≡ Passed → (order : Order) → order ≡ orderNumbered number
+      → (new : List ℤ) (r : Measured)
       → BuildExported order (askMatrix codes n m) codes new n m r
       → BuildExported (orderNumbered number) (askBuild codes n m number) codes new n m r
   unfolding askBuild

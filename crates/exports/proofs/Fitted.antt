@@ -14,7 +14,6 @@ use Rattle.matrix.specs.Outcomes.{value, refused, answered, askedSays}
 use Rattle.matrix.specs.Refusals.{refusalNumber}
 use Rattle.matrix.specs.Questions.{askMatrix}
 use Rattle.matrix.specs.declared.refusal.Refusal.{Refusal}
-use Rattle.matrix.specs.declared.refusal.Refusal.the-variants.{ListSize}
 use Rattle.matrix.specs.declared.refusal.Asked.{Asked}
 use Rattle.matrix.specs.declared.refusal.Asked.the-variants.{Passed, Refused}
 use Rattle.matrix.proofs.Passing.{matrix-passes}
@@ -86,7 +85,8 @@ module _ (codes : List ℤ) (n m number : ℕ) (low high chosen : List ℤ) wher
   -- they pass: the questions on the matrix decide
   pub sizes-passed : first ≡ Passed → (order : Order) → order ≡ orderNumbered number → (new low′ high′ chosen′ : List ℤ) (r : Measured)
       → FitExported order (askMatrix codes n m) codes new n m low low′ high high′ chosen chosen′ r
-      → FitExported (orderNumbered number) (askWagnerFit codes n m number low high chosen) codes new n m low low′ high high′ chosen chosen′ r
+      → FitExported (orderNumbered number) (askWagnerFit codes n m number low high chosen) codes new n m
+      low low′ high high′ chosen chosen′ r
   unfolding askWagnerFit
   sizes-passed told order is new low′ high′ chosen′ r fitted = rw (told, sym is) fitted
 

@@ -12,18 +12,13 @@ use Rattle.matrix.proofs.Passing.{ask-passed}
 use Rattle.wagner.specs.declared.order.Order.{Order}
 use Rattle.wagner.specs.declared.order.Order.the-variants.{Advance, Closest}
 use Rattle.fitting.specs.Calls.{listsFull}
-use Rattle.exports.specs.Orders.{orderNumber, isOrder, orderNumbered, askOrder, askFitOrder}
+use Rattle.exports.specs.Orders.{orderNumber, isNumber, orderNumbered, askOrder, askFitOrder}
 
 -- an order is read back from its number, which passes
-pub number-back : (order : Order) → (orderNumbered (orderNumber order) ≡ order) × (isOrder (orderNumber order) ≡ true)
-unfolding orderNumbered isOrder
+pub number-back : (order : Order) → (orderNumbered (orderNumber order) ≡ order) × (isNumber (orderNumber order) ≡ true)
+unfolding orderNumbered isNumber
 number-back Advance = (refl, refl)
 number-back Closest = (refl, refl)
-
--- no other number passes
-no-order : (isOrder 0 ≡ false) × (isOrder 3 ≡ false)
-unfolding isOrder
-no-order = (refl, refl)
 
 -- 2 is the order in which the closest taxon comes first
 pub numbered-closest : (number : ℕ) → number ≡ 2 → Closest ≡ orderNumbered number
@@ -44,17 +39,17 @@ module _ (size number : ℕ) where
   module _ (full : size ≡ matrixSize) where
     -- the order by advancement
     pub one-passes : number ≡ 1 → Passed ≡ askOrder size number
-    unfolding askOrder isOrder
+    unfolding askOrder isNumber
     one-passes e = rw (eq-eqb size matrixSize full, e) refl
 
     -- the closest first
     pub two-passes : number ≡ 2 → Passed ≡ askOrder size number
-    unfolding askOrder isOrder
+    unfolding askOrder isNumber
     two-passes e = rw (eq-eqb size matrixSize full, e) refl
 
     -- no order
     pub other-refused : number ≢ 1 → number ≢ 2 → Refused UnknownOrder ≡ askOrder size number
-    unfolding askOrder isOrder
+    unfolding askOrder isNumber
     other-refused one two = rw (eq-eqb size matrixSize full, ne-eqb number 1 one, ne-eqb number 2 two) refl
 
 module _ (low high chosen size number : ℕ) where

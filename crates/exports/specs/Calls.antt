@@ -83,9 +83,9 @@ statesOfTree order which codes n m old = statesWritten which (wagnerIn order cod
 abbrev pub totalOfTree : Order → List ℤ → ℕ → ℕ → ℕ
 totalOfTree order codes n m = fittedTotal (plain .step) (wagnerIn order codes n m .tree) (rowsOf codes m n) n m
 
--- after questions: the fitted total of the matrix's own Wagner tree, or the refusal; the matrix then has the rows of the HTUs, and the lists
--- hold, in the HTUs' rows and the m columns, lowest, highest and chosen states; all else, and all on a refusal, is as before. The ranges
--- written are those of all assignments of least length, the chosen states are one, and the total is theirs.
+-- after questions: the fitted total of the matrix's own Wagner tree, or the refusal; the matrix then has the rows of the HTUs, and the
+-- lists hold, in the HTUs' rows and the m columns, lowest, highest and chosen states; all else, and all on a refusal, is as before. The
+-- ranges written are those of all assignments of least length, the chosen states are one, and the total is theirs.
 pub record FitExported
     (order : Order)
     (asked : Asked)

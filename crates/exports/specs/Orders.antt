@@ -17,9 +17,9 @@ abbrev pub orderNumber : Order → ℕ
 orderNumber Advance = 1
 orderNumber Closest = 2
 
--- there is an order with this number
-unfoldable pub isOrder : ℕ → Bool
-isOrder number = eqb number (orderNumber Advance) || eqb number (orderNumber Closest)
+-- it is the number of an order
+unfoldable pub isNumber : ℕ → Bool
+isNumber number = eqb number (orderNumber Advance) || eqb number (orderNumber Closest)
 
 -- the order with a number; only 1 and 2 pass the question
 unfoldable pub orderNumbered : ℕ → Order
@@ -27,7 +27,7 @@ orderNumbered number = cond (eqb number (orderNumber Closest)) Closest Advance
 
 -- the question put to an order's number, behind that of the matrix's size
 unfoldable pub askOrder : ℕ → ℕ → Asked
-askOrder size number = ask (eqb size matrixSize) ListSize (ask (isOrder number) UnknownOrder Passed)
+askOrder size number = ask (eqb size matrixSize) ListSize (ask (isNumber number) UnknownOrder Passed)
 
 -- the same behind the sizes of the three lists of a fit
 unfoldable pub askFitOrder : ℕ → ℕ → ℕ → ℕ → ℕ → Asked

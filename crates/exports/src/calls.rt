@@ -99,11 +99,12 @@ fn build_in(matrix: &mut [i32], n: usize, m: usize, order: Order) -> Measured
     }
 }
 
-// Builds the Wagner tree of a lent matrix in the order of placing with a number, 1 by advancement or 2 the closest first: the codes of the HTUs
-// are written into their rows, and the length of the tree comes back.
+// Builds the Wagner tree of a lent matrix in the order of placing with a number, 1 by advancement or 2 the closest first: the codes of the
+// HTUs are written into their rows, and the length of the tree comes back.
 #[no_mangle]
 pub extern "C" fn wagner_build(matrix: &mut [i32], n: usize, m: usize, order: u64) -> Measured
-    ensures { λ r. ⌜ BuildExported (orderNumbered order) (askBuild (now (matrix .entry)) n m order) (now (matrix .entry)) (now (matrix .exit)) n m r ⌝ }
+    ensures { λ r. ⌜ BuildExported (orderNumbered order) (askBuild (now (matrix .entry)) n m order)
+        (now (matrix .entry)) (now (matrix .exit)) n m r ⌝ }
 {
     match ask_order(matrix.len(), order) {
         Asked::Refused(refusal) => refused(refusal),
@@ -122,7 +123,8 @@ fn fit_in(
     chosen: &mut [i32],
 ) -> Measured
     requires { ⌜ listsFull (length (now low)) (length (now high)) (length (now chosen)) ≡ true ⌝ }
-    ensures { λ r. ⌜ FitExported order (askMatrix (now (matrix .entry)) n m) (now (matrix .entry)) (now (matrix .exit)) n m (now (low .entry)) (now (low .exit)) (now (high .entry)) (now (high .exit)) (now (chosen .entry)) (now (chosen .exit)) r ⌝ }
+    ensures { λ r. ⌜ FitExported order (askMatrix (now (matrix .entry)) n m) (now (matrix .entry)) (now (matrix .exit)) n m
+        (now (low .entry)) (now (low .exit)) (now (high .entry)) (now (high .exit)) (now (chosen .entry)) (now (chosen .exit)) r ⌝ }
 {
     let grown = build(matrix, n, m, order);
     let asked = grown.asked;
@@ -136,9 +138,9 @@ fn fit_in(
     }
 }
 
-// Builds the Wagner tree of a lent matrix in the order of placing with a number and fits it: the codes of the HTUs are written into their rows,
-// the lowest, the highest and the chosen state of each HTU in each character into three lists of the matrix's shape, and the fitted total
-// comes back.
+// Builds the Wagner tree of a lent matrix in the order of placing with a number and fits it: the codes of the HTUs are written into their
+// rows, the lowest, the highest and the chosen state of each HTU in each character into three lists of the matrix's shape, and the fitted
+// total comes back.
 #[no_mangle]
 pub extern "C" fn wagner_fit(
     matrix: &mut [i32],
@@ -149,7 +151,10 @@ pub extern "C" fn wagner_fit(
     high: &mut [i32],
     chosen: &mut [i32],
 ) -> Measured
-    ensures { λ r. ⌜ FitExported (orderNumbered order) (askWagnerFit (now (matrix .entry)) n m order (now (low .entry)) (now (high .entry)) (now (chosen .entry))) (now (matrix .entry)) (now (matrix .exit)) n m (now (low .entry)) (now (low .exit)) (now (high .entry)) (now (high .exit)) (now (chosen .entry)) (now (chosen .exit)) r ⌝ }
+    ensures { λ r. ⌜ FitExported (orderNumbered order)
+        (askWagnerFit (now (matrix .entry)) n m order (now (low .entry)) (now (high .entry)) (now (chosen .entry)))
+        (now (matrix .entry)) (now (matrix .exit)) n m
+        (now (low .entry)) (now (low .exit)) (now (high .entry)) (now (high .exit)) (now (chosen .entry)) (now (chosen .exit)) r ⌝ }
 {
     match ask_fit_order(low.len(), high.len(), chosen.len(), matrix.len(), order) {
         Asked::Refused(refusal) => refused(refusal),

@@ -52,7 +52,8 @@ unfolding flatMap matrix-Shape.row matrix-Shape.inRange matrix-Shape.lastNode li
     matrix-file-Decimal.codeForm matrix-file-Decimal.codeOf matrix-file-Job.inName matrix-file-Job.nameForm
     matrix-file-Job.differsFromAll matrix-file-Job.allDiffer matrix-file-Job.hasCodes matrix-file-Job.firstText matrix-file-Job.rowText
     matrix-file-Job.ended matrix-file-Job.fileOf matrix-file-Lines.linesOf matrix-file-Lines.fieldsOf matrix-file-Header.headerIn
-    matrix-file-Header.firstForm matrix-file-Header.orderKnown matrix-file-Header.isOrder matrix-file-Header.orderIn matrix-file-Header.firstLineForm matrix-file-Header.askFirstLine matrix-file-Header.askHeader
+    matrix-file-Header.firstForm matrix-file-Header.orderKnown matrix-file-Header.isOrder matrix-file-Header.orderIn
+    matrix-file-Header.firstLineForm matrix-file-Header.askFirstLine matrix-file-Header.askHeader
     matrix-file-Rows.nameIn matrix-file-Rows.codesIn matrix-file-Rows.askCodes matrix-file-Rows.askRow matrix-file-Rows.askRows
     matrix-file-Reading.jobOf matrix-file-Reading.nothingMore matrix-file-Reading.askEnd matrix-file-Reading.askBehind
     matrix-file-Reading.askFile matrix-file-Reading.askLength matrix-file-Reading.readAnswer matrix-file-Text.bytes prim-Network.taxa
@@ -68,7 +69,8 @@ unfolding flatMap matrix-Shape.row matrix-Shape.inRange matrix-Shape.lastNode li
     branching-Branches.ancestorsOf branching-Branches.namedInOrder branching-Branches.lentBranching matrix-NodeRows.rowOf
     lists-Least.leastOf difference-Rows.intervalBy branching-RowLengths.nodeInterval wagner-Next.advancement
     branching-RowLengths.lengthUnder branching-Placing.medianRow branching-Placing.fromInterval branching-Placing.nearestInterval
-    branching-Placing.linkFirst branching-Placing.hang branching-Placing.placeOn branching-Placing.place wagner-Next.byAdvancement wagner-Next.hangings wagner-Next.taxonOf wagner-Next.byCloseness wagner-Next.nextBy lists-Pairs.pairs
+    branching-Placing.linkFirst branching-Placing.hang branching-Placing.placeOn branching-Placing.place
+    wagner-Next.byAdvancement wagner-Next.hangings wagner-Next.taxonOf wagner-Next.byCloseness wagner-Next.nextBy lists-Pairs.pairs
     wagner-Build.addedLength wagner-Build.buildOn wagner-Build.build wagner-Build.wagner wagner-Build.wagnerLength
     wagner-Build.wagnerBranches fitting-Sets.only fitting-Sets.join fitting-Sets.nearestMember fitting-Sets.insert fitting-Sets.inOrder
     fitting-Sets.middle fitting-Clades.above fitting-Clades.cladeAt fitting-Clades.cladesBelow fitting-Character.valueAt

@@ -52,7 +52,8 @@ block-then lines total rest e f = ap₂ _++_ e f ∙ append-assoc lines total re
 
 -- what was found of a matrix, with the names that lent bytes hold
 module _ (header : Header) (order : Order) (meant : order ≡ orderMeant (header .order)) (codes low high chosen : List ℤ) (r : Results)
-    (given : ResultsOf order codes (header .n) (header .m) low high chosen r) (names : List (List ℕ)) (lent : List ℕ) (named : HoldsNames (header .n) names lent) where
+    (given : ResultsOf order codes (header .n) (header .m) low high chosen r) (names : List (List ℕ))
+    (lent : List ℕ) (named : HoldsNames (header .n) names lent) where
   -- the numbers of taxa and characters
   abbrev n : ℕ
   n = header .n
@@ -163,13 +164,16 @@ module _ (order : Order) (codes after : List ℤ) (n m : ℕ) (lent : LentMatrix
   found-states = record {
     lowAt = λ v j a b d e.
         ap (λ (list : List ℤ). stateAt list v j) (found-fit .1)
-        ∙ state-written Low (wagnerIn order codes n m .tree) (rowsOf codes m n) n m low v j (full .lowFull) (lent .taxa) (lent .characters) a b d e;
+        ∙ state-written Low (wagnerIn order codes n m .tree) (rowsOf codes m n) n m low v j (full .lowFull)
+        (lent .taxa) (lent .characters) a b d e;
     highAt = λ v j a b d e.
         ap (λ (list : List ℤ). stateAt list v j) (found-fit .2)
-        ∙ state-written High (wagnerIn order codes n m .tree) (rowsOf codes m n) n m high v j (full .highFull) (lent .taxa) (lent .characters) a b d e;
+        ∙ state-written High (wagnerIn order codes n m .tree) (rowsOf codes m n) n m high v j (full .highFull)
+        (lent .taxa) (lent .characters) a b d e;
     chosenAt = λ v j a b d e.
         ap (λ (list : List ℤ). stateAt list v j) (found-fit .3)
-        ∙ state-written Chosen (wagnerIn order codes n m .tree) (rowsOf codes m n) n m chosen v j (full .chosenFull) (lent .taxa) (lent .characters) a b d e;
+        ∙ state-written Chosen (wagnerIn order codes n m .tree) (rowsOf codes m n) n m chosen v j (full .chosenFull)
+        (lent .taxa) (lent .characters) a b d e;
   }
 
   -- what was found

@@ -40,7 +40,8 @@ pub links-within : (d : ℕ → ℕ → ℕ) (n : ℕ) (r : Network) → n ≤ 6
 links-within d n r h held = omega (arith, held .count, network-length d n)
 
 -- and its Wagner tree has at most 63 placements
-pub placements-within : (d : List ℤ → List ℤ → ℕ) (order : Order) (n : ℕ) (rows : List (List ℤ)) (array : List Placement) (count : ℕ) → n ≤ 64
+pub placements-within : (d : List ℤ → List ℤ → ℕ) (order : Order) (n : ℕ) (rows : List (List ℤ)) (array : List Placement) (count : ℕ)
+    → n ≤ 64
     → HoldsPlacements (wagner d order n rows .placements) array count → count ≤ mostPlacements
 placements-within d order n rows array count h held = omega (arith, held .count, wagner-count d order n rows)
 

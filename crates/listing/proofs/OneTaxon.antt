@@ -20,7 +20,8 @@ use Rattle.listing.specs.Listing.{primBlock, wagnerBlock, fittedBlock, r
 
 -- one taxon: three totals of 0
 pub one-taxon : (measure : Measure) (m : ℕ) (word : OrderWord) (names : List (List ℕ)) (rows : List (List ℤ))
-    → listing measure (record { n = 1; m = m; order = word; names = names; rows = rows }) ≡ totalLine "p" 0 ∷ totalLine "w" 0 ∷ totalLine "t" 0 ∷ []
+    → listing measure (record { n = 1; m = m; order = word; names = names; rows = rows })
+    ≡ totalLine "p" 0 ∷ totalLine "w" 0 ∷ totalLine "t" 0 ∷ []
 unfolding listing blocks primBlock wagnerBlock fittedBlock rangeBlock network networkLength grow wagner wagnerLength build buildOn
     lengthUnder treeLength nodesIn otherNodes numbers keep sumOver fittedLines rangeLines fittedTotal total flatMap
 one-taxon measure m word names rows = refl

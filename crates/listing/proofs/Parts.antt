@@ -43,7 +43,8 @@ build-count d next n zero tree rows = refl
 build-count d next n (suc count) tree rows = ap suc (build-count d next n count _ _)
 
 -- the Wagner tree of n taxa has n-1 placements
-pub wagner-count : (d : List ℤ → List ℤ → ℕ) (order : Order) (n : ℕ) (rows : List (List ℤ)) → length (wagner d order n rows .placements) ≡ n - 1
+pub wagner-count : (d : List ℤ → List ℤ → ℕ) (order : Order) (n : ℕ) (rows : List (List ℤ))
+    → length (wagner d order n rows .placements) ≡ n - 1
 unfolding wagner build
 wagner-count d order n rows = build-count d _ n (n - 1) _ rows
 
@@ -97,7 +98,8 @@ module _ (measure : Measure) (job : Job) where
   -- n-1 `W` lines
   pub wagner-lines : length wagnerLines ≡ job .n - 1
   wagner-lines =
-      length-map (builtOf .placements) (wagnerLine (job .n) (job .names)) ∙ wagner-count (measure .rows) (orderMeant (job .order)) (job .n) (job .rows)
+      length-map (builtOf .placements) (wagnerLine (job .n) (job .names))
+      ∙ wagner-count (measure .rows) (orderMeant (job .order)) (job .n) (job .rows)
 
   -- 2n-3 `T` lines
   pub tree-count : length treeLines ≡ 2 * job .n - 3

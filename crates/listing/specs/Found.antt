@@ -65,4 +65,5 @@ heldJob header names codes = record {
 
 -- the listing of the job that lent lists hold was put in front of a list
 pub record ListsJob (header : Header) (lent : List ℕ) (codes : List ℤ) (old new : List ℕ) (next : ℕ) : Type 0 where
-  pub is : (names : List (List ℕ)) → HoldsNames (header .n) names lent → Put (joined (listing plain (heldJob header names codes))) old 0 new next
+  pub is : (names : List (List ℕ)) → HoldsNames (header .n) names lent
+      → Put (joined (listing plain (heldJob header names codes))) old 0 new next

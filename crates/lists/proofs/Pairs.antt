@@ -1,5 +1,5 @@
--- The first of the least pairs: its first item is the first of the least by the least that each one reaches, and its second is where that one
--- reaches it.
+-- The first of the least pairs: its first item is the first of the least by the least that each one reaches, and its second is where that
+-- one reaches it.
 use mathlib.Core.Path.{_≡_, refl, ap, ap₂, _∙_}
 use mathlib.Core.Bool.{Bool, true, false, cond}
 use mathlib.Core.List.{List, [], _∷_, _++_, map, flatMap, append-nil}

@@ -69,7 +69,8 @@ builtBack new n m r =
     record { tree = ancestors (r .tree); rows = rowsOf new m (n + (n - 2)); placements = take (r .count) (r .placements) }
 
 -- a build that passed its questions
-module _ (order : Order) (codes new : List ℤ) (n m : ℕ) (r : WagnerTree) (done : BuildDone order codes new n m r) (pass : askMatrix codes n m ≡ Passed) where
+module _ (order : Order) (codes new : List ℤ) (n m : ℕ) (r : WagnerTree) (done : BuildDone order codes new n m r)
+    (pass : askMatrix codes n m ≡ Passed) where
   -- it is ours
   built-ours : builtBack new n m r ≡ wagnerIn order codes n m
   unfolding buildSays placementsIn
@@ -81,7 +82,8 @@ module _ (order : Order) (codes new : List ℤ) (n m : ℕ) (r : WagnerTree) (do
       let held : new ≡ matrixAfter codes n (wagnerIn order codes n m) = rw pass at (done .matrix) in
       let rows : rowsOf new m (n + (n - 2)) ≡ wagnerIn order codes n m .rows =
       ap (λ (all : List ℤ). rowsOf all m (n + (n - 2))) held
-      ∙ after-rows difference codes n m (lent .characters) (ours-room order codes n m lent) (wagnerIn order codes n m) (ours-sound order codes n m lent) in
+      ∙ after-rows difference codes n m (lent .characters) (ours-room order codes n m lent) (wagnerIn order codes n m)
+      (ours-sound order codes n m lent) in
       let first : take (r .count) (r .placements) ≡ wagnerIn order codes n m .placements =
       ap (take (r .count)) list ∙ filled-first noPlacement 63 (r .count) (wagnerIn order codes n m .placements) count in
       ap₂ (λ (tree : List ℕ) (all : List (List ℤ)). record {
@@ -90,7 +92,11 @@ module _ (order : Order) (codes new : List ℤ) (n m : ℕ) (r : WagnerTree) (do
         placements = take (r .count)
             (r .placements);
       }) grown rows
-      ∙ ap (λ (list : List Placement). record { tree = wagnerIn order codes n m .tree; rows = wagnerIn order codes n m .rows; placements = list }) first
+      ∙ ap (λ (list : List Placement). record {
+        tree = wagnerIn order codes n m .tree;
+        rows = wagnerIn order codes n m .rows;
+        placements = list;
+      }) first
 
   -- each of its placements is least
   pub built-least : BuildIsLeast order difference n m (rowsOf codes m n) (builtBack new n m r)

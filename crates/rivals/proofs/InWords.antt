@@ -1,13 +1,13 @@
 -- The claim about the three rivals, part by part, in document 01's words. Each theorem uses the claim, so that a weaker claim would not
 -- prove it. `matrix` is an accepted matrix: one that a read accepts, or a lent one that passes its questions.
 use mathlib.Core.Path.{_≡_, refl, sym, _∙_}
-use mathlib.Core.Logic.{_↔_}
+use mathlib.Core.Logic.{_↔_, _⊎_, inl, inr}
 use mathlib.Core.Bool.{true}
 use mathlib.Core.List.{List, _∷_, _++_}
 use Prim.Native.Nat.{ℕ, _+_, _≤_}
 use native.Mathlib.Omega.{arith}
 use lib.IntN.{ℤ}
-use lib.ListN.{length}
+use lib.ListN.{length, drop}
 use Rattle.matrix.specs.Shape.{lastNode}
 use Rattle.matrix.specs.NodeRows.{rowOf, rowsOf}
 use Rattle.matrix.specs.Questions.{askMatrix}
@@ -22,17 +22,18 @@ use Rattle.branching.specs.declared.placement.Placement.{Placement}
 use Rattle.branching.specs.Ancestors.{ancestor}
 use Rattle.branching.specs.Nodes.{Unplaced}
 use Rattle.branching.specs.Growing.{branching}
+use Rattle.branching.specs.Hanging.{noBranches, linked}
 use Rattle.branching.specs.RowLengths.{lengthUnder}
 use Rattle.branching.specs.Placing.{place}
 use Rattle.branching.specs.Rival.{hungLength}
 use Rattle.wagner.specs.declared.order.Order.{Order}
 use Rattle.wagner.specs.declared.order.Order.the-variants.{Closest}
-use Rattle.wagner.specs.Build.{wagner}
+use Rattle.wagner.specs.Build.{Built, wagner}
 use Rattle.fitting.specs.Sets.{In}
 use Rattle.fitting.specs.Assignments.{character, IsAssignment, IsLeast, Occurs, total}
 use Rattle.fitting.specs.Fit.{chosenState, range, fittedTotal}
 use Rattle.rivals.specs.Accepted.{Accepted, fileRead, matrixLent, HandedIn}
-use Rattle.rivals.specs.Demand.{NoRivalDoesBetter, EachIsLeast, more, BuildIsLeast}
+use Rattle.rivals.specs.Demand.{NoRivalDoesBetter, EachIsLeast, more, BuildIsLeast, oneTaxon, severalTaxa}
 use Rattle.rivals.proofs.Demand.{no-rival}
 
 -- for every file that a read accepts
@@ -43,13 +44,20 @@ for-every-file file job e = no-rival (job .n) (job .m) (job .rows) (fileRead fil
 pub for-every-lent-matrix : (codes : List ℤ) (n m : ℕ) → askMatrix codes n m ≡ Passed → NoRivalDoesBetter plain n m (rowsOf codes m n)
 for-every-lent-matrix codes n m e = no-rival n m (rowsOf codes m n) (matrixLent codes n m e)
 
--- of placements in turn in the order `closest`, the next one adds no more than any taxon that is not placed, hung on any interval through an
--- HTU with any m whole numbers
+-- of placements in turn in the order `closest`, the next one adds no more than any taxon that is not placed, hung on any interval through
+-- an HTU with any m whole numbers
 pub no-taxon-adds-less : {n m : ℕ} {tree last : List ℕ} {rows lastRows : List (List ℤ)} {next : Placement} {others : List Placement}
     → EachIsLeast Closest difference n m tree rows (next ∷ others) last lastRows
     → (b : ℕ) → Unplaced n tree b → (c : ℕ) → 1 ≤ ancestor tree c → (r : List ℤ) → length r ≡ m
     → lengthUnder difference n tree rows + next .added ≤ hungLength difference n tree rows b c r
 no-taxon-adds-less (more taxon placed chosen least closest others) = closest refl .least
+
+-- a build in the order `closest` is of one taxon, or it is a first link and then placements in turn
+first-and-later : {n m : ℕ} {rows : List (List ℤ)} {built : Built} → BuildIsLeast Closest difference n m rows built
+    → (n ≡ 1) ⊎ ((b : ℕ) × EachIsLeast Closest difference n m (linked noBranches b) rows (drop 1 (built .placements))
+    (built .tree) (built .rows))
+first-and-later (oneTaxon one) = inl one
+first-and-later (severalTaxa b chosen each) = inr (b, each)
 
 module _ (n m : ℕ) (rows : List (List ℤ)) (matrix : Accepted n m rows) where
   -- the claim about this matrix
@@ -85,6 +93,14 @@ module _ (n m : ℕ) (rows : List (List ℤ)) (matrix : Accepted n m rows) where
   -- so it is with each placement of our own build, in either order of placing
   pub each-placement-least : (order : Order) → BuildIsLeast order difference n m rows (wagner difference order n rows)
   each-placement-least = claim .build
+
+  -- so in the order `closest` our own build goes on, from its first link, by placements of each of which `no-taxon-adds-less` speaks
+  pub our-closest-build :
+      (n ≡ 1)
+      ⊎ ((b : ℕ)
+      × EachIsLeast Closest difference n m (linked noBranches b) rows (drop 1 (wagner difference Closest n rows .placements))
+      (wagner difference Closest n rows .tree) (wagner difference Closest n rows .rows))
+  our-closest-build = first-and-later (claim .build Closest)
 
   -- our tree has all n taxa
   pub our-tree-whole : (order : Order) → branching n (wagner difference order n rows .tree) ≡ true

@@ -126,7 +126,8 @@ module _ (n m : ℕ) (taxa : 1 ≤ n) (most : n ≤ 64) where
         rw first (severalTaxa b chosen (each-least count 2 _ _ after (omega arith) (omega arith)))
 
     -- the build of the Wagner tree
-    pub wagner-least : (rows : List (List ℤ)) → MatrixRows n m rows → BuildIsLeast order difference n m rows (wagner difference order n rows)
+    pub wagner-least : (rows : List (List ℤ)) → MatrixRows n m rows
+        → BuildIsLeast order difference n m rows (wagner difference order n rows)
     unfolding wagner build
     wagner-least rows a =
         let start : Growth n m 1 noBranches rows =

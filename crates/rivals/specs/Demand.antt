@@ -56,7 +56,8 @@ pub record NoRivalDoesBetter (measure : Measure) (n m : ℕ) (rows : List (List 
   -- our placement of a taxon on a tree handed in is a hanging on one of its intervals, adds its interval difference, and none adds less
   pub placement : (tree : List ℕ) (htus : List (List ℤ)) → HandedIn n m tree htus → (b : ℕ) → Unplaced n tree b
       → PlacementIsLeast (measure .rows) n m tree (rows ++ htus) b (place (measure .rows) n tree (rows ++ htus) b)
-  -- so is each placement of our Wagner tree, in either order of placing, which is a branching of all n taxa
+  -- so is each placement of our Wagner tree, in either order of placing, and in the order `closest` no hanging of any taxon that is not
+  -- placed adds less; the tree is a branching of all n taxa
   pub build : (order : Order) → BuildIsLeast order (measure .rows) n m rows (wagner (measure .rows) order n rows)
   pub whole : (order : Order) → branching n (wagner (measure .rows) order n rows .tree) ≡ true
   -- on any branching our chosen states have the least total, and a range has exactly the states of assignments of least length

@@ -1,29 +1,29 @@
 -- What a placement changes of the intervals that the taxa not yet placed may be hung on.
-use mathlib.Core.Path.{_≡_, refl, sym, ap, ap₂, _∙_}
+use mathlib.Core.Path.{_≡_, sym, ap, ap₂, _∙_}
 use mathlib.Core.Logic.{_≢_, _⊎_, inl, inr, ⊎-elim, by-cases}
 use mathlib.Core.List.{List, List·Memᴰ}
-use Prim.Native.Nat.{ℕ, suc, _+_, _*_, _-_, _≤_, _<_}
+use Prim.Native.Nat.{ℕ, _+_, _*_, _-_, _≤_, _<_}
 use native.Mathlib.Omega.{arith}
 use native.Mathlib.Decide.{ℕ-discrete}
 use lib.IntN.{ℤ}
 use lib.ListN.{length}
 use Rattle.matrix.specs.Shape.{row}
 use Rattle.matrix.specs.NodeRows.{rowsOf}
-use Rattle.difference.specs.Rows.{difference, nodeDifference, intervalDifference}
+use Rattle.difference.specs.Rows.{difference, nodeDifference}
 use Rattle.branching.specs.declared.placement.Placement.{Placement}
 use Rattle.branching.specs.Ancestors.{ancestor}
-use Rattle.branching.specs.Nodes.{nodesIn, otherNodes, Unplaced}
-use Rattle.branching.specs.Facts.{InTree, Grown, GrowingTree, alone, several}
+use Rattle.branching.specs.Nodes.{Unplaced}
+use Rattle.branching.specs.Facts.{Grown, GrowingTree, alone, several}
 use Rattle.branching.specs.Hanging.{nextHtu, linked, hung}
 use Rattle.branching.specs.Placing.{AfterPlacing, nearestInterval, linkFirst, hang}
 use Rattle.branching.specs.Placed.{lastRow, placeIn, matrixPlaced}
 use Rattle.branching.specs.Unasked.{intervalAt}
 use Rattle.branching.proofs.Nodes.{nodesIn-node, node-nodesIn}
-use Rattle.branching.proofs.BranchSums.{Joint, hung-taxon, hung-lower, hung-htu, hung-other}
+use Rattle.branching.proofs.BranchSums.{Joint, hung-taxon, hung-lower, hung-other}
 use Rattle.branching.proofs.Hanging.{hung-joint, htu-out}
 use Rattle.branching.proofs.Linking.{linked-taxon, linked-other}
 use Rattle.branching.proofs.Placing.{place-first, place-later, nearest-in, nearest-node}
-use Rattle.branching.proofs.Standing.{Standing, standing-placed, last-is, placed-other}
+use Rattle.branching.proofs.Standing.{Standing, last-is, placed-other}
 use Rattle.wagner.specs.Closeness.{intervals, AllChanged}
 
 -- taxon b placed on a growing tree that stands in a matrix

@@ -10,13 +10,11 @@ use native.Mathlib.Omega.{arith}
 use borrow.Author.Tests.{eq-eqb, ne-eqb}
 use lib.Dec.{eqb}
 use lib.IntN.{ℤ}
-use lib.ListN.{length, getD, set}
+use lib.ListN.{length, set}
 use Rattle.lists.specs.Filters.{keep}
 use Rattle.lists.specs.Least.{leastOf, scanned}
 use Rattle.lists.specs.Numbers.{numbers}
 use Rattle.lists.proofs.Least.{leastOf-congr, leastOf-none, scan-start, step-fails, step-first, step-less, step-stays}
-use Rattle.lists.proofs.Keep.{keep-mem}
-use Rattle.lists.proofs.Numbers.{numbers-within}
 use Rattle.matrix.specs.Shape.{row}
 use Rattle.matrix.specs.NodeRows.{rowOf, rowsOf}
 use Rattle.matrix.proofs.NodeRows.{rowOf-rowsOf}
@@ -26,32 +24,29 @@ use Rattle.branching.specs.Hanging.{noBranches}
 use Rattle.branching.specs.Ancestors.{ancestor}
 use Rattle.branching.proofs.Nodes.{false-inTree, node-nodesIn, noBranches-none}
 use Rattle.branching.proofs.Searching.{has-above}
-use Rattle.branching.specs.declared.placement.Nearest.{Nearest}
 use Rattle.branching.specs.declared.placement.Placement.{Placement}
 use Rattle.branching.specs.Placed.{lastRow, placeIn}
-use Rattle.branching.specs.Unasked.{noInterval, AfterUnasked, intervalAt, linkedAt, nearestAt, placedAt}
+use Rattle.branching.specs.Unasked.{AfterUnasked, intervalAt, linkedAt, nearestAt, placedAt}
 use Rattle.branching.proofs.Counts.{unplaced-taxon}
 use Rattle.branching.proofs.Unasked.{unasked-plain, unasked-placed}
 use Rattle.branching.proofs.Standing.{Standing, standing-test, last-is}
 use Rattle.wagner.specs.declared.order.Order.{Order}
 use Rattle.wagner.specs.declared.order.Order.the-variants.{Advance, Closest}
 use Rattle.wagner.specs.Next.{advancement, byAdvancement, nextBy}
-use Rattle.wagner.specs.Order.{keyOf, unplacedTest, keyBy, Right, Keys, Sooner, NextTaxon}
-use Rattle.wagner.specs.Closeness.{kept, NearestKept}
+use Rattle.wagner.specs.Order.{keyOf, unplacedTest, keyBy, Keys, Sooner, NextTaxon}
+use Rattle.wagner.specs.Closeness.{kept, leastKept}
 use Rattle.wagner.proofs.Closest.{adds, closeness-least}
 
 -- one advancement more is kept
-pub key-next : (codes : List ℤ) (m : ℕ) (keys : List Nearest) (v x : ℕ) → v < length keys → x ≡ difference (row codes m v) (row codes m 1)
-    → ((u : ℕ) → 1 ≤ u → u < v → getD keys u noInterval ≡ record { lower = 0; added = nodeDifference difference (row codes m) u 1 })
-    → (u : ℕ) → 1 ≤ u → u < v + 1
-    → getD (set keys v (record { lower = 0; added = x })) u noInterval
-    ≡ record { lower = 0; added = nodeDifference difference (row codes m) u 1 }
-unfolding nodeDifference
+pub key-next : (codes : List ℤ) (m : ℕ) (keys : List ℕ) (v x : ℕ) → v < length keys → x ≡ difference (row codes m v) (row codes m 1)
+    → ((u : ℕ) → 1 ≤ u → u < v → keyOf keys u ≡ nodeDifference difference (row codes m) u 1)
+    → (u : ℕ) → 1 ≤ u → u < v + 1 → keyOf (set keys v x) u ≡ nodeDifference difference (row codes m) u 1
+unfolding keyOf nodeDifference
 key-next codes m keys v x room is before u low high =
     by-cases
     (ℕ-discrete u v)
-    (λ e. rw (e, is) (getD-set-same keys v (record { lower = 0; added = difference (row codes m v) (row codes m 1) }) noInterval room))
-    (λ ne. getD-set-other keys v u (record { lower = 0; added = x }) noInterval ne ∙ before u low (omega arith))
+    (λ e. rw e (getD-set-same keys v x 0 room ∙ is))
+    (λ ne. getD-set-other keys v u x 0 ne ∙ before u low (omega arith))
 
 -- from the one chosen of those before v to that of those up to v
 module _ (key : ℕ → ℕ) (test : ℕ → Bool) (best v : ℕ) where
@@ -121,22 +116,14 @@ next-end key n tree v r end among is =
     record { among = among; is = is ∙ ap (λ (k : ℕ). leastOf key (keep (λ u. not (inTree tree u)) (numbers 1 k))) count }
 
 -- before the first link there is no interval, and in both orders the key of a taxon is its advancement
-pub alone-right : (order : Order) (codes : List ℤ) (n m v : ℕ) (kept : Nearest)
-    → kept ≡ record { lower = 0; added = nodeDifference difference (row codes m) v 1 } → Right order codes n m noBranches v kept
+pub alone-key : (order : Order) (codes : List ℤ) (n m v : ℕ)
+    → nodeDifference difference (row codes m) v 1 ≡ keyBy order codes n m noBranches v
 unfolding keyBy nearestAt placedAt linkedAt nodeDifference
-alone-right Advance codes n m v kept is = record { key = ap (λ (k : Nearest). k .added) is; interval = λ other. none-then other }
-  where
-    none-then : Advance ≡ Closest → kept .lower ≡ nearestAt codes m n noBranches v
-    none-then e = let never : _≡_ {A = ℕ} 0 1 = cc in absurd (omega arith)
-alone-right Closest codes n m v kept is = record {
-  key = ap (λ (k : Nearest). k .added) is ∙ ap (λ (c : ℕ). placedAt codes m n noBranches v c .placement .added) (sym none);
-  interval = λ _. ap (λ (k : Nearest). k .lower) is ∙ sym none;
-}
-  where
-    none : nearestAt codes m n noBranches v ≡ 0
-    none =
-        leastOf-none (intervalAt codes m noBranches v) (nodesIn noBranches (otherNodes n))
-        (λ e mem. omega (arith, node-nodesIn noBranches n e mem, noBranches-none e))
+alone-key Advance codes n m v = refl
+alone-key Closest codes n m v =
+    ap (λ (c : ℕ). placedAt codes m n noBranches v c .placement .added)
+    (sym (leastOf-none (intervalAt codes m noBranches v) (nodesIn noBranches (otherNodes n))
+    (λ e mem. omega (arith, node-nodesIn noBranches n e mem, noBranches-none e))))
 
 -- a growing tree that stands in a matrix
 module _ (now : List ℤ) (n m placed : ℕ) (tree : List ℕ) (stands : Standing now n m placed tree) where
@@ -165,27 +152,23 @@ module _ (now : List ℤ) (n m placed : ℕ) (tree : List ℕ) (stands : Standin
       (unasked-placed now n m most narrow tree v u (standing-test now n m placed tree stands) .placement)
 
   -- by what is kept of the taxa, the taxon to place next is that of the order of placing
-  pub next-right : (order : Order) (keys : List Nearest) → Keys order now n m tree keys
+  pub next-right : (order : Order) (keys : List ℕ) → Keys order now n m tree keys
       → leastOf (keyOf keys) (nodesOut tree (numbers 1 n)) ≡ nextBy difference order n tree rows
   unfolding nextBy byAdvancement keyOf
   next-right Advance keys known =
       leastOf-congr (keyOf keys) (advancement difference rows) (nodesOut tree (numbers 1 n)) λ v mem.
       let u = unplaced-taxon n tree v mem in
-      known .each v u .key ∙ advance-key v u
+      known .each v u ∙ advance-key v u
   next-right Closest keys known =
       leastOf-congr (keyOf keys) (adds difference n tree rows) (nodesOut tree (numbers 1 n)) (λ v mem.
       let u = unplaced-taxon n tree v mem in
-      known .each v u .key ∙ closest-key v u)
+      known .each v u ∙ closest-key v u)
       ∙ sym (closeness-least difference n tree rows)
 
--- all nodes gone through, it is the nearest interval by what is kept
-pub kept-end : (table : List ℕ) (n : ℕ) (tree : List ℕ) (v c best added : ℕ) → 2 ≤ n → c ≡ 2 * n - 1
-    → best ≡ scanned (kept table v) (inTree tree) 2 c → added ≡ kept table v best
-    → NearestKept table n tree v (record { lower = best; added = added })
-unfolding scanned nodesIn otherNodes
-kept-end table n tree v c best added two end is found =
+-- all nodes gone through, what is kept of the one chosen is the least
+pub kept-end : (table : List ℕ) (n : ℕ) (tree : List ℕ) (v c best : ℕ) → 2 ≤ n → c ≡ 2 * n - 1
+    → best ≡ scanned (kept table v) (inTree tree) 2 c → kept table v best ≡ leastKept table n tree v
+unfolding scanned nodesIn otherNodes leastKept
+kept-end table n tree v c best two end is =
     let count : c - 2 ≡ 2 * n - 3 = omega arith in
-    record {
-      lower = is ∙ ap (λ (k : ℕ). leastOf (kept table v) (keep (inTree tree) (numbers 2 k))) count;
-      added = found;
-    }
+    ap (kept table v) (is ∙ ap (λ (k : ℕ). leastOf (kept table v) (keep (inTree tree) (numbers 2 k))) count)

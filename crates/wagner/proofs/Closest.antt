@@ -2,8 +2,8 @@
 -- names the interval on which it is placed.
 use mathlib.Core.Path.{_≡_, refl, sym, ap, _∙_}
 use mathlib.Core.Logic.{_≢_}
-use mathlib.Core.List.{List, [], _∷_, _++_, map, flatMap, List·Memᴰ}
-use Prim.Native.Nat.{ℕ, zero, suc, _≤_}
+use mathlib.Core.List.{List, [], _∷_, _++_, map, flatMap}
+use Prim.Native.Nat.{ℕ, zero, suc}
 use native.Mathlib.Omega.{arith}
 use lib.IntN.{ℤ}
 use Rattle.lists.specs.Least.{firstLeast, leastOf}
@@ -86,7 +86,8 @@ module _ (d : List ℤ → List ℤ → ℕ) (n : ℕ) (tree : List ℕ) (rows :
       let next : byCloseness d n tree rows ≡ firstLeast (λ (x : ℕ). apart (x, firstLeast (fromInterval d tree rows x) c cs)) b bs =
       closeness-least
       ∙ ap (leastOf adds) left
-      ∙ sym (firstLeast-congr (λ (x : ℕ). apart (x, firstLeast (fromInterval d tree rows x) c cs)) adds b bs (λ x _. adds-later c cs some x)) in
+      ∙ sym (firstLeast-congr (λ (x : ℕ). apart (x, firstLeast (fromInterval d tree rows x) c cs)) adds b bs
+      (λ x _. adds-later c cs some x)) in
       let nearest : (x : ℕ) → firstLeast (fromInterval d tree rows x) c cs ≡ nearestInterval d n tree rows x =
       λ x. sym (ap (leastOf (fromInterval d tree rows x)) some) in
       least-pair apart c cs b bs

@@ -15,7 +15,8 @@ use Rattle.branching.proofs.Rival.{difference-laws}
 use Rattle.wagner.proofs.BuildLength.{Sound, build-sound, build-length}
 
 -- n rows of m codes, n from 1 to 64
-module _ (order : Order) (n m : ℕ) (taxa : 1 ≤ n) (most : n ≤ 64) (rows : List (List ℤ)) (all : length rows ≡ n) (each : OfLength m rows) where
+module _ (order : Order) (n m : ℕ) (taxa : 1 ≤ n) (most : n ≤ 64) (rows : List (List ℤ)) (all : length rows ≡ n)
+    (each : OfLength m rows) where
   -- the Wagner tree: its tree, its rows and its length
   pub wagner-sound : Sound difference n m n noBranches rows (wagner difference order n rows)
   unfolding wagner

@@ -1,4 +1,5 @@
--- The build computed on examples: document 01's listing, one and two taxa, a tie for each rule, and a tree handed in.
+-- The build computed on examples, by advancement and by closeness: document 01's listing, one and two taxa, a tie for each rule, and a tree
+-- handed in.
 use mathlib.Core.Path.{_≡_, refl}
 use mathlib.Core.List.{List, [], _∷_, _++_, flatMap}
 use mathlib.Core.Bool.{Bool, true}
@@ -42,7 +43,8 @@ record Shown : Type 0 where
 
 -- the Wagner tree of n rows in an order of placing, as such a listing shows it
 shownBy : Order → ℕ → List (List ℤ) → Shown
-unfolding flatMap pairs hangings taxonOf byCloseness nextBy apart lower higher median medians difference numbers firstLeast lastNode ancestor descendants hasAncestor inTree keep
+unfolding flatMap pairs hangings taxonOf byCloseness nextBy apart lower higher median medians difference
+    numbers firstLeast lastNode ancestor descendants hasAncestor inTree keep
     nodesIn nodesOut otherNodes taxaPlaced every descendantCount descendantsWanted climbs rowOneAlone nodesOnly htusIn ancestorsIn
     descendantsRight allClimb grown growingTree branching noBranches linked hung nextHtu sumOver treeLength branchOf branchRecords
     branchesRead ancestorsOf sameNumbers namedInOrder lentBranching rowOf leastOf nodeDifference intervalBy nodeInterval advancement
@@ -78,7 +80,8 @@ fourTaxa-built : shown 4 fourTaxa
 unfolding shown
 fourTaxa-built = refl
 
--- by closeness C and D are equally near to the interval of B, and the lower row comes first: W B - A - 3; W C B A #1 3; W D #1 A #2 3; w 9
+-- by closeness C and D are equally near to the interval of B, and the lower row comes first: W B - A - 3; W C B A #1 3; W D #1 A #2 3;
+-- w 9
 fourTaxa-closest : shownBy Closest 4 fourTaxa
     ≡ record {
       placements = line 2 0 1 0 3 ∷ line 3 2 1 5 3 ∷ line 4 5 1 6 3 ∷ [];
@@ -145,6 +148,17 @@ equally-near : shown 4 threeArms
     }
 unfolding shown
 equally-near = refl
+
+-- by closeness too: taxon 3 is nearer than taxon 4, which then goes to the least number
+equally-near-closest : shownBy Closest 4 threeArms
+    ≡ record {
+      placements = line 2 0 1 0 1 ∷ line 3 2 1 5 1 ∷ line 4 2 5 6 2 ∷ [];
+      ancestors = 0 ∷ 0 ∷ 6 ∷ 5 ∷ 6 ∷ 1 ∷ 5 ∷ [];
+      total = 4;
+      isBranching = true;
+    }
+unfolding shownBy
+equally-near-closest = refl
 
 -- a tree handed in: taxa 1, 2 and 4 of document 01's matrix, with an HTU 5 whose codes are not the medians
 handed : ℕ → AfterPlacing

@@ -99,7 +99,8 @@ module _ (order : Order) (codes : List ℤ) (n m : ℕ) (lent : LentMatrix codes
   -- the matrix after the build is a lent matrix
   pub after-lent : LentMatrix after n m
   after-lent = record {
-    full = after-size difference codes n m (lent .characters) (ours-room order codes n m lent) ours (ours-sound order codes n m lent) ∙ lent .full;
+    full = after-size difference codes n m (lent .characters) (ours-room order codes n m lent) ours (ours-sound order codes n m lent)
+        ∙ lent .full;
     taxon = lent .taxon;
     taxa = lent .taxa;
     character = lent .character;

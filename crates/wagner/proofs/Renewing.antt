@@ -9,17 +9,15 @@ use native.Mathlib.Decide.{ℕ-discrete}
 use lib.IntN.{ℤ}
 use lib.ListN.{length, length-set, getD, set}
 use lib.Seq.{getD-set-same, getD-set-other}
-use Rattle.lists.specs.Least.{leastOf}
 use Rattle.lists.proofs.Least.{leastOf-mem, leastOf-congr}
-use Rattle.branching.specs.declared.placement.Nearest.{Nearest}
 use Rattle.branching.specs.declared.placement.Placement.{Placement}
 use Rattle.branching.specs.Nodes.{Unplaced}
-use Rattle.branching.specs.Unasked.{noInterval, intervalAt, nearestAt, hungAt, placedAt}
+use Rattle.branching.specs.Unasked.{intervalAt, nearestAt, hungAt, placedAt}
 use Rattle.branching.proofs.Nodes.{node-nodesIn}
 use Rattle.wagner.specs.declared.order.Order.{Order}
 use Rattle.wagner.specs.declared.order.Order.the-variants.{Advance, Closest}
-use Rattle.wagner.specs.Order.{keyCount, keyBy, Right, Keys}
-use Rattle.wagner.specs.Closeness.{stripe, keptSize, kept, intervals, RowRight, KeptOne, KeptThree, NearestKept, Changed, AllChanged}
+use Rattle.wagner.specs.Order.{keyCount, keyOf, keyBy}
+use Rattle.wagner.specs.Closeness.{stripe, keptSize, kept, intervals, RowRight, leastKept, KeptOne, KeptThree, Changed, AllChanged}
 use Rattle.wagner.specs.Closeness.{RowRenewed, Table, KeysNext}
 
 -- a place written
@@ -71,24 +69,17 @@ unfolding placedAt hungAt
 added-on codes n m tree v zero some = absurd (some refl)
 added-on codes n m tree v (suc c) some = refl
 
--- where there is an interval and what is kept of taxon v is right, the nearest interval by what is kept gives the key
-key-kept : (codes : List ℤ) (n m : ℕ) (tree : List ℕ) (v e : ℕ) (table : List ℕ) (r : Nearest) → List·Memᴰ e (intervals n tree)
-    → RowRight codes n m tree v table → NearestKept table n tree v r → Right Closest codes n m tree v r
-unfolding keyBy nearestAt
-key-kept codes n m tree v e table r some right nearest =
-    let is : r .lower ≡ nearestAt codes m n tree v =
-    nearest .lower ∙ leastOf-congr (kept table v) (intervalAt codes m tree v) (intervals n tree) (λ c mem. right c mem) in
+-- where there is an interval and what is kept of taxon v is right, the least that is kept is the key
+key-kept : (codes : List ℤ) (n m : ℕ) (tree : List ℕ) (v e : ℕ) (table : List ℕ) → List·Memᴰ e (intervals n tree)
+    → RowRight codes n m tree v table → leastKept table n tree v ≡ keyBy Closest codes n m tree v
+unfolding keyBy nearestAt leastKept
+key-kept codes n m tree v e table some right =
     let mem : List·Memᴰ (nearestAt codes m n tree v) (intervals n tree) =
     leastOf-mem (intervalAt codes m tree v) (intervals n tree) e some in
     let low = node-nodesIn tree n (nearestAt codes m n tree v) mem .0 in
-    record {
-      key =
-          nearest .added
-          ∙ ap (kept table v) is
-          ∙ right (nearestAt codes m n tree v) mem
-          ∙ sym (added-on codes n m tree v (nearestAt codes m n tree v) (λ z. omega (arith, low)));
-      interval = λ _. is;
-    }
+    ap (kept table v) (leastOf-congr (kept table v) (intervalAt codes m tree v) (intervals n tree) (λ c mem. right c mem))
+    ∙ right (nearestAt codes m n tree v) mem
+    ∙ sym (added-on codes n m tree v (nearestAt codes m n tree v) (λ z. omega (arith, low)))
 
 -- the row of a taxon after a placement
 module _ (now : List ℤ) (n m : ℕ) (few : n ≤ 64) (new : List ℕ) (v : ℕ) (done : Placement) (old table : List ℕ)
@@ -110,17 +101,17 @@ module _ (now : List ℤ) (n m : ℕ) (few : n ≤ 64) (new : List ℕ) (v : ℕ
       small = omega (arith, node-nodesIn new n c mem .1)
 
   -- so is the key
-  pub row-renewed : (r : Nearest) → NearestKept table n new v r → RowRenewed now n m new v done old table r
-  row-renewed r nearest = record {
+  pub row-renewed : (r : ℕ) → r ≡ leastKept table n new v → RowRenewed now n m new v done old table r
+  row-renewed r least = record {
     size = three .size;
     others = λ w e small other. three .else w e small (inl other);
     row = row-again;
     key = λ codes before changed right.
-        key-kept now n m new v (done .taxon) table r (changed .someInterval) (row-again codes before changed right) nearest;
+        least ∙ key-kept now n m new v (done .taxon) table (changed .someInterval) (row-again codes before changed right);
   }
 
 -- a placed taxon is passed over
-pub placed-renewed : (now : List ℤ) (n m : ℕ) (new : List ℕ) (v : ℕ) (done : Placement) (old : List ℕ) (r : Nearest)
+pub placed-renewed : (now : List ℤ) (n m : ℕ) (new : List ℕ) (v : ℕ) (done : Placement) (old : List ℕ) (r : ℕ)
     → (Unplaced n new v → ⊥) → RowRenewed now n m new v done old old r
 placed-renewed now n m new v done old r placed = record {
   size = refl;
@@ -129,27 +120,25 @@ placed-renewed now n m new v done old r placed = record {
   key = λ codes before changed right. absurd (placed (changed .unplaced));
 }
 
--- of the taxa before v keys and what is kept are right after a placement, those of the others are as they were
+-- of the taxa before v keys and what is kept are right after a placement, and what is kept of the others is as it was
 pub record RenewedUpTo
     (now : List ℤ)
     (n m : ℕ)
     (new : List ℕ)
     (done : Placement)
-    (keys : List Nearest)
     (old : List ℕ)
     (v : ℕ)
-    (table : List ℕ)
-    (all : List Nearest) : Type 0 where
+    (table all : List ℕ) : Type 0 where
   pub size : length all ≡ keyCount
   pub room : length table ≡ length old
   pub rest : (w e : ℕ) → e < stripe → v ≤ w → kept table w e ≡ kept old w e
   pub each : (codes : List ℤ) (before : List ℕ) → AllChanged codes now n m before new done → Table Closest codes n m before old
-      → (u : ℕ) → Unplaced n new u → u < v → Right Closest now n m new u (getD all u noInterval) × RowRight now n m new u table
+      → (u : ℕ) → Unplaced n new u → u < v → (keyOf all u ≡ keyBy Closest now n m new u) × RowRight now n m new u table
 
-module _ (now : List ℤ) (n m : ℕ) (few : n ≤ 64) (new : List ℕ) (done : Placement) (keys : List Nearest) (old : List ℕ) where
+module _ (now : List ℤ) (n m : ℕ) (few : n ≤ 64) (new : List ℕ) (done : Placement) (old : List ℕ) where
   -- before the first taxon
-  pub renewed-start : length keys ≡ keyCount → RenewedUpTo now n m new done keys old 1 old keys
-  renewed-start size = record {
+  pub renewed-start : (keys : List ℕ) → length keys ≡ keyCount → RenewedUpTo now n m new done old 1 old keys
+  renewed-start keys size = record {
     size = size;
     room = refl;
     rest = λ w e small h. refl;
@@ -157,9 +146,9 @@ module _ (now : List ℤ) (n m : ℕ) (few : n ≤ 64) (new : List ℕ) (done : 
   }
 
   -- one taxon more
-  pub renewed-next : (v : ℕ) (table : List ℕ) (all : List Nearest) (later : List ℕ) (r : Nearest) → v < keyCount
-      → RenewedUpTo now n m new done keys old v table all → RowRenewed now n m new v done table later r
-      → RenewedUpTo now n m new done keys old (v + 1) later (set all v r)
+  pub renewed-next : (v : ℕ) (table all later : List ℕ) (r : ℕ) → v < keyCount → RenewedUpTo now n m new done old v table all
+      → RowRenewed now n m new v done table later r → RenewedUpTo now n m new done old (v + 1) later (set all v r)
+  unfolding keyOf
   renewed-next v table all later r room upTo row = record {
     size = simp length-set (upTo .size);
     room = row .size ∙ upTo .room;
@@ -167,14 +156,14 @@ module _ (now : List ℤ) (n m : ℕ) (few : n ≤ 64) (new : List ℕ) (done : 
     each = λ codes before changed right u unplaced low.
         by-cases
         (ℕ-discrete u v)
-        (λ e. rw (e, getD-set-same all v r noInterval (omega (arith, upTo .size))) (own codes before changed right (rw e at unplaced)))
-        (λ ne. rw (getD-set-other all v u r noInterval ne)
+        (λ e. rw (e, getD-set-same all v r 0 (omega (arith, upTo .size))) (own codes before changed right (rw e at unplaced)))
+        (λ ne. rw (getD-set-other all v u r 0 ne)
         (let was = upTo .each codes before changed right u unplaced (omega arith) in
         (was .0, λ c mem. row .others u c (omega (arith, node-nodesIn new n c mem .1)) ne ∙ was .1 c mem)));
   }
     where
       own : (codes : List ℤ) (before : List ℕ) → AllChanged codes now n m before new done → Table Closest codes n m before old
-          → Unplaced n new v → Right Closest now n m new v r × RowRight now n m new v later
+          → Unplaced n new v → (r ≡ keyBy Closest now n m new v) × RowRight now n m new v later
       own codes before changed right unplaced =
           let change = changed v unplaced in
           let here : RowRight codes n m before v table =
@@ -182,9 +171,9 @@ module _ (now : List ℤ) (n m : ℕ) (few : n ≤ 64) (new : List ℕ) (done : 
           (row .key codes before change here, row .row codes before change here)
 
   -- all taxa
-  pub renewed-all : (v : ℕ) (table : List ℕ) (all : List Nearest) → v ≡ n + 1 → RenewedUpTo now n m new done keys old v table all
+  pub renewed-all : (keys : List ℕ) (v : ℕ) (table all : List ℕ) → v ≡ n + 1 → RenewedUpTo now n m new done old v table all
       → KeysNext Closest now n m new done keys old table all
-  renewed-all v table all end upTo = record {
+  renewed-all keys v table all end upTo = record {
     size = upTo .room;
     each = λ codes before changed known right. (
       record {
@@ -196,7 +185,7 @@ module _ (now : List ℤ) (n m : ℕ) (few : n ≤ 64) (new : List ℕ) (done : 
   }
 
 -- in an order of placing
-module _ (order : Order) (now : List ℤ) (n m : ℕ) (new : List ℕ) (done : Placement) (keys : List Nearest) (old : List ℕ) where
+module _ (order : Order) (now : List ℤ) (n m : ℕ) (new : List ℕ) (done : Placement) (keys old : List ℕ) where
   -- by advancement the keys stay
   pub advance-stays : order ≡ Advance → KeysNext order now n m new done keys old old keys
   unfolding keyBy
@@ -207,20 +196,16 @@ module _ (order : Order) (now : List ℤ) (n m : ℕ) (new : List ℕ) (done : P
         size = known .size;
         each = λ v unplaced.
             let change = changed v unplaced in
-            record {
-              key =
-                  known .each v (change .before) .key
-                  ∙ ap (λ (o : Order). keyBy o codes n m before v) is
-                  ∙ sym (change .advancement)
-                  ∙ ap (λ (o : Order). keyBy o now n m new v) (sym is);
-              interval = λ other. let never : _≡_ {A = ℕ} 0 1 = cc in absurd (omega arith);
-            };
+            known .each v (change .before)
+            ∙ ap (λ (o : Order). keyBy o codes n m before v) is
+            ∙ sym (change .advancement)
+            ∙ ap (λ (o : Order). keyBy o now n m new v) (sym is);
       },
       λ other. let never : _≡_ {A = ℕ} 0 1 = cc in absurd (omega arith),
     );
   }
 
   -- by closeness they are those that were found again
-  pub closest-renewed : order ≡ Closest → (table : List ℕ) (r : List Nearest) → KeysNext Closest now n m new done keys old table r
+  pub closest-renewed : order ≡ Closest → (table r : List ℕ) → KeysNext Closest now n m new done keys old table r
       → KeysNext order now n m new done keys old table r
   closest-renewed is table r found = rw is found

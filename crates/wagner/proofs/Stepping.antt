@@ -10,7 +10,6 @@ use Rattle.matrix.specs.Questions.{askMatrix}
 use Rattle.matrix.specs.declared.refusal.Refusal.{Refusal}
 use Rattle.matrix.specs.declared.refusal.Asked.{Asked}
 use Rattle.matrix.specs.declared.refusal.Asked.the-variants.{Passed, Refused}
-use Rattle.branching.specs.declared.placement.Nearest.{Nearest}
 use Rattle.branching.specs.declared.placement.Placement.{Placement}
 use Rattle.branching.specs.declared.placement.Unasked.{Unasked}
 use Rattle.branching.specs.Ancestors.{ancestors}
@@ -34,7 +33,7 @@ module _ (now new : List ℤ) (n m : ℕ) (before : Building) (b : ℕ) (done : 
   next-done = placed .placement ∙ ap (λ (v : ℕ). unasked now n m (ancestors (before .tree)) v .placement) chosen
 
   -- the build with it, and the keys that were found
-  pub next-more : (order : Order) (keys : List Nearest) (old table : List ℕ)
+  pub next-more : (order : Order) (keys old table : List ℕ)
       → KeysNext order new n m (ancestors (done .tree)) (done .placement) (before .keys) old table keys
       → (r : Building) → WithPlacement before done keys r → OneMore order now new n m before old table r
   unfolding nextPlacement nextOf
@@ -63,7 +62,7 @@ handed building asked = record {
 
 module _ (order : Order) (codes : List ℤ) (n m : ℕ) (building : Building) where
   -- a refusal: row 1 alone, no placement, and the matrix as before
-  pub build-refused : (refusal : Refusal) → askMatrix codes n m ≡ Refused refusal → (keys : List Nearest) → Begun keys building
+  pub build-refused : (refusal : Refusal) → askMatrix codes n m ≡ Refused refusal → (keys : List ℕ) → Begun keys building
       → BuildDone order codes codes n m (handed building (Refused refusal))
   unfolding buildSays placementsIn
   build-refused refusal told keys begun =

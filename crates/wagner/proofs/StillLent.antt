@@ -25,12 +25,14 @@ module _ (order : Order) (codes : List ℤ) (n m : ℕ) (lent : LentMatrix codes
 
   -- the row of a taxon
   taxon-same : (v : ℕ) → 1 ≤ v → v ≤ n → row after m v ≡ row codes m v
-  taxon-same = after-taxon difference codes n m (lent .characters) (ours-room order codes n m lent) (wagnerIn order codes n m) (ours-sound order codes n m lent)
+  taxon-same = after-taxon difference codes n m (lent .characters) (ours-room order codes n m lent) (wagnerIn order codes n m)
+      (ours-sound order codes n m lent)
 
   -- it is a lent matrix as before
   pub still-lent : LentMatrix after n m
   still-lent = record {
-    full = after-size difference codes n m (lent .characters) (ours-room order codes n m lent) (wagnerIn order codes n m) (ours-sound order codes n m lent) ∙ lent .full;
+    full = after-size difference codes n m (lent .characters) (ours-room order codes n m lent) (wagnerIn order codes n m)
+        (ours-sound order codes n m lent) ∙ lent .full;
     taxon = lent .taxon;
     taxa = lent .taxa;
     character = lent .character;

@@ -4,7 +4,7 @@ use mathlib.Core.List.{List, [], _∷_, _++_, append-assoc, append-nil}
 use Prim.Native.Nat.{ℕ, suc, _+_, _*_, _-_, _≤_, _<_}
 use native.Mathlib.Omega.{arith}
 use lib.IntN.{ℤ}
-use lib.ListN.{length, getD, set, drop, length-append, length-drop, drop-of-length-le}
+use lib.ListN.{length, set, drop, length-append, length-drop, drop-of-length-le}
 use lib.Seq.{drop-append-le}
 use Rattle.lists.specs.Filled.{filled}
 use Rattle.lists.specs.Over.{over, stripes}
@@ -17,7 +17,6 @@ use Rattle.matrix.specs.NodeRows.{rowsOf, withRow, withRows}
 use Rattle.matrix.specs.Questions.{LentMatrix}
 use Rattle.matrix.proofs.NodeRows.{length-rowsOf}
 use Rattle.difference.specs.Rows.{difference}
-use Rattle.branching.specs.declared.placement.Nearest.{Nearest}
 use Rattle.branching.specs.declared.placement.Placement.{Placement}
 use Rattle.branching.specs.Ancestors.{ancestors}
 use Rattle.branching.specs.Nodes.{Unplaced}
@@ -25,7 +24,7 @@ use Rattle.branching.specs.Facts.{alone}
 use Rattle.branching.specs.Hanging.{noBranches}
 use Rattle.branching.specs.Placing.{AfterPlacing, place}
 use Rattle.branching.specs.Placed.{lastRow, placeIn, matrixPlaced}
-use Rattle.branching.specs.Unasked.{noPlacement, noInterval, unasked}
+use Rattle.branching.specs.Unasked.{noPlacement, unasked}
 use Rattle.branching.proofs.Nodes.{node-nodesIn, noBranches-none, noBranches-places}
 use Rattle.branching.proofs.Unasked.{AsPlaced, unasked-placed, no-row}
 use Rattle.branching.proofs.Standing.{Standing, standing-placed, standing-test, last-is, Step, first, later, placed-step, added-most}
@@ -39,7 +38,7 @@ use Rattle.wagner.specs.Answers.{mostPlacements, wagnerIn}
 use Rattle.wagner.specs.Order.{Keys, Advancements}
 use Rattle.wagner.specs.Closeness.{Table}
 use Rattle.wagner.specs.Steps.{Begun, nextOf, nextPlacement, OneMore, BuiltFrom}
-use Rattle.wagner.proofs.Choosing.{alone-right, next-right}
+use Rattle.wagner.proofs.Choosing.{alone-key, next-right}
 use Rattle.wagner.proofs.Changing.{placed-changed}
 use Rattle.wagner.proofs.Whole.{order-chooses}
 use Rattle.wagner.proofs.Difference.{wagner-length}
@@ -62,7 +61,6 @@ pub record UnderWay
     (kept : List ℕ)
     (done : List Placement) : Type 0 where
   pub standing : Standing now n m placed (ancestors (building .tree))
-  pub taxa : (v : ℕ) → 1 ≤ v → v ≤ n → row now m v ≡ row codes m v
   pub written : now ≡ withRows codes (suc n) (drop n (rowsNow now n m (ancestors (building .tree))))
   pub list : building .placements ≡ filled mostPlacements noPlacement done
   pub count : building .count ≡ length done
@@ -98,19 +96,18 @@ module _ (order : Order) (codes : List ℤ) (n m : ℕ) (lent : LentMatrix codes
   alone-left = ap (λ (last : ℕ). buildOn difference (nextBy difference order) n (n - 1) noBranches (rowsOf codes m last)) (sym alone-last)
 
   -- by advancement or closeness, the keys before the first link are the advancements
-  alone-keys : (keys : List Nearest) → Advancements codes n m keys → Keys order codes n m noBranches keys
+  alone-keys : (keys : List ℕ) → Advancements codes n m keys → Keys order codes n m noBranches keys
   alone-keys keys known = record {
     size = known .size;
-    each = λ v u. alone-right order codes n m v (getD keys v noInterval) (known .each v (omega (arith, u .other)) (u .taxon));
+    each = λ v u. known .each v (omega (arith, u .other)) (u .taxon) ∙ alone-key order codes n m v;
   }
 
-  pub begun-underWay : (keys : List Nearest) → Advancements codes n m keys → (table : List ℕ) (building : Building) → Begun keys building
+  pub begun-underWay : (keys : List ℕ) → Advancements codes n m keys → (table : List ℕ) (building : Building) → Begun keys building
       → UnderWay order codes codes n m 1 building table []
   unfolding addedLength sumOver
   begun-underWay keys known table building begun =
       record {
         standing = rw (begun .tree) alone-standing;
-        taxa = λ v low high. refl;
         written = rw (begun .tree) alone-written;
         list = begun .placements;
         count = begun .count;
@@ -195,7 +192,11 @@ module _ (order : Order) (codes now : List ℤ) (n m placed : ℕ) (before : Bui
   rest = left order (matrixPlaced now n m tree b) n m (placed + 1) (ours .tree)
 
   -- what was left is the placement, and what is left behind it
-  left-next : left order now n m placed tree ≡ record { tree = rest .tree; rows = rest .rows; placements = ours .placement ∷ rest .placements }
+  left-next : left order now n m placed tree ≡ record {
+    tree = rest .tree;
+    rows = rest .rows;
+    placements = ours .placement ∷ rest .placements;
+  }
   unfolding buildOn placeIn
   left-next =
       let count : n - placed ≡ suc (n - (placed + 1)) = omega arith in
@@ -229,9 +230,6 @@ module _ (order : Order) (codes now : List ℤ) (n m placed : ℕ) (before : Bui
       more .keys (rw (grown, held, same .placement) (placed-changed now n m placed tree (w .standing) b fresh)) (w .keys) (w .table) in
       record {
         standing = rw (grown, held, one) (placed-standing now n m placed tree (w .standing) b fresh);
-        taxa = λ v low high. rw held
-            (placed-other now n m placed tree (w .standing) b fresh v low (omega (arith, last-is now n m placed tree (w .standing)))
-            ∙ w .taxa v low high);
         written = rw (grown, held) (written-next ∙ ap (λ (all : List (List ℤ)). withRows codes (suc n) (drop n all)) (sym rows-next));
         list =
             more .placements
@@ -255,7 +253,8 @@ module _ (order : Order) (codes now : List ℤ) (n m placed : ℕ) (before : Bui
       }
 
 -- all taxa placed, the build is done
-pub done-underWay : (order : Order) (codes now : List ℤ) (n m placed : ℕ) (building : Building) (table : List ℕ) (done : List Placement) → LentMatrix codes n m
+pub done-underWay : (order : Order) (codes now : List ℤ) (n m placed : ℕ) (building : Building) (table : List ℕ) (done : List Placement)
+    → LentMatrix codes n m
     → UnderWay order codes now n m placed building table done → placed ≡ n → BuiltFrom order codes now n m building
 unfolding buildOn matrixAfter
 done-underWay order codes now n m placed building table done lent w all =

@@ -9,13 +9,12 @@ use lib.ListN.{length, getD}
 use Rattle.lists.specs.Least.{leastOf}
 use Rattle.matrix.specs.Shape.{row}
 use Rattle.difference.specs.Rows.{difference, nodeDifference}
-use Rattle.branching.specs.declared.placement.Nearest.{Nearest}
 use Rattle.branching.specs.declared.placement.Placement.{Placement}
 use Rattle.branching.specs.Nodes.{nodesIn, otherNodes, Unplaced}
 use Rattle.branching.specs.Unasked.{intervalAt}
 use Rattle.wagner.specs.declared.order.Order.{Order}
 use Rattle.wagner.specs.declared.order.Order.the-variants.{Closest}
-use Rattle.wagner.specs.Order.{Right, Keys}
+use Rattle.wagner.specs.Order.{keyCount, keyBy, Keys}
 
 -- so many places are kept for a taxon, one for each node
 abbrev pub stripe : ℕ
@@ -23,7 +22,7 @@ stripe = 128
 
 -- and so many for all, by row; those of row 0 are of no taxon
 abbrev pub keptSize : ℕ
-keptSize = 8320
+keptSize = keyCount * stripe
 
 -- what is kept of taxon v and the interval with lower end c
 unfoldable pub kept : List ℕ → ℕ → ℕ → ℕ
@@ -49,10 +48,9 @@ pub record KeptThree (codes : List ℤ) (m : ℕ) (tree : List ℕ) (v : ℕ) (d
   pub here : (e : ℕ) → e < stripe → (e ≡ done .taxon) ⊎ ((e ≡ done .htu) ⊎ (e ≡ done .lower)) → kept new v e ≡ intervalAt codes m tree v e
   pub else : (w e : ℕ) → e < stripe → (w ≢ v) ⊎ ((e ≢ done .taxon) × (e ≢ done .htu) × (e ≢ done .lower)) → kept new w e ≡ kept old w e
 
--- r is the interval for which the least is kept, the lower end's lower number among equals
-pub record NearestKept (table : List ℕ) (n : ℕ) (tree : List ℕ) (v : ℕ) (r : Nearest) : Type 0 where
-  pub lower : r .lower ≡ leastOf (kept table v) (intervals n tree)
-  pub added : r .added ≡ kept table v (r .lower)
+-- the least of what is kept of taxon v and the intervals of a tree
+unfoldable pub leastKept : List ℕ → ℕ → List ℕ → ℕ → ℕ
+leastKept table n tree v = kept table v (leastOf (kept table v) (intervals n tree))
 
 -- what a placement leaves for taxon v, which is not placed: it was not placed before, its advancement stays, there is an interval, and each
 -- interval belongs to the placement or is an earlier one from which the taxon is as far as before
@@ -70,13 +68,13 @@ abbrev pub AllChanged : List ℤ → List ℤ → ℕ → ℕ → List ℕ → L
 AllChanged codes now n m old new done = (v : ℕ) → Unplaced n new v → Changed codes now n m old new v done
 
 -- after a placement: what is kept of the other taxa is as before; what is kept of taxon v, and its key, are right again
-pub record RowRenewed (now : List ℤ) (n m : ℕ) (new : List ℕ) (v : ℕ) (done : Placement) (old table : List ℕ) (r : Nearest) : Type 0 where
+pub record RowRenewed (now : List ℤ) (n m : ℕ) (new : List ℕ) (v : ℕ) (done : Placement) (old table : List ℕ) (r : ℕ) : Type 0 where
   pub size : length table ≡ length old
   pub others : (w e : ℕ) → e < stripe → w ≢ v → kept table w e ≡ kept old w e
   pub row : (codes : List ℤ) (before : List ℕ) → Changed codes now n m before new v done → RowRight codes n m before v old
       → RowRight now n m new v table
   pub key : (codes : List ℤ) (before : List ℕ) → Changed codes now n m before new v done → RowRight codes n m before v old
-      → Right Closest now n m new v r
+      → r ≡ keyBy Closest now n m new v
 
 -- by closeness all that is kept of the taxa that are not placed is right
 abbrev pub Table : Order → List ℤ → ℕ → ℕ → List ℕ → List ℕ → Type 0
@@ -89,9 +87,7 @@ pub record KeysNext
     (n m : ℕ)
     (new : List ℕ)
     (done : Placement)
-    (keys : List Nearest)
-    (old table : List ℕ)
-    (r : List Nearest) : Type 0 where
+    (keys old table r : List ℕ) : Type 0 where
   pub size : length table ≡ length old
   pub each : (codes : List ℤ) (before : List ℕ) → AllChanged codes now n m before new done → Keys order codes n m before keys
       → Table order codes n m before old → Keys order now n m new r × Table order now n m new table

@@ -30,8 +30,8 @@ module _ (d : List ℤ → List ℤ → ℕ) where
   unfoldable pub byAdvancement : ℕ → List ℕ → List (List ℤ) → ℕ
   byAdvancement n tree rows = leastOf (advancement rows) (nodesOut tree (numbers 1 n))
 
-  -- the next taxon by closeness: that of the pair of an unplaced taxon and an interval with the least interval difference, the lower row among
-  -- equals, then the lower end's lower number; while there is no interval, the next by advancement
+  -- the next taxon by closeness: that of the pair of an unplaced taxon and an interval with the least interval difference, the lower row
+  -- among equals, then the lower end's lower number; while there is no interval, the next by advancement
   unfoldable pub byCloseness : ℕ → List ℕ → List (List ℤ) → ℕ
   byCloseness n tree rows =
       taxonOf (λ (pair : ℕ × ℕ). fromInterval d tree rows (pair .0) (pair .1)) (hangings n tree) (byAdvancement n tree rows)

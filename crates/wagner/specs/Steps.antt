@@ -9,7 +9,6 @@ use Rattle.lists.specs.Filled.{filled}
 use Rattle.lists.specs.Least.{leastOf}
 use Rattle.lists.specs.Numbers.{numbers}
 use Rattle.difference.specs.Rows.{difference}
-use Rattle.branching.specs.declared.placement.Nearest.{Nearest}
 use Rattle.branching.specs.declared.placement.Unasked.{Unasked}
 use Rattle.branching.specs.Ancestors.{ancestors}
 use Rattle.branching.specs.Nodes.{nodesOut}
@@ -24,7 +23,7 @@ use Rattle.wagner.specs.Order.{keyOf, Keys}
 use Rattle.wagner.specs.Closeness.{AllChanged, Table}
 
 -- a build before the first placement
-pub record Begun (given : List Nearest) (r : Building) : Type 0 where
+pub record Begun (given : List ℕ) (r : Building) : Type 0 where
   pub tree : ancestors (r .tree) ≡ noBranches
   pub placements : r .placements ≡ filled mostPlacements noPlacement []
   pub count : r .count ≡ 0
@@ -32,7 +31,7 @@ pub record Begun (given : List Nearest) (r : Building) : Type 0 where
   pub keys : r .keys ≡ given
 
 -- a build with one placement more
-pub record WithPlacement (before : Building) (done : Unasked) (given : List Nearest) (r : Building) : Type 0 where
+pub record WithPlacement (before : Building) (done : Unasked) (given : List ℕ) (r : Building) : Type 0 where
   pub tree : r .tree ≡ done .tree
   pub placements : r .placements ≡ set (before .placements) (before .count) (done .placement)
   pub count : r .count ≡ before .count + 1

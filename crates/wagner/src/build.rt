@@ -1,11 +1,10 @@
 // The whole build: from row 1 alone, taxon after taxon is placed, by rising advancement or the closest first.
 use crate::closeness::KEPT;
 use crate::closeness::next_keys;
+use crate::order::KEYS;
 use crate::order::Order;
 use crate::order::advancements;
 use crate::order::next_taxon;
-use crate::order::no_keys;
-use branching::placement::Nearest;
 use branching::placement::Placement;
 use branching::placement::Unasked;
 use branching::placement::no_placement;
@@ -40,11 +39,11 @@ struct Building {
     count: usize,
     placements: [Placement; 63],
     length: u64,
-    keys: [Nearest; 65],
+    keys: [u64; 65],
 }
 
 // A build before the first placement, with these keys.
-fn begun(keys: [Nearest; 65]) -> Building
+fn begun(keys: [u64; 65]) -> Building
     ensures { λ r. ⌜ Begun keys r ⌝ }
 {
     let none = no_placement();
@@ -58,7 +57,7 @@ fn begun(keys: [Nearest; 65]) -> Building
 }
 
 // A build with one placement more, and the keys after it.
-fn with_placement(mut building: Building, done: Unasked, keys: [Nearest; 65]) -> Building
+fn with_placement(mut building: Building, done: Unasked, keys: [u64; 65]) -> Building
     requires { ⌜ (building .count < 63) × (building .length + done .placement .added < 2 ^ 64) ⌝ }
     ensures { λ r. ⌜ WithPlacement building done keys r ⌝ }
 {
@@ -118,7 +117,7 @@ fn build_asked(asked: Asked, matrix: &mut [i32], n: usize, m: usize, order: Orde
 {
     match asked {
         Asked::Refused(refusal) => {
-            let none = begun(no_keys());
+            let none = begun([0; KEYS]);
             let tree = none.tree;
             let placements = none.placements;
             WagnerTree {
@@ -145,8 +144,8 @@ fn build_asked(asked: Asked, matrix: &mut [i32], n: usize, m: usize, order: Orde
     }
 }
 
-// The Wagner tree of a lent matrix of n taxa and m characters, in an order of placing. The codes of the HTUs are written into their rows of the matrix; a refusal
-// writes nothing.
+// The Wagner tree of a lent matrix of n taxa and m characters, in an order of placing. The codes of the HTUs are written into their rows of
+// the matrix; a refusal writes nothing.
 pub fn build(matrix: &mut [i32], n: usize, m: usize, order: Order) -> WagnerTree
     ensures { λ r. ⌜ BuildDone order (now (matrix .entry)) (now (matrix .exit)) n m r ⌝ }
 {

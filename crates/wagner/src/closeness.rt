@@ -1,14 +1,12 @@
-// The keys by closeness: for each taxon that is not placed, the interval on which it would be placed and the length that this would add. The
-// interval difference of each taxon from each interval is kept, and a placement changes it for three intervals alone.
+// The keys by closeness: for each taxon that is not placed, the length that its placement would add. The interval difference of each taxon
+// from each interval is kept, and a placement changes it for three intervals alone.
 use crate::order::KEYS;
 use crate::order::Order;
 use crate::order::is_placed;
 use crate::order::sooner;
-use branching::placement::Nearest;
 use branching::placement::Placement;
 use branching::tree::Tree;
 use difference::rows::interval_difference;
-use matrix::COLUMNS;
 use matrix::rows::row;
 ghost use mathlib.Core.Path.{_≡_};
 ghost use mathlib.Core.List.{List};
@@ -17,10 +15,13 @@ ghost use lib.ListN.{length};
 ghost use Rattle.matrix.specs.Shape.{mostTaxa, mostCharacters};
 ghost use Rattle.branching.specs.Ancestors.{ancestors, ancestor};
 ghost use Rattle.wagner.specs.declared.order.Order.the-variants.{Closest};
-ghost use Rattle.wagner.specs.Closeness.{keptSize, KeptOne, KeptThree, NearestKept, RowRenewed, KeysNext};
+ghost use Rattle.wagner.specs.Closeness.{keptSize, leastKept, KeptOne, KeptThree, RowRenewed, KeysNext};
+
+// For each taxon so many places are kept, one for each node.
+const STRIPE: usize = 128;
 
 // A place for each taxon and each node; those of row 0 are of no taxon.
-pub(crate) const KEPT: usize = KEYS * COLUMNS;
+pub(crate) const KEPT: usize = KEYS * STRIPE;
 
 // Keeps the interval difference of taxon v from the interval of node c, whose immediate ancestor is the node above.
 fn keep(table: &mut [u64], matrix: &[i32], m: usize, v: usize, c: usize, above: usize)
@@ -28,10 +29,10 @@ fn keep(table: &mut [u64], matrix: &[i32], m: usize, v: usize, c: usize, above: 
     ensures { λ _. ⌜ ((tree : List ℕ) → above ≡ ancestor tree c
         → KeptOne (now (matrix .entry)) m tree v c (now (table .entry)) (now (table .exit))) ⌝ }
 {
-    if COLUMNS <= c {
+    if STRIPE <= c {
         return;
     }
-    table[v * COLUMNS + c] = interval_difference(
+    table[v * STRIPE + c] = interval_difference(
         row(matrix, m, v),
         row(matrix, m, c),
         row(matrix, m, above),
@@ -51,13 +52,13 @@ fn keep_three(table: &mut [u64], matrix: &[i32], m: usize, tree: Tree, v: usize,
     keep(table, matrix, m, v, b, tree.ancestor(b));
 }
 
-// The nearest interval of taxon v by what is kept.
-fn nearest_kept(table: &[u64], n: usize, tree: Tree, v: usize) -> Nearest
+// The least of what is kept of taxon v and the intervals of a tree.
+fn least_kept(table: &[u64], n: usize, tree: Tree, v: usize) -> u64
     requires { ⌜ (2 ≤ n) × (n ≤ mostTaxa) × (v ≤ mostTaxa) × (length (now table) ≡ keptSize) ⌝ }
-    ensures { λ r. ⌜ NearestKept (now (table .entry)) n (ancestors tree) v r ⌝ }
+    ensures { λ r. ⌜ r ≡ leastKept (now (table .entry)) n (ancestors tree) v ⌝ }
 {
     let places = tree.ancestors;
-    let at = v * COLUMNS;
+    let at = v * STRIPE;
     let end = 2 * n - 1;
     let mut best = 0;
     let mut c = 2;
@@ -65,10 +66,7 @@ fn nearest_kept(table: &[u64], n: usize, tree: Tree, v: usize) -> Nearest
         best = sooner(best, c, places[c] == 0, table[at + c], table[at + best]);
         c += 1;
     }
-    Nearest {
-        lower: best,
-        added: table[at + best],
-    }
+    table[at + best]
 }
 
 // The key of taxon v after a placement; nothing is kept for a placed taxon.
@@ -80,27 +78,27 @@ fn renewed(
     tree: Tree,
     v: usize,
     done: Placement,
-) -> Nearest
+) -> u64
     requires { ⌜ (1 ≤ v) × (v ≤ n) × (n ≤ mostTaxa) × (m ≤ mostCharacters) × (length (now table) ≡ keptSize) ⌝ }
     ensures { λ r. ⌜ RowRenewed (now (matrix .entry)) n m (ancestors tree) v done (now (table .entry)) (now (table .exit)) r ⌝ }
 {
     if is_placed(v, tree.ancestor(v)) {
-        return Nearest { lower: 0, added: 0 };
+        return 0;
     }
     keep_three(table, matrix, m, tree, v, done);
-    nearest_kept(table, n, tree, v)
+    least_kept(table, n, tree, v)
 }
 
 // The keys by closeness after a placement.
 fn renew(
-    keys: [Nearest; 65],
+    keys: [u64; 65],
     table: &mut [u64],
     matrix: &[i32],
     n: usize,
     m: usize,
     tree: Tree,
     done: Placement,
-) -> [Nearest; 65]
+) -> [u64; 65]
     requires { ⌜ (n ≤ mostTaxa) × (m ≤ mostCharacters) × (length (now table) ≡ keptSize) ⌝ }
     ensures { λ r. ⌜ KeysNext Closest (now (matrix .entry)) n m (ancestors tree) done keys (now (table .entry)) (now (table .exit)) r ⌝ }
 {
@@ -117,14 +115,14 @@ fn renew(
 // The keys after a placement: by advancement they stay.
 pub(crate) fn next_keys(
     order: Order,
-    keys: [Nearest; 65],
+    keys: [u64; 65],
     table: &mut [u64],
     matrix: &[i32],
     n: usize,
     m: usize,
     tree: Tree,
     done: Placement,
-) -> [Nearest; 65]
+) -> [u64; 65]
     requires { ⌜ (n ≤ mostTaxa) × (m ≤ mostCharacters) × (length (now table) ≡ keptSize) ⌝ }
     ensures { λ r. ⌜ KeysNext order (now (matrix .entry)) n m (ancestors tree) done keys (now (table .entry)) (now (table .exit)) r ⌝ }
 {

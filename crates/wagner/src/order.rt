@@ -1,6 +1,5 @@
 // Which taxon is placed next: of those not yet placed, by rising row, the first of least key. By advancement, a taxon's key is its
 // difference from row 1; by closeness it is the length that the taxon's placement would add.
-use branching::placement::Nearest;
 use branching::tree::Tree;
 use difference::rows::difference;
 use matrix::rows::row;
@@ -8,12 +7,10 @@ ghost use mathlib.Core.Path.{_≡_};
 ghost use mathlib.Core.Bool.{Bool, not};
 ghost use mathlib.Core.List.{List};
 ghost use Prim.Native.Nat.{ℕ, _≤_};
-ghost use lib.ListN.{replicate};
 ghost use Rattle.matrix.specs.Shape.{mostTaxa, mostCharacters};
 ghost use Rattle.branching.specs.Ancestors.{ancestors, ancestor};
 ghost use Rattle.branching.specs.Nodes.{inTree};
-ghost use Rattle.branching.specs.Unasked.{noInterval};
-ghost use Rattle.wagner.specs.Order.{keyCount, keyOf, Advancements, Sooner, NextTaxon};
+ghost use Rattle.wagner.specs.Order.{keyOf, Advancements, Sooner, NextTaxon};
 
 // A place for the key of each taxon, by row; place 0 is that of no taxon.
 pub const KEYS: usize = 65;
@@ -24,24 +21,15 @@ pub enum Order {
     Closest,
 }
 
-// No interval, and 0 for the key.
-pub(crate) fn no_keys() -> [Nearest; 65]
-    ensures { λ r. ⌜ r ≡ replicate keyCount noInterval ⌝ }
-{
-    let none = Nearest { lower: 0, added: 0 };
-    [none; KEYS]
-}
-
-// The advancement of each of the taxa 1 to n, its difference from row 1, as the key; and no interval.
-pub(crate) fn advancements(matrix: &[i32], n: usize, m: usize) -> [Nearest; 65]
+// The advancement of each of the taxa 1 to n: its difference from row 1.
+pub(crate) fn advancements(matrix: &[i32], n: usize, m: usize) -> [u64; 65]
     requires { ⌜ (n ≤ mostTaxa) × (m ≤ mostCharacters) ⌝ }
     ensures { λ r. ⌜ Advancements (now (matrix .entry)) n m r ⌝ }
 {
-    let mut keys = no_keys();
+    let mut keys = [0; KEYS];
     let mut v = 1;
     while v <= n {
-        let added = difference(row(matrix, m, v), row(matrix, m, 1));
-        keys[v] = Nearest { lower: 0, added };
+        keys[v] = difference(row(matrix, m, v), row(matrix, m, 1));
         v += 1;
     }
     keys
@@ -57,8 +45,8 @@ pub(crate) fn is_placed(v: usize, above: usize) -> bool
     1 <= above
 }
 
-// Of the one chosen among those gone through (0: none yet) and v, the one to choose: v if it is not passed over and its own key is less than
-// the least so far.
+// Of the one chosen among those gone through (0: none yet) and v, the one to choose: v if it is not passed over and its own key is less
+// than the least so far.
 pub(crate) fn sooner(best: usize, v: usize, over: bool, own: u64, least: u64) -> usize
     ensures { λ r. ⌜ ((key : ℕ → ℕ) (test : ℕ → Bool) → over ≡ not (test v) → own ≡ key v → least ≡ key best
         → Sooner key test best v r) ⌝ }
@@ -76,7 +64,7 @@ pub(crate) fn sooner(best: usize, v: usize, over: bool, own: u64, least: u64) ->
 }
 
 // The taxon to place next, and 0 if all are placed.
-pub(crate) fn next_taxon(tree: Tree, keys: [Nearest; 65], n: usize) -> usize
+pub(crate) fn next_taxon(tree: Tree, keys: [u64; 65], n: usize) -> usize
     requires { ⌜ n ≤ mostTaxa ⌝ }
     ensures { λ r. ⌜ NextTaxon (keyOf keys) n (ancestors tree) r ⌝ }
 {
@@ -85,7 +73,7 @@ pub(crate) fn next_taxon(tree: Tree, keys: [Nearest; 65], n: usize) -> usize
     let mut v = 1;
     while v <= n {
         let placed = is_placed(v, places[v]);
-        best = sooner(best, v, placed, keys[v].added, keys[best].added);
+        best = sooner(best, v, placed, keys[v], keys[best]);
         v += 1;
     }
     best

@@ -124,7 +124,8 @@ module _ (n : ℕ) (taxa : 1 ≤ n) where
   build-small order (suc count) tree rows inside near =
       let b = nextBy difference order n tree rows in
       let now = place-small tree rows inside near b (taxon-within difference order tree rows) in
-      let rest = build-small order count (place difference n tree rows b .tree) (place difference n tree rows b .rows) (now .ancestors) (now .rows) in
+      let rest = build-small order count (place difference n tree rows b .tree) (place difference n tree rows b .rows)
+      (now .ancestors) (now .rows) in
       record {
         ancestors = rest .ancestors;
         placements = λ p m. ⊎-elim (λ e. rw e (now .placement)) (rest .placements p) (List·Memᴰ·cases-cons m);

@@ -179,7 +179,8 @@ module _ (job : Job) (within : JobWithinLimits job) where
   wagner-total-size =
       let total = wagnerLength difference (job .n) (builtOf plain job) in
       let most = sum-most (λ (p : Placement). p .added) mostApart (builtOf plain job .placements) (λ p m. small .placements p m .added) in
-      let below : total < 100000000 = omega (arith, wagner-total job within, most, wagner-count difference (orderMeant (job .order)) (job .n) (job .rows), known .taxa) in
+      let below : total < 100000000 =
+      omega (arith, wagner-total job within, most, wagner-count difference (orderMeant (job .order)) (job .n) (job .rows), known .taxa) in
       total-size "w" total refl below
 
   -- the `T` lines together

@@ -35,7 +35,8 @@ returns-2 : tie.Need-returns-2
 returns-2 c =
     let numbered = c .before .before in
     let told = numbered .before .before in
-    order-passed _ _ _ _ (sym (told .before .before .ask-order .ensures) ∙ told .enum-told .given .1) _ (numbered .order-numbered .ensures) _ _
+    order-passed _ _ _ _ (sym (told .before .before .ask-order .ensures) ∙ told .enum-told .given .1)
+    _ (numbered .order-numbered .ensures) _ _
     (c .before .build-in .ensures)
 
 pub wagner-build-spec : {M : Type 1} → statement M

@@ -36,7 +36,8 @@ returns c =
     record {
       is = λ names named.
           put-same
-          (results-listed _ _ (found .before .before .before .before .before .order-meant .ensures) _ _ _ _ _ (found .results-of .ensures) names _ named)
+          (results-listed _ _ (found .before .before .before .before .before .order-meant .ensures)
+          _ _ _ _ _ (found .results-of .ensures) names _ named)
           (put .put-results .ensures);
     }
 

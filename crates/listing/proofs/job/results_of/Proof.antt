@@ -32,7 +32,8 @@ returns c =
     let build = fit .before .before .before .before .before .before .before in
     let network = build .before .before .before in
     let start = network .before .before in
-    results-found _ _ _ _ _ (start .pre .0) _ _ _ _ _ _ (start .pre .1) _ (network .network .ensures) _ (build .build .ensures) _ (fit .fit-tree .ensures)
+    results-found _ _ _ _ _ (start .pre .0) _ _ _ _ _ _ (start .pre .1) _ (network .network .ensures)
+    _ (build .build .ensures) _ (fit .fit-tree .ensures)
     (kept .0) (kept .1 .0) (kept .1 .1 .0)
 
 pub results-of-spec : {M : Type 1} → statement M

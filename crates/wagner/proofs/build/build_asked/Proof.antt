@@ -10,9 +10,6 @@ use Rattle.wagner.proofs.build.build_asked.Tie as tie
 enum-known-asked : tie.Need-enum-known-asked
 enum-known-asked c = search needs
 
-no-keys-requires : tie.Need-no-keys-requires
-no-keys-requires c κs = search needs
-
 begun-requires : tie.Need-begun-requires
 begun-requires c κs = search needs
 
@@ -29,7 +26,7 @@ grow-requires c κs =
 
 returns : tie.Need-returns
 returns c =
-    let told = c .before .before .before .before .before in
+    let told = c .before .before .before .before in
     build-refused _ _ _ _ _ _ (sym (told .before .before .pre) ∙ told .asked .given .1) _ (c .before .before .begun .ensures)
 
 same-length : tie.Need-same-length
@@ -46,7 +43,6 @@ build-asked-spec =
     tie.close
     (tie.spec
     enum-known-asked
-    no-keys-requires
     begun-requires
     enum-told
     slice-aggregate-grow

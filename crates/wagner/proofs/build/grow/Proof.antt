@@ -1,6 +1,7 @@
 -- `wagner::build::grow` meets its contract. The loop's invariant: the build is under way, and what is left of it goes on from here.
 -- Assumes nothing.
 use Rattle.branching.specs.declared.placement.Placement.{Placement}
+use Rattle.wagner.specs.Closeness.{keptSize}
 use Rattle.matrix.specs.Questions.{LentMatrix}
 use lib.ListN.{length}
 use mathlib.Core.List.{[], List}
@@ -20,7 +21,7 @@ Inv-loop table₀ matrix₀ n m order building₀ placed₀ table matrix buildin
     × LentMatrix matrix₀ n m
     × ((done : List Placement) × UnderWay order matrix₀ matrix n m placed building table done)
     × (length table ≡ length table₀)
-    × (length table₀ ≡ 8320)
+    × (length table₀ ≡ keptSize)
 
 abbrev μ-loop : tie.MeasureT-loop
 μ-loop table₀ matrix₀ n m order building₀ placed₀ table matrix building placed = n - placed

@@ -31,7 +31,8 @@ returns : tie.Need-returns
 returns c =
     let place = c .before .before .before .before .before .before .before .before .before in
     let next = place .before .before in
-    next-more _ _ _ _ _ _ _ (next .next-taxon .ensures .is) (place .place-unasked .ensures) _ _ _ _ (c .before .before .before .next-keys .ensures) _
+    next-more _ _ _ _ _ _ _ (next .next-taxon .ensures .is) (place .place-unasked .ensures)
+    _ _ _ _ (c .before .before .before .next-keys .ensures) _
     (c .with-placement .ensures)
 
 pub place-next-spec : {M : Type 1} → statement M

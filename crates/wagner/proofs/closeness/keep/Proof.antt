@@ -2,6 +2,7 @@
 use Prim.Native.Nat.{_<_}
 use native.Mathlib.Omega.{arith}
 use Rattle.branching.proofs.Searching.{interval-rows}
+use Rattle.wagner.specs.Closeness.{stripe}
 use Rattle.wagner.proofs.Renewing.{none-kept, one-kept}
 use borrow.Author.Needs.{needs}
 use Rattle.wagner.proofs.closeness.keep.Statement.{statement}
@@ -40,7 +41,7 @@ same-length c = search needs
 returns-2 : tie.Need-returns-2
 returns-2 c tree above =
     let start = c .before .before .before .before .before .before in
-    let low : start .args .c < 128 = omega (arith, c .before .before .before .before .if1 .left) in
+    let low : start .args .c < stripe = omega (arith, c .before .before .before .before .if1 .left) in
     one-kept _ _ tree _ _ _ _ low (start .pre .1) (start .pre .2)
     (interval-rows _ _ _ _ _ _ tree _ _ _ (start .pre .0) above (c .before .before .before .row .ensures) (c .before .before .row2 .ensures)
     (c .before .row3 .ensures) (c .interval-difference .ensures))

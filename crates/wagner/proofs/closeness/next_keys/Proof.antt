@@ -20,7 +20,8 @@ same-length : tie.Need-same-length
 same-length c = search needs
 
 returns-2 : tie.Need-returns-2
-returns-2 c = closest-renewed _ _ _ _ _ _ _ _ (c .before .before .before .before .enum-told2 .given .1) _ _ (c .before .before .renew .ensures)
+returns-2 c = closest-renewed _ _ _ _ _ _ _ _ (c .before .before .before .before .enum-told2 .given .1)
+    _ _ (c .before .before .renew .ensures)
 
 pub next-keys-spec : {M : Type 1} → statement M
 next-keys-spec = tie.close (tie.spec enum-told enum-told-2 renew-requires returns same-length returns-2)

@@ -1,10 +1,11 @@
--- `wagner::closeness::renew` meets its contract. The loop's invariant: keys and what is kept of the taxa before v are right after the placement, and
--- those of the others are as they were. Assumes nothing.
+-- `wagner::closeness::renew` meets its contract. The loop's invariant: keys and what is kept of the taxa before v are right after the
+-- placement, and what is kept of the others is as it was. Assumes nothing.
 use mathlib.Core.Path.{_≡_, refl, _∙_}
 use Prim.Native.Nat.{_+_, _-_, _≤_}
 use native.Mathlib.Omega.{arith}
 use lib.ListN.{length}
 use Rattle.branching.specs.Ancestors.{ancestors}
+use Rattle.wagner.specs.Closeness.{keptSize}
 use Rattle.wagner.proofs.Renewing.{RenewedUpTo, renewed-start, renewed-next, renewed-all}
 use borrow.Author.Needs.{needs}
 use Rattle.wagner.proofs.closeness.renew.Statement.{statement}
@@ -17,8 +18,8 @@ Inv-loop table₀ matrix n m tree done all₀ v₀ table all v =
     × (n ≤ 64)
     × (m ≤ 128)
     × (length table ≡ length table₀)
-    × (length table₀ ≡ 8320)
-    × RenewedUpTo matrix n m (ancestors tree) done all₀ table₀ v table all
+    × (length table₀ ≡ keptSize)
+    × RenewedUpTo matrix n m (ancestors tree) done table₀ v table all
 
 abbrev μ-loop : tie.MeasureT-loop
 μ-loop table₀ matrix n m tree done all₀ v₀ table all v = n + 1 - v
@@ -35,8 +36,8 @@ renewed-requires c κs = search needs
 mul-all : tie.Need-mul-all Inv-loop μ-loop
 mul-all c = search needs
 
-array-set-from-all : tie.Need-array-set-from-all Inv-loop μ-loop
-array-set-from-all c = search needs
+array-write-all : tie.Need-array-write-all Inv-loop μ-loop
+array-write-all c = search needs
 
 add-v : tie.Need-add-v Inv-loop μ-loop
 add-v c = search needs
@@ -54,7 +55,7 @@ loop-again c =
       inv .3,
       row .renewed .ensures .size ∙ inv .4,
       inv .5,
-      renewed-next _ _ _ (inv .2) _ _ _ _ _ _ _ _ _ (omega arith) (inv .6) (row .renewed .ensures),
+      renewed-next _ _ _ (inv .2) _ _ _ _ _ _ _ _ (omega arith) (inv .6) (row .renewed .ensures),
     )
 
 same-length : tie.Need-same-length Inv-loop μ-loop
@@ -74,7 +75,7 @@ renew-spec =
     loop-holds
     renewed-requires
     mul-all
-    array-set-from-all
+    array-write-all
     add-v
     loop-less
     loop-again

@@ -1,5 +1,5 @@
 -- `wagner::closeness::renewed` meets its contract. Assumes nothing.
-use mathlib.Core.Path.{_≡_, sym, _∙_}
+use mathlib.Core.Path.{sym, _∙_}
 use mathlib.Core.Bool.{true≢false}
 use Prim.Native.Nat.{_≤_}
 use native.Mathlib.Omega.{arith}
@@ -29,8 +29,8 @@ returns c =
 keep-three-requires : tie.Need-keep-three-requires
 keep-three-requires c κs = search needs
 
-nearest-kept-requires : tie.Need-nearest-kept-requires
-nearest-kept-requires c κs =
+least-kept-requires : tie.Need-least-kept-requires
+least-kept-requires c κs =
     let kept = c .before .before .before in
     let test = kept .before .before in
     let start = test .before .before .before .before in
@@ -47,7 +47,7 @@ returns-2 : tie.Need-returns-2
 returns-2 c =
     let kept = c .before .before .before .before in
     let start = kept .before .before .before .before .before .before in
-    row-renewed _ _ _ (start .pre .2) _ _ _ _ _ (kept .keep-three .ensures) _ (c .nearest-kept .ensures)
+    row-renewed _ _ _ (start .pre .2) _ _ _ _ _ (kept .keep-three .ensures) _ (c .least-kept .ensures)
 
 pub renewed-spec : {M : Type 1} → statement M
 renewed-spec =
@@ -57,6 +57,6 @@ renewed-spec =
     is-placed-requires
     returns
     keep-three-requires
-    nearest-kept-requires
+    least-kept-requires
     same-length
     returns-2)

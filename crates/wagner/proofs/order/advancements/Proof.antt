@@ -2,9 +2,9 @@
 use Rattle.matrix.specs.Shape.{row}
 use Rattle.wagner.proofs.Choosing.{key-next}
 use Rattle.matrix.proofs.Row.{row-128}
-use Rattle.branching.specs.Unasked.{noInterval}
+use Rattle.wagner.specs.Order.{keyOf}
 use Rattle.difference.specs.Rows.{difference, nodeDifference}
-use lib.ListN.{length, getD, take, length-set}
+use lib.ListN.{length, take, length-set}
 use Prim.Native.Nat.{_+_, _≤_, _-_, ℕ, _<_}
 use native.Mathlib.Omega.{arith}
 use mathlib.Core.Path.{refl, _∙_, ap₂, _≡_, ap}
@@ -19,19 +19,13 @@ Inv-loop matrix n m keys₀ v₀ keys v =
     × (n ≤ 64)
     × (m ≤ 128)
     × (length keys ≡ 65)
-    × ((u : ℕ) → 1 ≤ u → u < v
-    → getD keys u noInterval ≡ record { lower = 0; added = nodeDifference difference (row matrix m) u 1 })
+    × ((u : ℕ) → 1 ≤ u → u < v → keyOf keys u ≡ nodeDifference difference (row matrix m) u 1)
 
 abbrev μ-loop : tie.MeasureT-loop
 μ-loop matrix n m keys₀ v₀ keys v = n + 1 - v
 
-no-keys-requires : tie.Need-no-keys-requires Inv-loop μ-loop
-no-keys-requires c κs = search needs
-
 loop-holds : tie.Need-loop-holds Inv-loop μ-loop
-loop-holds c =
-    let pre = c .before .pre in
-    (omega arith, omega arith, pre .0, pre .1, ap length (c .no-keys .ensures), λ u low high. absurd (omega arith))
+loop-holds c = (omega arith, omega arith, c .pre .0, c .pre .1, refl, λ u low high. absurd (omega arith))
 
 row-requires : tie.Need-row-requires Inv-loop μ-loop
 row-requires c κs = search needs
@@ -45,8 +39,8 @@ difference-requires c κs = search needs
 mul-keys : tie.Need-mul-keys Inv-loop μ-loop
 mul-keys c = search needs
 
-array-set-from-keys : tie.Need-array-set-from-keys Inv-loop μ-loop
-array-set-from-keys c = search needs
+array-write-keys : tie.Need-array-write-keys Inv-loop μ-loop
+array-write-keys c = search needs
 
 add-v : tie.Need-add-v Inv-loop μ-loop
 add-v c = search needs
@@ -58,7 +52,7 @@ loop-again : tie.Need-loop-again Inv-loop μ-loop
 loop-again c =
     let at = c .before .before .before .before in
     let inv = at .loop .inv in
-    let a = at .before .before .args in
+    let a = at .before .args in
     let codes = a .matrix .now in
     let v = at .loop .v in
     let is =
@@ -85,13 +79,12 @@ advancements-spec =
     (tie.spec
     Inv-loop
     μ-loop
-    no-keys-requires
     loop-holds
     row-requires
     row-requires-2
     difference-requires
     mul-keys
-    array-set-from-keys
+    array-write-keys
     add-v
     loop-less
     loop-again

@@ -32,14 +32,14 @@ is-placed-requires c κs = search needs
 mul-sooner : tie.Need-mul-sooner Inv-loop μ-loop
 mul-sooner c = search needs
 
-element-copy-out-sooner : tie.Need-element-copy-out-sooner Inv-loop μ-loop
-element-copy-out-sooner c = search needs
+array-read-sooner : tie.Need-array-read-sooner Inv-loop μ-loop
+array-read-sooner c = search needs
 
 mul-sooner-2 : tie.Need-mul-sooner-2 Inv-loop μ-loop
 mul-sooner-2 c = search needs
 
-element-copy-out-sooner-2 : tie.Need-element-copy-out-sooner-2 Inv-loop μ-loop
-element-copy-out-sooner-2 c = search needs
+array-read-sooner-2 : tie.Need-array-read-sooner-2 Inv-loop μ-loop
+array-read-sooner-2 c = search needs
 
 sooner-requires : tie.Need-sooner-requires Inv-loop μ-loop
 sooner-requires c κs = search needs
@@ -77,9 +77,9 @@ next-taxon-spec =
     array-read-is-placed
     is-placed-requires
     mul-sooner
-    element-copy-out-sooner
+    array-read-sooner
     mul-sooner-2
-    element-copy-out-sooner-2
+    array-read-sooner-2
     sooner-requires
     add-v
     loop-less

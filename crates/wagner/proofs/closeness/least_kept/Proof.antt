@@ -1,4 +1,4 @@
--- `wagner::closeness::nearest_kept` meets its contract. The loop's invariant: `best` is the nearest interval of those passed. Assumes nothing.
+-- `wagner::closeness::least_kept` meets its contract. The loop's invariant: `best` is the one chosen of those passed. Assumes nothing.
 use mathlib.Core.Path.{_≡_, refl, sym}
 use Prim.Native.Nat.{_+_, _*_, _-_, _≤_}
 use native.Mathlib.Omega.{arith}
@@ -7,23 +7,23 @@ use Rattle.lists.specs.Least.{scanned}
 use Rattle.lists.proofs.Least.{scan-start}
 use Rattle.branching.specs.Ancestors.{ancestors, ancestor}
 use Rattle.branching.specs.Nodes.{inTree}
-use Rattle.wagner.specs.Closeness.{kept}
+use Rattle.wagner.specs.Closeness.{stripe, keptSize, kept}
 use Rattle.wagner.proofs.Choosing.{out-over, kept-end}
 use borrow.Author.Needs.{needs}
-use Rattle.wagner.proofs.closeness.nearest_kept.Statement.{statement}
-use Rattle.wagner.proofs.closeness.nearest_kept.Tie as tie
+use Rattle.wagner.proofs.closeness.least_kept.Statement.{statement}
+use Rattle.wagner.proofs.closeness.least_kept.Tie as tie
 
 abbrev Inv-loop : tie.InvT-loop
 Inv-loop table n v places at end best₀ c₀ best c =
     (2 ≤ c)
     × (c ≤ end)
     × (best ≤ 126)
-    × (at ≡ v * 128)
+    × (at ≡ v * stripe)
     × (end ≡ 2 * n - 1)
     × (v ≤ 64)
     × (2 ≤ n)
     × (n ≤ 64)
-    × (length table ≡ 8320)
+    × (length table ≡ keptSize)
     × (best ≡ scanned (kept table v) (inTree places) 2 c)
 
 abbrev μ-loop : tie.MeasureT-loop
@@ -96,23 +96,23 @@ loop-again c =
       next .is 2 (omega arith) (inv .0) (inv .9),
     )
 
-add-t10 : tie.Need-add-t10 Inv-loop μ-loop
-add-t10 c = search needs
+add-result : tie.Need-add-result Inv-loop μ-loop
+add-result c = search needs
 
-mul-t24 : tie.Need-mul-t24 Inv-loop μ-loop
-mul-t24 c = search needs
+mul-result : tie.Need-mul-result Inv-loop μ-loop
+mul-result c = search needs
 
-shared-slice-read-t26 : tie.Need-shared-slice-read-t26 Inv-loop μ-loop
-shared-slice-read-t26 c = search needs
+shared-slice-read-result : tie.Need-shared-slice-read-result Inv-loop μ-loop
+shared-slice-read-result c = search needs
 
 returns : tie.Need-returns Inv-loop μ-loop
 unfolding kept
 returns c =
     let loop = c .before .before .loop in
-    kept-end _ _ _ _ (loop .c) _ _ (loop .inv .6) (omega (arith, loop .inv .1, c .before .loop-test .left)) (loop .inv .9) refl
+    kept-end _ _ _ _ (loop .c) _ (loop .inv .6) (omega (arith, loop .inv .1, c .before .loop-test .left)) (loop .inv .9)
 
-pub nearest-kept-spec : {M : Type 1} → statement M
-nearest-kept-spec =
+pub least-kept-spec : {M : Type 1} → statement M
+least-kept-spec =
     tie.close
     (tie.spec
     Inv-loop
@@ -133,7 +133,7 @@ nearest-kept-spec =
     add-c
     loop-less
     loop-again
-    add-t10
-    mul-t24
-    shared-slice-read-t26
+    add-result
+    mul-result
+    shared-slice-read-result
     returns)
