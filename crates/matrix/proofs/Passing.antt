@@ -12,12 +12,12 @@ use lib.ListN.{length, getD}
 use Rattle.lists.proofs.Both.{or-cases}
 use Rattle.matrix.proofs.Row.{row-length}
 use Rattle.lists.specs.Numbers.{numbers}
-use Rattle.matrix.specs.Shape.{matrixSize, row, lastNode}
+use Rattle.matrix.specs.Shape.{columns, matrixSize, row, lastNode}
 use Rattle.matrix.specs.Outcomes.{ask, andThen}
-use Rattle.matrix.specs.Questions.{oneTo, withinLimits, allInRange, rowsInRange, askMatrix, LentMatrix, nodesExist, htuInRange}
-use Rattle.matrix.specs.Questions.{htusInRange, askNodes}
+use Rattle.matrix.specs.Questions.{oneTo, withinLimits, allInRange, rowsInRange, areWeights, askMatrix, LentMatrix, LentWeights}
+use Rattle.matrix.specs.Questions.{nodesExist, htuInRange, htusInRange, askNodes}
 use Rattle.matrix.specs.declared.refusal.Refusal.{Refusal}
-use Rattle.matrix.specs.declared.refusal.Refusal.the-variants.{BeyondLimits, CodeRange, ListSize, NotThere}
+use Rattle.matrix.specs.declared.refusal.Refusal.the-variants.{BeyondLimits, CodeRange, ListSize, NotThere, WeightForm}
 use Rattle.matrix.specs.declared.refusal.Asked.{Asked}
 use Rattle.matrix.specs.declared.refusal.Asked.the-variants.{Passed, Refused}
 use Rattle.lists.proofs.Every.{every-at, every-from, every-iff}
@@ -62,40 +62,56 @@ rowsInRange-from codes m n h = every-from (λ u. allInRange (row codes m u)) 0 (
         let small : i < n = rw length-numbers at below in
         rw (getD-numbers 1 n i 0 small) (h (1 + i) (omega arith) (omega arith))
 
--- the questions pass a lent matrix of n taxa and m characters, and nothing else
-pub matrix-passes : (codes : List ℤ) (n m : ℕ) → (askMatrix codes n m ≡ Passed) ↔ LentMatrix codes n m
+-- the questions pass a lent matrix of n taxa and m characters with its weights, and nothing else
+pub matrix-passes : (codes : List ℤ) (weights : List ℕ) (n m : ℕ)
+    → (askMatrix codes weights n m ≡ Passed) ↔ (LentMatrix codes n m × LentWeights weights m)
 unfolding askMatrix withinLimits
-matrix-passes codes n m = (passed, passes)
+matrix-passes codes weights n m = (passed, passes)
   where
-    passed : askMatrix codes n m ≡ Passed → LentMatrix codes n m
+    passed : askMatrix codes weights n m ≡ Passed → LentMatrix codes n m × LentWeights weights m
     passed e =
         let size = ask-passed (eqb (length codes) matrixSize) ListSize _ e in
-        let limits = ask-passed (withinLimits n m) BeyondLimits _ (size .1) in
-        let codes-known = ask-passed (rowsInRange codes m n) CodeRange Passed (limits .1) in
+        let weights-size = ask-passed (eqb (length weights) columns) ListSize _ (size .1) in
+        let limits = ask-passed (withinLimits n m) BeyondLimits _ (weights-size .1) in
+        let weights-known = ask-passed (areWeights weights m) WeightForm _ (limits .1) in
+        let codes-known = ask-passed (rowsInRange codes m n) CodeRange Passed (weights-known .1) in
         let both = and-eq-true-iff (oneTo 64 n) (oneTo 128 m) .0 (limits .0) in
         let taxa = oneTo-true 64 n (both .0) in
-        let characters = oneTo-true 128 m (both .1) in
-        record {
-          full = eqb-true _ _ (size .0);
-          taxon = taxa .0;
-          taxa = taxa .1;
-          character = characters .0;
-          characters = characters .1;
-          known = rowsInRange-at codes m n (codes-known .0);
-        }
+        let characters = oneTo-true 128 m (both .1) in (
+          record {
+            full = eqb-true _ _ (size .0);
+            taxon = taxa .0;
+            taxa = taxa .1;
+            character = characters .0;
+            characters = characters .1;
+            known = rowsInRange-at codes m n (codes-known .0);
+          },
+          record { full = eqb-true _ _ (weights-size .0); known = weights-known .0 },
+        )
 
-    passes : LentMatrix codes n m → askMatrix codes n m ≡ Passed
-    passes l =
+    passes : LentMatrix codes n m × LentWeights weights m → askMatrix codes weights n m ≡ Passed
+    passes (l, w) =
         rw (
           eq-eqb (length codes) matrixSize (l .full),
+          eq-eqb (length weights) columns (w .full),
           true-oneTo 64 n (l .taxon) (l .taxa),
           true-oneTo 128 m (l .character) (l .characters),
+          w .known,
           rowsInRange-from codes m n (l .known),
         )
 
+-- a matrix that passed is a lent one
+pub matrix-passed : (codes : List ℤ) (weights : List ℕ) (n m : ℕ) → askMatrix codes weights n m ≡ Passed → LentMatrix codes n m
+matrix-passed codes weights n m e = matrix-passes codes weights n m .0 e .0
+
+-- and its weights are lent ones
+pub weights-passed : (codes : List ℤ) (weights : List ℕ) (n m : ℕ) → askMatrix codes weights n m ≡ Passed → LentWeights weights m
+weights-passed codes weights n m e = matrix-passes codes weights n m .0 e .1
+
 -- what passed questions on a lent matrix and some nodes tell
-pub record NodesPassed (codes : List ℤ) (n m : ℕ) (nodes : List ℕ) : Type 0 where
+pub record NodesPassed (codes : List ℤ) (weights : List ℕ) (n m : ℕ) (nodes : List ℕ) : Type 0 where
   pub matrix : LentMatrix codes n m
+  pub weighted : LentWeights weights m
   pub exist : nodesExist n nodes ≡ true
   pub htus : htusInRange codes n m nodes ≡ true
 
@@ -105,19 +121,21 @@ andThen-passed Passed rest e = (refl, e)
 andThen-passed (Refused r) rest e = absurd (refused-not-passed r e)
 
 -- questions on a lent matrix and some nodes that pass tell that
-pub nodes-passed : (codes : List ℤ) (n m : ℕ) (nodes : List ℕ) → askNodes codes n m nodes ≡ Passed → NodesPassed codes n m nodes
+pub nodes-passed : (codes : List ℤ) (weights : List ℕ) (n m : ℕ) (nodes : List ℕ) → askNodes codes weights n m nodes ≡ Passed
+    → NodesPassed codes weights n m nodes
 unfolding askNodes
-nodes-passed codes n m nodes e =
-    let both = andThen-passed (askMatrix codes n m) _ e in
+nodes-passed codes weights n m nodes e =
+    let both = andThen-passed (askMatrix codes weights n m) _ e in
     let existing = ask-passed (nodesExist n nodes) NotThere _ (both .1) in
     let known = ask-passed (htusInRange codes n m nodes) CodeRange Passed (existing .1) in
-    record { matrix = matrix-passes codes n m .0 (both .0); exist = existing .0; htus = known .0 }
+    let lent = matrix-passes codes weights n m .0 (both .0) in
+    record { matrix = lent .0; weighted = lent .1; exist = existing .0; htus = known .0 }
 
 -- a node that passed questions name has a row of m codes from -999 to 999
-pub node-passed : (codes : List ℤ) (n m : ℕ) (nodes : List ℕ) → NodesPassed codes n m nodes → (v : ℕ) → List·Memᴰ v nodes
-    → (length (row codes m v) ≡ m) × (allInRange (row codes m v) ≡ true)
+pub node-passed : (codes : List ℤ) (weights : List ℕ) (n m : ℕ) (nodes : List ℕ) → NodesPassed codes weights n m nodes → (v : ℕ)
+    → List·Memᴰ v nodes → (length (row codes m v) ≡ m) × (allInRange (row codes m v) ≡ true)
 unfolding nodesExist htusInRange htuInRange lastNode
-node-passed codes n m nodes passed v named =
+node-passed codes weights n m nodes passed v named =
     let lent = passed .matrix in
     let exists = oneTo-true (lastNode n) v (every-iff (oneTo (lastNode n)) nodes .0 (passed .exist) v named) in
     let known = every-iff (htuInRange codes n m) nodes .0 (passed .htus) v named in (

@@ -2,6 +2,7 @@
 pub mod questions;
 pub mod refusal;
 pub mod rows;
+pub mod weights;
 
 pub const ROWS: usize = 126;
 
@@ -14,3 +15,7 @@ pub const MOST_CHARACTERS: usize = 128;
 pub const LOWEST_CODE: i32 = -999;
 
 pub const HIGHEST_CODE: i32 = 999;
+
+pub const LIGHTEST: u8 = 1;
+
+pub const HEAVIEST: u8 = 9;

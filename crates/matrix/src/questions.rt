@@ -8,6 +8,7 @@ use crate::ROWS;
 use crate::refusal::Asked;
 use crate::refusal::Refusal;
 use crate::rows::row;
+use crate::weights::are_weights;
 ghost use mathlib.Core.Path.{_≡_};
 ghost use Rattle.matrix.specs.Shape.{mostTaxa, row, inRange, lastNode};
 ghost use Rattle.matrix.specs.Questions.{withinLimits, oneTo, allInRange, rowsInRange, askMatrix};
@@ -63,15 +64,21 @@ pub fn rows_in_range(matrix: &[i32], m: usize, n: usize) -> bool
     true
 }
 
-// The questions on a lent matrix alone: full size, limits, codes of the taxa.
-pub fn ask_matrix(matrix: &[i32], n: usize, m: usize) -> Asked
-    ensures { λ r. ⌜ r ≡ askMatrix (now (matrix .entry)) n m ⌝ }
+// The questions on a lent matrix and its weights alone: full sizes, limits, weights, codes of the taxa.
+pub fn ask_matrix(matrix: &[i32], weights: &[u8], n: usize, m: usize) -> Asked
+    ensures { λ r. ⌜ r ≡ askMatrix (now (matrix .entry)) (now (weights .entry)) n m ⌝ }
 {
     if matrix.len() != ROWS * COLUMNS {
         return Asked::Refused(Refusal::ListSize);
     }
+    if weights.len() != COLUMNS {
+        return Asked::Refused(Refusal::ListSize);
+    }
     if !within_limits(n, m) {
         return Asked::Refused(Refusal::BeyondLimits);
+    }
+    if !are_weights(weights, m) {
+        return Asked::Refused(Refusal::WeightForm);
     }
     if !rows_in_range(matrix, m, n) {
         return Asked::Refused(Refusal::CodeRange);
@@ -128,10 +135,10 @@ pub fn htus_in_range(matrix: &[i32], n: usize, m: usize, nodes: &[usize]) -> boo
 }
 
 // The questions of a call that names some nodes: those on the matrix, whether the nodes exist, and the rows of the HTUs among them.
-pub fn ask_nodes(matrix: &[i32], n: usize, m: usize, nodes: &[usize]) -> Asked
-    ensures { λ r. ⌜ r ≡ askNodes (now (matrix .entry)) n m (now (nodes .entry)) ⌝ }
+pub fn ask_nodes(matrix: &[i32], weights: &[u8], n: usize, m: usize, nodes: &[usize]) -> Asked
+    ensures { λ r. ⌜ r ≡ askNodes (now (matrix .entry)) (now (weights .entry)) n m (now (nodes .entry)) ⌝ }
 {
-    match ask_matrix(matrix, n, m) {
+    match ask_matrix(matrix, weights, n, m) {
         Asked::Refused(refusal) => Asked::Refused(refusal),
         Asked::Passed => {
             if !nodes_exist(n, nodes) {

@@ -19,6 +19,7 @@ pub enum Refusal {
     NotThere,
     NotBranching,
     UnknownOrder,
+    WeightForm,
 }
 
 // What the questions put to an input answer: nothing refuses it, or the first "no".
@@ -47,5 +48,6 @@ pub fn number(refusal: Refusal) -> u64
         Refusal::NotThere => 13,
         Refusal::NotBranching => 14,
         Refusal::UnknownOrder => 15,
+        Refusal::WeightForm => 16,
     }
 }

@@ -13,32 +13,68 @@ returns : tie.Need-returns
 unfolding askMatrix
 returns c = rw (ne-eqb _ _ (c .if1 .taken))
 
-within-limits-requires : tie.Need-within-limits-requires
-within-limits-requires c κs = search needs
-
 returns-2 : tie.Need-returns-2
 unfolding askMatrix
-returns-2 c =
-    let size = c .before .before .if1 .left in
-    let limits = c .before .within-limits .ensures in
-    rw (eq-eqb _ _ size, sym limits ∙ not-true _ (c .if2 .taken))
+returns-2 c = rw (eq-eqb _ _ (c .before .if1 .left), ne-eqb _ _ (c .if2 .taken))
 
-rows-in-range-requires : tie.Need-rows-in-range-requires
-rows-in-range-requires c κs = search needs
+within-limits-requires : tie.Need-within-limits-requires
+within-limits-requires c κs = search needs
 
 returns-3 : tie.Need-returns-3
 unfolding askMatrix
 returns-3 c =
-    let size = c .before .before .before .before .if1 .left in
-    let limits = sym (c .before .before .before .within-limits .ensures) ∙ not-false _ (c .before .before .if2 .left) in
-    rw (eq-eqb _ _ size, limits, sym (c .before .rows-in-range .ensures) ∙ not-true _ (c .if3 .taken))
+    let sizes = c .before .before in
+    rw (
+      eq-eqb _ _ (sizes .before .if1 .left),
+      eq-eqb _ _ (sizes .if2 .left),
+      sym (c .before .within-limits .ensures) ∙ not-true _ (c .if3 .taken),
+    )
+
+are-weights-requires : tie.Need-are-weights-requires
+are-weights-requires c κs = search needs
 
 returns-4 : tie.Need-returns-4
 unfolding askMatrix
 returns-4 c =
-    let size = c .before .before .before .before .if1 .left in
-    let limits = sym (c .before .before .before .within-limits .ensures) ∙ not-false _ (c .before .before .if2 .left) in
-    rw (eq-eqb _ _ size, limits, sym (c .before .rows-in-range .ensures) ∙ not-false _ (c .if3 .left))
+    let limits = c .before .before in
+    let sizes = limits .before .before in
+    rw (
+      eq-eqb _ _ (sizes .before .if1 .left),
+      eq-eqb _ _ (sizes .if2 .left),
+      sym (limits .before .within-limits .ensures) ∙ not-false _ (limits .if3 .left),
+      sym (c .before .are-weights .ensures) ∙ not-true _ (c .if4 .taken),
+    )
+
+rows-in-range-requires : tie.Need-rows-in-range-requires
+rows-in-range-requires c κs = search needs
+
+returns-5 : tie.Need-returns-5
+unfolding askMatrix
+returns-5 c =
+    let weighed = c .before .before in
+    let limits = weighed .before .before in
+    let sizes = limits .before .before in
+    rw (
+      eq-eqb _ _ (sizes .before .if1 .left),
+      eq-eqb _ _ (sizes .if2 .left),
+      sym (limits .before .within-limits .ensures) ∙ not-false _ (limits .if3 .left),
+      sym (weighed .before .are-weights .ensures) ∙ not-false _ (weighed .if4 .left),
+      sym (c .before .rows-in-range .ensures) ∙ not-true _ (c .if5 .taken),
+    )
+
+returns-6 : tie.Need-returns-6
+unfolding askMatrix
+returns-6 c =
+    let weighed = c .before .before in
+    let limits = weighed .before .before in
+    let sizes = limits .before .before in
+    rw (
+      eq-eqb _ _ (sizes .before .if1 .left),
+      eq-eqb _ _ (sizes .if2 .left),
+      sym (limits .before .within-limits .ensures) ∙ not-false _ (limits .if3 .left),
+      sym (weighed .before .are-weights .ensures) ∙ not-false _ (weighed .if4 .left),
+      sym (c .before .rows-in-range .ensures) ∙ not-false _ (c .if5 .left),
+    )
 
 pub ask-matrix-spec : {M : Type 1} → statement M
 ask-matrix-spec =
@@ -46,8 +82,11 @@ ask-matrix-spec =
     (tie.spec
     mul-if1
     returns
-    within-limits-requires
     returns-2
-    rows-in-range-requires
+    within-limits-requires
     returns-3
-    returns-4)
+    are-weights-requires
+    returns-4
+    rows-in-range-requires
+    returns-5
+    returns-6)

@@ -3,7 +3,7 @@ use mathlib.Core.Path.{sym, _∙_}
 use borrow.Author.Tests.{not-true, not-false}
 use borrow.Author.Needs.{needs}
 use Rattle.matrix.specs.Questions.{askNodes}
-use Rattle.matrix.proofs.Passing.{matrix-passes}
+use Rattle.matrix.proofs.Passing.{matrix-passed}
 use Rattle.matrix.proofs.questions.ask_nodes.Statement.{statement}
 use Rattle.matrix.proofs.questions.ask_nodes.Tie as tie
 
@@ -17,7 +17,7 @@ enum-told : tie.Need-enum-told
 enum-told c = search needs
 
 nodes-exist-requires : tie.Need-nodes-exist-requires
-nodes-exist-requires c κs = matrix-passes _ _ _ .0 (sym (c .before .before .ask-matrix .ensures) ∙ c .enum-told .given .1) .taxa
+nodes-exist-requires c κs = matrix-passed _ _ _ _ (sym (c .before .before .ask-matrix .ensures) ∙ c .enum-told .given .1) .taxa
 
 returns : tie.Need-returns
 unfolding askNodes
