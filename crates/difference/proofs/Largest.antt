@@ -1,10 +1,11 @@
--- The largest difference is reached: 128 characters, -999 against 999.
+-- The largest difference is reached: 128 characters of weight 9, -999 against 999.
 use mathlib.Core.Path.{_≡_, refl}
 use lib.IntN.{pos, negsuc}
 use lib.ListN.{replicate}
-use Rattle.difference.specs.Rows.{apart, difference}
+use Rattle.matrix.specs.Shape.{columns, heaviest, weightAt}
+use Rattle.difference.specs.Rows.{apart, part, difference, mostDifference}
 
--- 128 times 1998
-pub largest : difference (replicate 128 (negsuc 998)) (replicate 128 (pos 999)) ≡ 255744
-unfolding apart difference
+-- 128 times 9 times 1998
+pub largest : difference (replicate columns heaviest) (replicate columns (negsuc 998)) (replicate columns (pos 999)) ≡ mostDifference
+unfolding apart part weightAt difference
 largest = refl

@@ -3,6 +3,7 @@
 pub mod Order
 pub mod Places
 pub mod Codes
+pub mod Weights
 pub mod Rows
 pub mod Parts
 pub mod Measure

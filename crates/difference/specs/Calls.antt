@@ -23,21 +23,22 @@ lengthSays (Is length) = value length
 lengthSays (Refused refusal) = refused (refusalNumber refusal) 0
 
 -- the difference of nodes a and b
-unfoldable pub differenceAnswer : List ℤ → ℕ → ℕ → ℕ → ℕ → Outcome ℕ
-differenceAnswer codes n m a b =
-    answered (askNodes codes n m (a ∷ b ∷ [])) (difference (row codes m a) (row codes m b))
+unfoldable pub differenceAnswer : List ℤ → List ℕ → ℕ → ℕ → ℕ → ℕ → Outcome ℕ
+differenceAnswer codes weights n m a b =
+    answered (askNodes codes weights n m (a ∷ b ∷ [])) (difference weights (row codes m a) (row codes m b))
 
 -- the interval difference of node b from the interval between nodes c and d
-unfoldable pub intervalAnswer : List ℤ → ℕ → ℕ → ℕ → ℕ → ℕ → Outcome ℕ
-intervalAnswer codes n m b c d =
-    answered (askNodes codes n m (b ∷ c ∷ d ∷ [])) (intervalDifference (row codes m b) (row codes m c) (row codes m d))
+unfoldable pub intervalAnswer : List ℤ → List ℕ → ℕ → ℕ → ℕ → ℕ → ℕ → Outcome ℕ
+intervalAnswer codes weights n m b c d =
+    answered (askNodes codes weights n m (b ∷ c ∷ d ∷ []))
+    (intervalDifference weights (row codes m b) (row codes m c) (row codes m d))
 
 -- the questions of the call for medians: the lent row has 128 codes, then those on the matrix and the three nodes
-unfoldable pub askMedians : List ℤ → ℕ → ℕ → ℕ → ℕ → ℕ → List ℤ → Asked
-askMedians codes n m a b c out = ask (eqb (length out) columns) ListSize (askNodes codes n m (a ∷ b ∷ c ∷ []))
+unfoldable pub askMedians : List ℤ → List ℕ → ℕ → ℕ → ℕ → ℕ → ℕ → List ℤ → Asked
+askMedians codes weights n m a b c out = ask (eqb (length out) columns) ListSize (askNodes codes weights n m (a ∷ b ∷ c ∷ []))
 
 -- the call for medians answers its questions; the lent row then has the medians over its first m codes, or is as before
-pub record MediansAnswer (codes : List ℤ) (n m a b c : ℕ) (old new : List ℤ) (r : Asked) : Type 0 where
-  pub says : askedSays r ≡ askedSays (askMedians codes n m a b c old)
+pub record MediansAnswer (codes : List ℤ) (weights : List ℕ) (n m a b c : ℕ) (old new : List ℤ) (r : Asked) : Type 0 where
+  pub says : askedSays r ≡ askedSays (askMedians codes weights n m a b c old)
   pub lent : new
-      ≡ afterwards (askedSays (askMedians codes n m a b c old)) (over 0 (medians (row codes m a) (row codes m b) (row codes m c)) old) old
+      ≡ afterwards (askedSays (askMedians codes weights n m a b c old)) (over 0 (medians (row codes m a) (row codes m b) (row codes m c)) old) old

@@ -3,13 +3,20 @@ ghost use mathlib.Core.Path.{_≡_};
 ghost use Prim.Native.Nat.{_<_, _^_};
 ghost use lib.IntN.{natAbs};
 ghost use lib.Signed.{mag};
-ghost use Rattle.difference.specs.Rows.{apart, lower, higher, median};
+ghost use Rattle.difference.specs.Rows.{apart, part, lower, higher, median};
 
 // A code as a wider number.
 fn wide(code: i32) -> i64
     ensures { λ r. ⌜ r ≡ code ⌝ }
 {
     code as i64
+}
+
+// A weight as a wider number.
+fn times(weight: u8) -> u64
+    ensures { λ r. ⌜ r ≡ weight ⌝ }
+{
+    weight as u64
 }
 
 // How far a number is from zero. The caller keeps it away from the least i64, whose negation does not fit.
@@ -28,6 +35,13 @@ pub fn apart(a: i32, b: i32) -> u64
     ensures { λ r. ⌜ r ≡ apart a b ⌝ }
 {
     magnitude(wide(a) - wide(b))
+}
+
+// The part of one character: its weight times the absolute difference of two codes.
+pub fn part(weight: u8, a: i32, b: i32) -> u64
+    ensures { λ r. ⌜ r ≡ part weight a b ⌝ }
+{
+    times(weight) * apart(a, b)
 }
 
 // The lower of two codes.

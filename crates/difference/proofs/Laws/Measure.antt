@@ -1,33 +1,46 @@
--- Document 01's measure is one measure: the difference of two rows is what the steps between their codes cost, added up over the
--- characters.
+-- The measure by weights is one measure: the difference of two rows is what the steps between their codes cost, added up over the
+-- characters. Where all characters weigh 1 it is document 01's.
 use mathlib.Core.Path.{_≡_, refl, sym, _∙_, ap, ap₂}
 use mathlib.Core.List.{List, [], _∷_}
-use Prim.Native.Nat.{ℕ, suc, _+_, _-_, _≤_}
+use Prim.Native.Nat.{ℕ, suc, _+_, _-_, _≤_, _<_}
 use native.Mathlib.Omega.{arith}
 use lib.IntN.{ℤ, pos}
-use lib.ListN.{length, getD}
+use lib.ListN.{length, getD, drop}
 use Rattle.lists.specs.Numbers.{numbers}
 use Rattle.lists.specs.Sums.{sumOver}
 use Rattle.lists.proofs.Numbers.{numbers-within}
 use Rattle.lists.proofs.Sums.{sum-same}
-use Rattle.difference.specs.Rows.{apart, difference, plain}
+use Rattle.matrix.specs.Shape.{weightAt, weightOf}
+use Rattle.difference.specs.Rows.{part, difference, weighing, plain}
+use Rattle.difference.proofs.Laws.Weights.{weightAt-drop, part-alone, difference-alike}
 
--- the absolute difference of two rows' codes for character j, the first of their characters being counted as `first`
-abbrev part : ℕ → List ℤ → List ℤ → ℕ → ℕ
-part first xs ys j = apart (getD xs (j - first) (pos 0)) (getD ys (j - first) (pos 0))
+-- the part of the character at a place
+partAt : List ℕ → List ℤ → List ℤ → ℕ → ℕ
+partAt weights xs ys i = part (weightAt weights i) (getD xs i (pos 0)) (getD ys i (pos 0))
 
--- the difference of two rows of one length is the sum of these parts
-difference-parts : (first : ℕ) (xs ys : List ℤ) → length xs ≡ length ys
-    → difference xs ys ≡ sumOver (part first xs ys) (numbers first (length xs))
-unfolding difference sumOver numbers
-difference-parts first [] ys e = refl
-difference-parts first (x ∷ xs) [] e = absurd (omega arith)
-difference-parts first (x ∷ xs) (y ∷ ys) e =
-    ap₂ _+_ (ap (λ i. apart (getD (x ∷ xs) i (pos 0)) (getD (y ∷ ys) i (pos 0))) none)
-    (difference-parts (suc first) xs ys (omega arith)
-    ∙ sum-same (part (suc first) xs ys) (part first (x ∷ xs) (y ∷ ys)) (numbers (suc first) (length xs))
-    (λ j m. ap (λ i. apart (getD (x ∷ xs) i (pos 0)) (getD (y ∷ ys) i (pos 0))) (next j (numbers-within (suc first) (length xs) j m .0))))
+-- behind the first character each stands one place sooner
+partAt-next : (weights : List ℕ) (x y : ℤ) (xs ys : List ℤ) (i : ℕ)
+    → partAt (drop 1 weights) xs ys i ≡ partAt weights (x ∷ xs) (y ∷ ys) (suc i)
+unfolding partAt
+partAt-next weights x y xs ys i = ap (λ w. part w (getD xs i (pos 0)) (getD ys i (pos 0))) (weightAt-drop weights i)
+
+-- the difference of two rows of one length is the sum of these parts, the first of their characters being counted as `first`
+difference-parts : (first : ℕ) (weights : List ℕ) (xs ys : List ℤ) → length xs ≡ length ys
+    → difference weights xs ys ≡ sumOver (λ j. partAt weights xs ys (j - first)) (numbers first (length xs))
+unfolding difference sumOver numbers partAt
+difference-parts first weights [] ys e = refl
+difference-parts first weights (x ∷ xs) [] e = absurd (omega arith)
+difference-parts first weights (x ∷ xs) (y ∷ ys) e =
+    ap₂ _+_ (at-first ∙ ap (partAt weights (x ∷ xs) (y ∷ ys)) none)
+    (difference-parts (suc first) (drop 1 weights) xs ys (omega arith)
+    ∙ sum-same (λ j. partAt (drop 1 weights) xs ys (j - suc first)) (λ j. partAt weights (x ∷ xs) (y ∷ ys) (j - first))
+    (numbers (suc first) (length xs))
+    (λ j m. partAt-next weights x y xs ys (j - suc first)
+    ∙ ap (partAt weights (x ∷ xs) (y ∷ ys)) (next j (numbers-within (suc first) (length xs) j m .0))))
   where
+    at-first : part (weightAt weights 0) x y ≡ partAt weights (x ∷ xs) (y ∷ ys) 0
+    at-first = refl
+
     none : 0 ≡ first - first
     none = omega arith
 
@@ -35,7 +48,18 @@ difference-parts first (x ∷ xs) (y ∷ ys) e =
     next j h = omega arith
 
 -- the difference of two rows of m codes is what the steps between their codes cost, over characters 1 to m
-pub rows-cost-steps : (m : ℕ) (xs ys : List ℤ) → length xs ≡ m → length ys ≡ m
-    → plain .rows xs ys ≡ sumOver (λ j. plain .step j (getD xs (j - 1) (pos 0)) (getD ys (j - 1) (pos 0))) (numbers 1 m)
-rows-cost-steps m xs ys p q =
-    difference-parts 1 xs ys (p ∙ sym q) ∙ ap (λ k. sumOver (part 1 xs ys) (numbers 1 k)) p
+pub rows-cost-steps : (weights : List ℕ) (m : ℕ) (xs ys : List ℤ) → length xs ≡ m → length ys ≡ m
+    → weighing weights .rows xs ys
+    ≡ sumOver (λ j. weighing weights .step j (getD xs (j - 1) (pos 0)) (getD ys (j - 1) (pos 0))) (numbers 1 m)
+unfolding weightOf partAt
+rows-cost-steps weights m xs ys p q =
+    difference-parts 1 weights xs ys (p ∙ sym q) ∙ ap (λ k. sumOver (λ j. partAt weights xs ys (j - 1)) (numbers 1 k)) p
+
+-- where the characters of the rows all weigh 1, rows differ as by document 01's measure
+pub rows-alike : (weights : List ℕ) (xs ys : List ℤ) → ((i : ℕ) → i < length xs → weightAt weights i ≡ 1)
+    → weighing weights .rows xs ys ≡ plain .rows xs ys
+rows-alike weights xs ys h = difference-alike weights xs ys h
+
+-- and a step in a character that weighs 1 costs what it costs by document 01's measure
+pub step-alike : (weights : List ℕ) (j : ℕ) → weightOf weights j ≡ 1 → (a b : ℤ) → weighing weights .step j a b ≡ plain .step j a b
+step-alike weights j e a b = ap (λ w. part w a b) e ∙ part-alone a b

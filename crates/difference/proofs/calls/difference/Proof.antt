@@ -45,17 +45,18 @@ unfolding differenceAnswer
 returns c = rw (sym (c .before .before .before .ask-nodes .ensures) ∙ c .before .refusal .given .1)
 
 -- where the questions pass, the answer is the difference of the two rows
-answered : (codes : List ℤ) (n m a b r : ℕ) (asked : Asked) (xs ys : List ℤ) → asked ≡ askNodes codes n m (a ∷ b ∷ []) → asked ≡ Passed
-    → xs ≡ row codes m a → ys ≡ row codes m b → DifferenceOf xs ys r → value r ≡ differenceAnswer codes n m a b
+answered : (codes : List ℤ) (weights : List ℕ) (n m a b r : ℕ) (asked : Asked) (xs ys : List ℤ)
+    → asked ≡ askNodes codes weights n m (a ∷ b ∷ []) → asked ≡ Passed
+    → xs ≡ row codes m a → ys ≡ row codes m b → DifferenceOf weights xs ys r → value r ≡ differenceAnswer codes weights n m a b
 unfolding differenceAnswer
-answered codes n m a b r asked xs ys e passed ex ey d =
-    let pass : askNodes codes n m (a ∷ b ∷ []) ≡ Passed = sym e ∙ passed in
-    let narrow = nodes-passed codes n m (a ∷ b ∷ []) pass .matrix .characters in
-    rw pass (ap value (d .is ∙ ap₂ difference (ap (take 128) ex ∙ row-128 codes m a narrow) (ap (take 128) ey ∙ row-128 codes m b narrow)))
+answered codes weights n m a b r asked xs ys e passed ex ey d =
+    let pass : askNodes codes weights n m (a ∷ b ∷ []) ≡ Passed = sym e ∙ passed in
+    let narrow = nodes-passed codes weights n m (a ∷ b ∷ []) pass .matrix .characters in
+    rw pass (ap value (d .is ∙ ap₂ (difference weights) (ap (take 128) ex ∙ row-128 codes m a narrow) (ap (take 128) ey ∙ row-128 codes m b narrow)))
 
 returns-2 : tie.Need-returns-2
 returns-2 c =
-    answered _ _ _ _ _ _ _ _ _
+    answered _ _ _ _ _ _ _ _ _ _
     (c .before .before .before .before .before .ask-nodes .ensures)
     (c .before .before .before .enum-told .given .1)
     (c .before .before .row .ensures)

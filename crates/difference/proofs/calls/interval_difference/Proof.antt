@@ -47,19 +47,20 @@ unfolding intervalAnswer
 returns c = rw (sym (c .before .before .before .ask-nodes .ensures) ∙ c .before .refusal .given .1)
 
 -- where the questions pass, the answer is the interval difference of the three rows
-answered : (codes : List ℤ) (n m b c d r : ℕ) (asked : Asked) (xs ys zs : List ℤ) → asked ≡ askNodes codes n m (b ∷ c ∷ d ∷ [])
+answered : (codes : List ℤ) (weights : List ℕ) (n m b c d r : ℕ) (asked : Asked) (xs ys zs : List ℤ)
+    → asked ≡ askNodes codes weights n m (b ∷ c ∷ d ∷ [])
     → asked ≡ Passed
     → xs ≡ row codes m b → ys ≡ row codes m c → zs ≡ row codes m d
-    → r ≡ intervalDifference (take 128 xs) (take 128 ys) (take 128 zs) → value r ≡ intervalAnswer codes n m b c d
+    → r ≡ intervalDifference weights (take 128 xs) (take 128 ys) (take 128 zs) → value r ≡ intervalAnswer codes weights n m b c d
 unfolding intervalAnswer
-answered codes n m b c d r asked xs ys zs e passed ex ey ez i =
-    let pass : askNodes codes n m (b ∷ c ∷ d ∷ []) ≡ Passed = sym e ∙ passed in
-    let narrow = nodes-passed codes n m (b ∷ c ∷ d ∷ []) pass .matrix .characters in
+answered codes weights n m b c d r asked xs ys zs e passed ex ey ez i =
+    let pass : askNodes codes weights n m (b ∷ c ∷ d ∷ []) ≡ Passed = sym e ∙ passed in
+    let narrow = nodes-passed codes weights n m (b ∷ c ∷ d ∷ []) pass .matrix .characters in
     rw (pass, i, ex, ey, ez, row-128 codes m b narrow, row-128 codes m c narrow, row-128 codes m d narrow)
 
 returns-2 : tie.Need-returns-2
 returns-2 c =
-    answered _ _ _ _ _ _ _ _ _ _ _
+    answered _ _ _ _ _ _ _ _ _ _ _ _
     (c .before .before .before .before .before .before .ask-nodes .ensures)
     (c .before .before .before .before .enum-told .given .1)
     (c .before .before .before .row .ensures)

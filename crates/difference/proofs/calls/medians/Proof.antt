@@ -45,26 +45,26 @@ write-medians-requires : tie.Need-write-medians-requires
 write-medians-requires c κs = search needs
 
 -- where the questions refuse, the call says so, and the lent row is as before
-refuses : (codes : List ℤ) (n m a b c : ℕ) (old : List ℤ) (refusal : Refusal) → length old ≡ 128
-    → askNodes codes n m (a ∷ b ∷ c ∷ []) ≡ Refused refusal → MediansAnswer codes n m a b c old old (Refused refusal)
+refuses : (codes : List ℤ) (weights : List ℕ) (n m a b c : ℕ) (old : List ℤ) (refusal : Refusal) → length old ≡ 128
+    → askNodes codes weights n m (a ∷ b ∷ c ∷ []) ≡ Refused refusal → MediansAnswer codes weights n m a b c old old (Refused refusal)
 unfolding askMedians
-refuses codes n m a b c old refusal size e =
+refuses codes weights n m a b c old refusal size e =
     record { says = rw (eq-eqb (length old) 128 size, e); lent = rw (eq-eqb (length old) 128 size, e) }
 
 returns-2 : tie.Need-returns-2
 returns-2 c =
-    refuses _ _ _ _ _ _ _ _ (c .before .before .before .before .before .if1 .left)
+    refuses _ _ _ _ _ _ _ _ _ (c .before .before .before .before .before .if1 .left)
     (sym (c .before .before .before .ask-nodes .ensures) ∙ c .before .refusal .given .1)
 
 same-length : tie.Need-same-length
 same-length c = search needs
 
 -- where they pass, the medians of the three rows are written
-passes : (codes : List ℤ) (n m a b c : ℕ) (old new xs ys zs : List ℤ) → length old ≡ 128
-    → askNodes codes n m (a ∷ b ∷ c ∷ []) ≡ Passed → xs ≡ row codes m a → ys ≡ row codes m b → zs ≡ row codes m c
-    → new ≡ over 0 (medians xs ys zs) old → MediansAnswer codes n m a b c old new Passed
+passes : (codes : List ℤ) (weights : List ℕ) (n m a b c : ℕ) (old new xs ys zs : List ℤ) → length old ≡ 128
+    → askNodes codes weights n m (a ∷ b ∷ c ∷ []) ≡ Passed → xs ≡ row codes m a → ys ≡ row codes m b → zs ≡ row codes m c
+    → new ≡ over 0 (medians xs ys zs) old → MediansAnswer codes weights n m a b c old new Passed
 unfolding askMedians
-passes codes n m a b c old new xs ys zs size e ex ey ez written =
+passes codes weights n m a b c old new xs ys zs size e ex ey ez written =
     record {
       says = rw (eq-eqb (length old) 128 size, e);
       lent = rw (eq-eqb (length old) 128 size, e) (rw (ex, ey, ez) at written);
@@ -73,7 +73,7 @@ passes codes n m a b c old new xs ys zs size e ex ey ez written =
 returns-3 : tie.Need-returns-3
 returns-3 c =
     let asked = c .before .before .before .before .before .before .before .before in
-    passes _ _ _ _ _ _ _ _ _ _ _ (asked .before .before .if1 .left)
+    passes _ _ _ _ _ _ _ _ _ _ _ _ (asked .before .before .if1 .left)
     (sym (asked .ask-nodes .ensures) ∙ c .before .before .before .before .before .before .enum-told .given .1)
     (c .before .before .before .before .row .ensures)
     (c .before .before .before .row2 .ensures)

@@ -1,5 +1,5 @@
 -- `difference::rows::difference` meets its contract. The loop's invariant: the sum is the difference of the characters passed, and at most
--- 2 ^ 32 for each of them, so that 128 of them fit. Assumes nothing.
+-- 2 ^ 40 for each of them, so that 128 of them fit. Assumes nothing.
 use mathlib.Core.Path.{_≡_, refl, sym, ap, ap₂, _∙_}
 use mathlib.Core.List.{List}
 use Prim.Native.Nat.{ℕ, _+_, _-_, _*_, _^_, _≤_, _<_, min}
@@ -10,19 +10,20 @@ use lib.IntN.{ℤ, pos}
 use lib.ListN.{length, getD, take}
 use lib.Signed.{natAbs-le}
 use mir.Facts.{toZ-ofZ}
-use Rattle.difference.specs.Rows.{apart, difference}
-use Rattle.difference.proofs.Laws.Codes.{apart-most}
+use Rattle.matrix.specs.Shape.{weightAt}
+use Rattle.difference.specs.Rows.{part, difference}
+use Rattle.difference.proofs.Laws.Weights.{part-most}
 use Rattle.difference.proofs.Laws.Rows.{difference-take-suc}
 use Rattle.difference.proofs.Laws.Parts.{difference-within}
 use Rattle.difference.proofs.rows.difference.Statement.{statement}
 use Rattle.difference.proofs.rows.difference.Tie as tie
 
 abbrev Inv-loop : tie.InvT-loop
-Inv-loop xs ys count sum₀ j₀ sum j =
-    (j ≤ count) × ((sum ≡ difference (take j xs) (take j ys)) × (sum ≤ 4294967296 * j))
+Inv-loop weights xs ys count sum₀ j₀ sum j =
+    (j ≤ count) × ((sum ≡ difference weights (take j xs) (take j ys)) × (sum ≤ 1099511627776 * j))
 
 abbrev μ-loop : tie.MeasureT-loop
-μ-loop xs ys count sum₀ j₀ sum j = count - j
+μ-loop weights xs ys count sum₀ j₀ sum j = count - j
 
 least-requires : tie.Need-least-requires Inv-loop μ-loop
 least-requires c κs = search needs
@@ -31,61 +32,73 @@ least-requires-2 : tie.Need-least-requires-2 Inv-loop μ-loop
 least-requires-2 c κs = search needs
 
 -- one character more
-one-more : (j : ℕ) (xs ys : List ℤ) → j < length xs → j < length ys
-    → difference (take (j + 1) xs) (take (j + 1) ys) ≡ difference (take j xs) (take j ys) + apart (getD xs j (pos 0)) (getD ys j (pos 0))
-one-more j xs ys hx hy = rw add-one (difference-take-suc j xs ys hx hy)
+one-more : (j : ℕ) (weights : List ℕ) (xs ys : List ℤ) → j < length xs → j < length ys
+    → difference weights (take (j + 1) xs) (take (j + 1) ys)
+    ≡ difference weights (take j xs) (take j ys) + part (weightAt weights j) (getD xs j (pos 0)) (getD ys j (pos 0))
+one-more j weights xs ys hx hy = rw add-one (difference-take-suc j weights xs ys hx hy)
 
--- the place, the two rows and their codes at that place, in a turn of the loop
-abbrev at : tie.After-apart Inv-loop μ-loop → ℕ
-at c = c .before .before .before .before .loop .j
+-- the place, the weights and the two rows, in a turn of the loop
+abbrev at : tie.After-part Inv-loop μ-loop → ℕ
+at c = c .before .before .before .before .before .loop .j
 
-abbrev row-x : tie.After-apart Inv-loop μ-loop → List ℤ
-row-x c = c .before .before .before .before .before .before .before .args .xs .now
+abbrev weights-of : tie.After-part Inv-loop μ-loop → List ℕ
+weights-of c = c .before .before .before .before .before .before .before .before .before .args .weights .now
 
-abbrev row-y : tie.After-apart Inv-loop μ-loop → List ℤ
-row-y c = c .before .before .before .before .before .before .before .args .ys .now
+abbrev row-x : tie.After-part Inv-loop μ-loop → List ℤ
+row-x c = c .before .before .before .before .before .before .before .before .before .args .xs .now
+
+abbrev row-y : tie.After-part Inv-loop μ-loop → List ℤ
+row-y c = c .before .before .before .before .before .before .before .before .before .args .ys .now
 
 -- what is added is the part of character j
-part : (c : tie.After-apart Inv-loop μ-loop) → c .apart .result ≡ apart (getD (row-x c) (at c) (pos 0)) (getD (row-y c) (at c) (pos 0))
-part c =
-    rw (toZ-ofZ (sfits-of (c .before .before .apart-arg .given)), toZ-ofZ (sfits-of (c .before .apart-arg2 .given)))
-    at (c .apart .ensures)
+added : (c : tie.After-part Inv-loop μ-loop)
+    → c .part .result ≡ part (weightAt (weights-of c) (at c)) (getD (row-x c) (at c) (pos 0)) (getD (row-y c) (at c) (pos 0))
+added c =
+    rw (toZ-ofZ (sfits-of (c .before .before .part-arg .given)), toZ-ofZ (sfits-of (c .before .part-arg2 .given)),
+    c .before .before .before .weight-at .ensures)
+    at (c .part .ensures)
 
--- two codes of 32 bits are at most 2 ^ 32 apart
-part-most : (c : tie.After-apart Inv-loop μ-loop) → c .apart .result ≤ 4294967296
-part-most c =
+-- it is at most 2 ^ 40
+added-most : (c : tie.After-part Inv-loop μ-loop) → c .part .result ≤ 1099511627776
+added-most c =
     let x = getD (row-x c) (at c) (pos 0) in
     let y = getD (row-y c) (at c) (pos 0) in
-    rw (part c) (apart-most (2 ^ 31) x y (natAbs-le x (c .before .before .apart-arg .given)) (natAbs-le y (c .before .apart-arg2 .given)))
+    let light : weightAt (weights-of c) (at c) ≤ 256 = omega (arith, c .before .before .before .weight-at .ensures, c .before .before .before .weight-at .ok) in
+    rw (added c)
+    (part-most (weightAt (weights-of c) (at c)) x y light (natAbs-le x (c .before .before .part-arg .given))
+    (natAbs-le y (c .before .part-arg2 .given)))
 
 -- the place is within both rows
-within-x : (c : tie.After-apart Inv-loop μ-loop) → at c < length (row-x c)
+within-x : (c : tie.After-part Inv-loop μ-loop) → at c < length (row-x c)
 within-x c = omega arith
 
-within-y : (c : tie.After-apart Inv-loop μ-loop) → at c < length (row-y c)
+within-y : (c : tie.After-part Inv-loop μ-loop) → at c < length (row-y c)
 within-y c = omega arith
 
 loop-holds : tie.Need-loop-holds Inv-loop μ-loop
 unfolding difference
 loop-holds c = (omega arith, (refl, omega arith))
 
-mul-apart : tie.Need-mul-apart Inv-loop μ-loop
-mul-apart c = search needs
+weight-at-requires : tie.Need-weight-at-requires Inv-loop μ-loop
+weight-at-requires c κs = search needs
 
-shared-slice-copy-out-apart : tie.Need-shared-slice-copy-out-apart Inv-loop μ-loop
-shared-slice-copy-out-apart c = search needs
+mul-part : tie.Need-mul-part Inv-loop μ-loop
+mul-part c = search needs
 
-mul-apart-2 : tie.Need-mul-apart-2 Inv-loop μ-loop
-mul-apart-2 c = search needs
+shared-slice-copy-out-part : tie.Need-shared-slice-copy-out-part Inv-loop μ-loop
+shared-slice-copy-out-part c = search needs
 
-shared-slice-copy-out-apart-2 : tie.Need-shared-slice-copy-out-apart-2 Inv-loop μ-loop
-shared-slice-copy-out-apart-2 c = search needs
+mul-part-2 : tie.Need-mul-part-2 Inv-loop μ-loop
+mul-part-2 c = search needs
 
-apart-requires : tie.Need-apart-requires Inv-loop μ-loop
-apart-requires c κs = search needs
+shared-slice-copy-out-part-2 : tie.Need-shared-slice-copy-out-part-2 Inv-loop μ-loop
+shared-slice-copy-out-part-2 c = search needs
+
+part-requires : tie.Need-part-requires Inv-loop μ-loop
+part-requires c κs = search needs
 
 add-sum : tie.Need-add-sum Inv-loop μ-loop
-add-sum c = omega (arith, part-most c)
+add-sum c = omega (arith, added-most c)
 
 add-j : tie.Need-add-j Inv-loop μ-loop
 add-j c = search needs
@@ -95,11 +108,11 @@ loop-less c = search needs
 
 loop-again : tie.Need-loop-again Inv-loop μ-loop
 loop-again c =
-    let inv = c .before .before .before .before .loop .inv in (
+    let inv = c .before .before .before .before .before .loop .inv in (
       omega arith,
       (
-        ap₂ _+_ (inv .1 .0) (part c) ∙ sym (one-more (at c) (row-x c) (row-y c) (within-x c) (within-y c)),
-        omega (arith, part-most c),
+        ap₂ _+_ (inv .1 .0) (added c) ∙ sym (one-more (at c) (weights-of c) (row-x c) (row-y c) (within-x c) (within-y c)),
+        omega (arith, added-most c),
       ),
     )
 
@@ -108,7 +121,7 @@ returns c =
     let end : c .before .loop .j ≡ c .before .before .least2 .result = omega arith in
     let count = c .before .before .least2 .ensures ∙ ap (min 128) (c .before .before .before .least .ensures) in
     record {
-      is = rw end at (c .before .loop .inv .1 .0) ∙ difference-within 128 _ _ _ count;
+      is = rw end at (c .before .loop .inv .1 .0) ∙ difference-within 128 _ _ _ _ count;
       most = omega arith;
     }
 
@@ -121,11 +134,12 @@ difference-spec =
     least-requires
     least-requires-2
     loop-holds
-    mul-apart
-    shared-slice-copy-out-apart
-    mul-apart-2
-    shared-slice-copy-out-apart-2
-    apart-requires
+    weight-at-requires
+    mul-part
+    shared-slice-copy-out-part
+    mul-part-2
+    shared-slice-copy-out-part-2
+    part-requires
     add-sum
     add-j
     loop-less

@@ -24,10 +24,11 @@ difference-requires-3 : tie.Need-difference-requires-3
 difference-requires-3 c κs = search needs
 
 -- the sums of the three differences are those of the definition
-parts : (b c d : List ℤ) (bc bd cd : ℕ) → DifferenceOf b c bc → DifferenceOf b d bd → DifferenceOf c d cd
-    → (bc + bd - cd) / 2 ≡ intervalDifference (take 128 b) (take 128 c) (take 128 d)
+parts : (weights : List ℕ) (b c d : List ℤ) (bc bd cd : ℕ) → DifferenceOf weights b c bc → DifferenceOf weights b d bd
+    → DifferenceOf weights c d cd
+    → (bc + bd - cd) / 2 ≡ intervalDifference weights (take 128 b) (take 128 c) (take 128 d)
 unfolding intervalBy
-parts b c d bc bd cd p q r = rw (p .is, q .is, r .is)
+parts weights b c d bc bd cd p q r = rw (p .is, q .is, r .is)
 
 returns : tie.Need-returns
 returns c =
@@ -36,12 +37,12 @@ returns c =
     let cd : ℕ = c .before .difference3 .result in
     let none : 0 ≡ (bc + bd - cd) / 2 = omega arith in
     none
-    ∙ parts _ _ _ _ _ _ (c .before .before .before .difference .ensures) (c .before .before .difference2 .ensures)
+    ∙ parts _ _ _ _ _ _ _ (c .before .before .before .difference .ensures) (c .before .before .difference2 .ensures)
     (c .before .difference3 .ensures)
 
 returns-2 : tie.Need-returns-2
 returns-2 c =
-    parts _ _ _ _ _ _ (c .before .before .before .difference .ensures) (c .before .before .difference2 .ensures)
+    parts _ _ _ _ _ _ _ (c .before .before .before .difference .ensures) (c .before .before .difference2 .ensures)
     (c .before .difference3 .ensures)
 
 pub interval-difference-spec : {M : Type 1} → statement M
