@@ -13,7 +13,7 @@ fn wide(code: i32) -> i64
 }
 
 // A weight as a wider number.
-fn times(weight: u8) -> u64
+pub fn times(weight: u8) -> u64
     ensures { λ r. ⌜ r ≡ weight ⌝ }
 {
     weight as u64

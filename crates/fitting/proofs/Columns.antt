@@ -4,6 +4,7 @@ use mathlib.Core.Logic.{by-cases}
 use mathlib.Core.List.{List}
 use mathlib.Core.Bool.{true}
 use Prim.Native.Nat.{ℕ, suc, _+_, _*_, _-_, _≤_, _<_}
+use native.Mathlib.Nat.{mul-le-mul}
 use native.Mathlib.Omega.{arith}
 use native.Mathlib.Decide.{decLe}
 use lib.IntN.{ℤ, pos}
@@ -13,11 +14,12 @@ use Rattle.lists.specs.Sums.{sumOver}
 use Rattle.lists.proofs.Every.{every-at}
 use Rattle.lists.proofs.Numbers.{numbers-within, length-numbers}
 use Rattle.lists.proofs.Sums.{sum-most}
-use Rattle.matrix.specs.Shape.{row, rowStart, inRange}
+use Rattle.matrix.specs.Shape.{row, rowStart, inRange, weightOf}
 use Rattle.matrix.specs.NodeRows.{rowsOf}
-use Rattle.matrix.specs.Questions.{LentMatrix, allInRange}
+use Rattle.matrix.specs.Questions.{LentMatrix, allInRange, areWeights}
 use Rattle.matrix.proofs.NodeRows.{getD-rowsOf}
 use Rattle.matrix.proofs.Row.{row-code, row-length}
+use Rattle.difference.proofs.Laws.Weights.{weightOf-within}
 use Rattle.branching.specs.Nodes.{otherNodes}
 use Rattle.branching.specs.Within.{branchingWithin}
 use Rattle.fitting.specs.Assignments.{character}
@@ -65,7 +67,7 @@ module _ (codes : List ℤ) (n m : ℕ) (lent : LentMatrix codes n m) where
 
   module _ (tree : List ℕ) (branches : branchingWithin n tree ≡ true) where
     -- a character's length is small
-    character-most : (j : ℕ) → 1 ≤ j → j ≤ m → characterLength tree rows n j ≤ 300000
+    pub character-most : (j : ℕ) → 1 ≤ j → j ≤ m → characterLength tree rows n j ≤ 300000
     character-most j first last =
         by-cases (decLe 2 n)
         (λ two.
@@ -84,11 +86,13 @@ module _ (codes : List ℤ) (n m : ℕ) (lent : LentMatrix codes n m) where
         let none : 2 * n - 3 ≡ 0 = omega arith in
         omega (arith, no-branch tree rows n j none))
 
-    -- and so are the lengths of the first characters together
-    pub characters-most : (k : ℕ) → k ≤ m → sumOver (characterLength tree rows n) (numbers 1 k) ≤ k * 300000
-    characters-most k last =
+    -- so is the sum of the lengths of k characters, each as often as its weight says
+    pub characters-most : (weights : List ℕ) → areWeights weights m ≡ true → (k : ℕ) → k ≤ m
+        → sumOver (λ j. weightOf weights j * characterLength tree rows n j) (numbers 1 k) ≤ k * 2700000
+    characters-most weights weighed k last =
         let most =
-        sum-most (characterLength tree rows n) 300000 (numbers 1 k) (λ j i.
+        sum-most (λ j. weightOf weights j * characterLength tree rows n j) 2700000 (numbers 1 k) (λ j i.
         let w = numbers-within 1 k j i in
-        character-most j (w .0) (omega (arith, w .1))) in
+        let end : j ≤ m = omega (arith, w .1) in
+        mul-le-mul (weightOf-within weights m weighed j (w .0) end .1) (character-most j (w .0) end)) in
         rw (length-numbers 1 k) at most

@@ -7,7 +7,8 @@ use Prim.Native.Nat.{ℕ, suc, _-_}
 use native.Mathlib.Omega.{arith}
 use lib.IntN.{ℤ, pos, negsuc}
 use Rattle.lists.specs.Numbers.{numbers}
-use Rattle.difference.specs.Rows.{apart, plain, lower, higher}
+use Rattle.matrix.specs.Shape.{weightAt, weightOf}
+use Rattle.difference.specs.Rows.{apart, part, weighing, lower, higher}
 use Rattle.branching.specs.Ancestors.{ancestor, descendants}
 use Rattle.branching.specs.Nodes.{otherNodes}
 use Rattle.lists.specs.Sums.{sumOver}
@@ -43,14 +44,14 @@ pub record Printed : Type 0 where
   -- for each HTU and each character low, high and chosen state
   pub states : List (List (List ℤ))
 
--- the fit of a matrix as a listing shows it
-unfoldable pub printed : List ℕ → List (List ℤ) → ℕ → ℕ → Printed
+-- the fit of a matrix as a listing shows it, by weights
+unfoldable pub printed : List ℕ → List ℕ → List (List ℤ) → ℕ → ℕ → Printed
 unfolding cladesBelow cladeAt above otherNodes numbers descendants keep ancestor fittedTotal marked fittedLength total branchLength
-    sumOver apart lower higher chosenState range valueAt chosen ranges up join nearestMember middle inOrder insert only character flatMap
-printed tree rows n m = record {
-  lengths = map (fittedLength (plain .step) tree rows n m) (otherNodes n);
-  marks = map (marked (plain .step) tree rows n m) (otherNodes n);
-  sumOfLengths = fittedTotal (plain .step) tree rows n m;
+    sumOver apart part weightAt weightOf lower higher chosenState range valueAt chosen ranges up join nearestMember middle inOrder insert only character flatMap
+printed weights tree rows n m = record {
+  lengths = map (fittedLength (weighing weights .step) tree rows n m) (otherNodes n);
+  marks = map (marked (weighing weights .step) tree rows n m) (otherNodes n);
+  sumOfLengths = fittedTotal (weighing weights .step) tree rows n m;
   states =
       map
       (λ v. map (λ j. range tree rows n v j .low ∷ range tree rows n v j .high ∷ chosenState tree rows n v j ∷ [])
@@ -81,7 +82,7 @@ unfolding printed
 clade-ABCD = refl
 
 -- document 01's `T`, `t` and `H` lines
-pub fit-ABCD : printed treeABCD rowsABCD 4 3 ≡ record {
+pub fit-ABCD : printed (1 ∷ 1 ∷ 1 ∷ []) treeABCD rowsABCD 4 3 ≡ record {
   lengths = 1 ∷ 2 ∷ 2 ∷ 2 ∷ 2 ∷ [];
   marks = true ∷ true ∷ true ∷ true ∷ true ∷ [];
   sumOfLengths = 9;
@@ -92,6 +93,19 @@ pub fit-ABCD : printed treeABCD rowsABCD 4 3 ≡ record {
 }
 unfolding printed
 fit-ABCD = refl
+
+-- with weights 3, 1 and 2 the lengths are others, and all else is the same
+pub fit-weighed : printed (3 ∷ 1 ∷ 2 ∷ []) treeABCD rowsABCD 4 3 ≡ record {
+  lengths = 2 ∷ 2 ∷ 5 ∷ 3 ∷ 6 ∷ [];
+  marks = true ∷ true ∷ true ∷ true ∷ true ∷ [];
+  sumOfLengths = 18;
+  states =
+      ((pos 0 ∷ pos 0 ∷ pos 0 ∷ []) ∷ (pos 1 ∷ pos 1 ∷ pos 1 ∷ []) ∷ (pos 0 ∷ pos 1 ∷ pos 1 ∷ []) ∷ [])
+      ∷ ((pos 2 ∷ pos 2 ∷ pos 2 ∷ []) ∷ (pos 1 ∷ pos 1 ∷ pos 1 ∷ []) ∷ (pos 0 ∷ pos 1 ∷ pos 1 ∷ []) ∷ [])
+      ∷ [];
+}
+unfolding printed
+fit-weighed = refl
 
 -- the set of #1 in character 3, from the tips up
 pub set-of-#1 : up (character rowsABCD 3) clade#1 ≡ span (pos 1) (pos 2)
@@ -138,7 +152,7 @@ unfolding printed
 clade-five = refl
 
 -- negative states; the chosen state of #2 is the highest of its range in character 1, and the lowest in character 2
-pub fit-five : printed treeFive rowsFive 5 2 ≡ record {
+pub fit-five : printed [] treeFive rowsFive 5 2 ≡ record {
   lengths = 4 ∷ 0 ∷ 3 ∷ 0 ∷ 2 ∷ 2 ∷ 5 ∷ [];
   marks = true ∷ false ∷ true ∷ false ∷ true ∷ true ∷ true ∷ [];
   sumOfLengths = 16;
@@ -158,12 +172,12 @@ unfolding printed
 sets-five = refl
 
 -- row 1 alone
-pub fit-1 : printed (0 ∷ 0 ∷ []) ((pos 7 ∷ []) ∷ []) 1 1 ≡ record { lengths = []; marks = []; sumOfLengths = 0; states = [] }
+pub fit-1 : printed [] (0 ∷ 0 ∷ []) ((pos 7 ∷ []) ∷ []) 1 1 ≡ record { lengths = []; marks = []; sumOfLengths = 0; states = [] }
 unfolding printed
 fit-1 = refl
 
 -- two taxa: one branch and no HTU
-pub fit-2 : printed (0 ∷ 0 ∷ 1 ∷ []) ((pos 7 ∷ pos 0 ∷ []) ∷ (negsuc 2 ∷ pos 1 ∷ []) ∷ []) 2 2 ≡ record {
+pub fit-2 : printed [] (0 ∷ 0 ∷ 1 ∷ []) ((pos 7 ∷ pos 0 ∷ []) ∷ (negsuc 2 ∷ pos 1 ∷ []) ∷ []) 2 2 ≡ record {
   lengths = 11 ∷ [];
   marks = true ∷ [];
   sumOfLengths = 11;
@@ -173,7 +187,7 @@ unfolding printed
 fit-2 = refl
 
 -- three taxa: the one HTU has the median of their codes; a branch of length 0 is not marked
-pub fit-3 : printed (0 ∷ 0 ∷ 4 ∷ 4 ∷ 1 ∷ []) ((negsuc 0 ∷ []) ∷ (pos 2 ∷ []) ∷ (pos 0 ∷ []) ∷ []) 3 1 ≡ record {
+pub fit-3 : printed [] (0 ∷ 0 ∷ 4 ∷ 4 ∷ 1 ∷ []) ((negsuc 0 ∷ []) ∷ (pos 2 ∷ []) ∷ (pos 0 ∷ []) ∷ []) 3 1 ≡ record {
   lengths = 2 ∷ 0 ∷ 1 ∷ [];
   marks = true ∷ false ∷ true ∷ [];
   sumOfLengths = 3;

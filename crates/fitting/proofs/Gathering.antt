@@ -3,6 +3,7 @@ use mathlib.Core.Path.{_≡_, refl, sym, _∙_, ap, ap₂}
 use mathlib.Core.List.{List, [], _∷_, map, List·Memᴰ, List·Memᴰ·head, List·Memᴰ·tail}
 use mathlib.Core.Bool.{Bool, true, false, _||_}
 use Prim.Native.Nat.{ℕ, _+_, _*_, _-_, _≤_, _<_}
+use native.Mathlib.Nat.{mul-zero, mul-pos}
 use native.Mathlib.Omega.{arith}
 use lib.Dec.{ltb}
 use lib.IntN.{ℤ}
@@ -14,11 +15,11 @@ use Rattle.lists.specs.Sums.{sumOver}
 use Rattle.lists.proofs.Filled.{getD-replicate}
 use Rattle.lists.proofs.Numbers.{numbers-within, length-numbers}
 use Rattle.lists.proofs.Sums.{sum-most}
-use Rattle.matrix.specs.Shape.{columns, rowStart, lastNode, inRange}
+use Rattle.matrix.specs.Shape.{columns, rowStart, lastNode, inRange, weightOf}
 use Rattle.matrix.specs.NodeRows.{rowsOf}
-use Rattle.matrix.specs.Questions.{LentMatrix}
-use Rattle.difference.specs.Rows.{apart, plain}
-use Rattle.difference.proofs.Laws.Codes.{apart-inRange}
+use Rattle.matrix.specs.Questions.{LentMatrix, LentWeights}
+use Rattle.difference.specs.Rows.{apart, part, weighing}
+use Rattle.difference.proofs.Laws.Weights.{part-inRange, weightOf-weight, weightOf-within}
 use Rattle.branching.specs.Ancestors.{ancestor}
 use Rattle.branching.specs.Within.{branchingWithin}
 use Rattle.branching.proofs.Walks.{branching-rooted}
@@ -52,13 +53,13 @@ column-same n j f g old same =
     (λ v m. let w = numbers-within (n + 1) (n - 2) v m in ap (λ z. z ∷ []) (same v (omega (arith, w .0)) (omega (arith, w .1)))))
 
 -- before the first character nothing is written, every length is 0 and no branch is marked
-pub start-written : (matrix : List ℤ) (n m : ℕ) (tree : List ℕ) (low high chosen : List ℤ) →
-    Written matrix n m 0 tree low low high high chosen chosen (replicate 127 noBranch)
-start-written matrix n m tree low high chosen = record {
+pub start-written : (matrix : List ℤ) (weights : List ℕ) (n m : ℕ) (tree : List ℕ) (low high chosen : List ℤ) →
+    Written matrix weights n m 0 tree low low high high chosen chosen (replicate 127 noBranch)
+start-written matrix weights n m tree low high chosen = record {
   isLow = λ branches lent. sym (written-none Low tree (rowsOf matrix m n) n low);
   isHigh = λ branches lent. sym (written-none High tree (rowsOf matrix m n) n high);
   isChosen = λ branches lent. sym (written-none Chosen tree (rowsOf matrix m n) n chosen);
-  are = λ branches lent v l h. getD-replicate noBranch 127 v ∙ unfold marked fittedLength branchLength sumOver numbers in refl;
+  are = λ branches lent weighed v l h. getD-replicate noBranch 127 v ∙ unfold marked fittedLength branchLength sumOver numbers in refl;
 }
 
 -- the chosen one of a node's states
@@ -67,12 +68,13 @@ unfolding statesIn
 chosen-is tree rows n v j = refl
 
 -- the fitted length of a branch with one character more
-length-next : (tree : List ℕ) (rows : List (List ℤ)) (n j v : ℕ) → 1 ≤ j →
-    fittedLength (plain .step) tree rows n (j + 1 - 1) v
-    ≡ fittedLength (plain .step) tree rows n (j - 1) v + apart (chosenState tree rows n v j) (chosenState tree rows n (ancestor tree v) j)
+length-next : (weights tree : List ℕ) (rows : List (List ℤ)) (n j v : ℕ) → 1 ≤ j →
+    fittedLength (weighing weights .step) tree rows n (j + 1 - 1) v
+    ≡ fittedLength (weighing weights .step) tree rows n (j - 1) v
+    + part (weightOf weights j) (chosenState tree rows n v j) (chosenState tree rows n (ancestor tree v) j)
 unfolding fittedLength branchLength
-length-next tree rows n j v first =
-    sum-next (λ i. apart (chosenState tree rows n v i) (chosenState tree rows n (ancestor tree v) i)) 1 j first
+length-next weights tree rows n j v first =
+    sum-next (λ i. part (weightOf weights i) (chosenState tree rows n v i) (chosenState tree rows n (ancestor tree v) i)) 1 j first
 
 -- a sum is above 0 exactly if one of its parts is
 above-zero : (a b : ℕ) → ltb 0 (a + b) ≡ (ltb 0 a || ltb 0 b)
@@ -82,16 +84,30 @@ above-zero a b = go (ltb 0 a) refl
     go true e = lt-ltb 0 (a + b) (omega (arith, ltb-true 0 a e))
     go false e = let none : a + b ≡ b = omega (arith, ltb-false 0 a e) in ap (ltb 0) none
 
--- the mark of a branch with one character more
-mark-next : (tree : List ℕ) (rows : List (List ℤ)) (n j v : ℕ) → 1 ≤ j →
-    marked (plain .step) tree rows n (j + 1 - 1) v
-    ≡ (marked (plain .step) tree rows n (j - 1) v || marksIn (statesIn tree rows n v j) (statesIn tree rows n (ancestor tree v) j))
-unfolding marked statesIn
-mark-next tree rows n j v first = ap (ltb 0) (length-next tree rows n j v first)
-    ∙ above-zero (fittedLength (plain .step) tree rows n (j - 1) v) (apart (chosenState tree rows n v j) (chosenState tree rows n
-    (ancestor tree v) j))
+-- a number taken w times, at least once, is above 0 exactly if it is
+times-above-zero : (w k : ℕ) → 1 ≤ w → ltb 0 (w * k) ≡ ltb 0 k
+times-above-zero w k some = go (ltb 0 k) refl
+  where
+    go : (t : Bool) → ltb 0 k ≡ t → ltb 0 (w * k) ≡ t
+    go true e = lt-ltb 0 (w * k) (mul-pos some (ltb-true 0 k e))
+    go false e =
+        let none : k ≡ 0 = omega (arith, ltb-false 0 k e) in
+        ap (ltb 0) (ap (λ i. w * i) none ∙ mul-zero w)
 
-module _ (matrix : List ℤ) (n m : ℕ) (tree : List ℕ) (branches : branchingWithin n tree ≡ true) (lent : LentMatrix matrix n m) where
+-- the mark of a branch with one character more: its weight, at least 1, does not move it
+mark-next : (weights tree : List ℕ) (rows : List (List ℤ)) (n j v : ℕ) → 1 ≤ j → 1 ≤ weightOf weights j →
+    marked (weighing weights .step) tree rows n (j + 1 - 1) v
+    ≡ (marked (weighing weights .step) tree rows n (j - 1) v || marksIn (statesIn tree rows n v j) (statesIn tree rows n (ancestor tree v) j))
+unfolding marked statesIn part
+mark-next weights tree rows n j v first some =
+    let length = fittedLength (weighing weights .step) tree rows n (j - 1) v in
+    let far = apart (chosenState tree rows n v j) (chosenState tree rows n (ancestor tree v) j) in
+    ap (ltb 0) (length-next weights tree rows n j v first)
+    ∙ above-zero length (weightOf weights j * far)
+    ∙ ap (λ t. ltb 0 length || t) (times-above-zero (weightOf weights j) far some)
+
+module _ (matrix : List ℤ) (weights : List ℕ) (n m : ℕ) (tree : List ℕ) (branches : branchingWithin n tree ≡ true)
+    (lent : LentMatrix matrix n m) (weighed : LentWeights weights m) where
   -- the rows of the taxa
   abbrev rows : List (List ℤ)
   rows = rowsOf matrix m n
@@ -109,27 +125,30 @@ module _ (matrix : List ℤ) (n m : ℕ) (tree : List ℕ) (branches : branching
         (above .0, omega (arith, above .1))
 
     -- the states at both ends of its branch are not far apart
-    step-most : (j : ℕ) → 1 ≤ j → j ≤ m → apart (chosenState tree rows n v j) (chosenState tree rows n (ancestor tree v) j) ≤ 1998
+    step-most : (j : ℕ) → 1 ≤ j → j ≤ m
+        → part (weightOf weights j) (chosenState tree rows n v j) (chosenState tree rows n (ancestor tree v) j) ≤ 17982
     step-most j first end =
         let grown = grown-of n tree branches several in
         let known : (u : ℕ) → 1 ≤ u → u ≤ n → inRange (character rows j u)
         ≡ true = λ u l h. character-known matrix n m lent u j l h first end in
-        apart-inRange (chosenState tree rows n v j) (chosenState tree rows n (ancestor tree v) j)
+        part-inRange (weightOf weights j) (chosenState tree rows n v j) (chosenState tree rows n (ancestor tree v) j)
+        (weightOf-weight weights m (weighed .known) j first end)
         (chosenState-each (λ z. inRange z ≡ true) n tree grown rows j known v (omega arith) last)
         (chosenState-each (λ z. inRange z ≡ true) n tree grown rows j known (ancestor tree v) (above-within .0) (above-within .1))
 
     -- so its fitted length is small
-    pub length-most : (k : ℕ) → k ≤ m → fittedLength (plain .step) tree rows n k v ≤ k * 1998
+    pub length-most : (k : ℕ) → k ≤ m → fittedLength (weighing weights .step) tree rows n k v ≤ k * 17982
     unfolding fittedLength branchLength
     length-most k end =
         let most =
-        sum-most (λ i. apart (chosenState tree rows n v i) (chosenState tree rows n (ancestor tree v) i)) 1998 (numbers 1 k)
+        sum-most (λ i. part (weightOf weights i) (chosenState tree rows n v i) (chosenState tree rows n (ancestor tree v) i)) 17982
+        (numbers 1 k)
         (λ i i∈. let w = numbers-within 1 k i i∈ in step-most i (w .0) (omega (arith, w .1))) in
         rw (length-numbers 1 k) at most
 
 -- one character more
-module _ (matrix : List ℤ) (n m j : ℕ) (first : 1 ≤ j) (last : j ≤ m) (tree : List ℕ) (codes : List ℤ) (column : Column matrix n j codes)
-    (states : List States) (fits : Fits n tree codes states) where
+module _ (matrix : List ℤ) (weights : List ℕ) (n m j : ℕ) (first : 1 ≤ j) (last : j ≤ m) (tree : List ℕ) (codes : List ℤ)
+    (column : Column matrix n j codes) (states : List States) (fits : Fits n tree codes states) where
   -- the states found
   states-are : branchingWithin n tree ≡ true → LentMatrix matrix n m → (v : ℕ) → 1 ≤ v → v ≤ lastNode n
       → statesAt states v ≡ statesIn tree (rowsOf matrix m n) n v j
@@ -149,36 +168,37 @@ module _ (matrix : List ℤ) (n m j : ℕ) (first : 1 ≤ j) (last : j ≤ m) (t
       ∙ written-next which tree (rowsOf matrix m n) n j old first (omega arith)
 
   -- a branch with one character more
-  branch-right : (old new : List BranchFit) → branchingWithin n tree ≡ true → LentMatrix matrix n m → Lengthened n tree states old new
-      → (v : ℕ) → 2 ≤ v → v ≤ 2 * n - 2 → branchAt old v ≡ fittedBranch tree (rowsOf matrix m n) n (j - 1) v
-      → branchAt new v ≡ fittedBranch tree (rowsOf matrix m n) n (j + 1 - 1) v
-  branch-right old new branches lent longer v l h before =
+  branch-right : (old new : List BranchFit) → branchingWithin n tree ≡ true → LentMatrix matrix n m → LentWeights weights m
+      → Lengthened (weightOf weights j) n tree states old new
+      → (v : ℕ) → 2 ≤ v → v ≤ 2 * n - 2 → branchAt old v ≡ fittedBranch weights tree (rowsOf matrix m n) n (j - 1) v
+      → branchAt new v ≡ fittedBranch weights tree (rowsOf matrix m n) n (j + 1 - 1) v
+  branch-right old new branches lent weighed longer v l h before =
       let rows = rowsOf matrix m n in
-      let above = above-within matrix n m tree branches lent v l h in
+      let above = above-within matrix weights n m tree branches lent weighed v l h in
       let few = taxa-most n tree branches in
       let end = last-several n (omega arith) in
       let own = states-are branches lent v (omega arith) (omega arith) in
       let its = states-are branches lent (ancestor tree v) (above .0) (omega (arith, above .1)) in
       let more = rw (own, its, before) at (longer .added v l h (omega (arith, above .1))) in
-      let step = ap₂ apart (chosen-is tree rows n v j) (chosen-is tree rows n (ancestor tree v) j) in
-      let next = length-next tree rows n j v first in
-      let most = length-most matrix n m tree branches lent v l h (j + 1 - 1) (omega arith) in
+      let step = ap₂ (part (weightOf weights j)) (chosen-is tree rows n v j) (chosen-is tree rows n (ancestor tree v) j) in
+      let next = length-next weights tree rows n j v first in
+      let most = length-most matrix weights n m tree branches lent weighed v l h (j + 1 - 1) (omega arith) in
       let wide = lent .characters in
       ap₂ (λ (x : ℕ) (t : Bool). record { length = x; mark = t })
-      (more .length .is (omega arith) ∙ ap (λ (x : ℕ). fittedLength (plain .step) tree rows n (j - 1) v + x) step ∙ sym next)
-      (more .mark ∙ sym (mark-next tree rows n j v first))
+      (more .length .is (omega arith) ∙ ap (λ (x : ℕ). fittedLength (weighing weights .step) tree rows n (j - 1) v + x) step ∙ sym next)
+      (more .mark ∙ sym (mark-next weights tree rows n j v first (weightOf-within weights m (weighed .known) j first last .0)))
 
   -- all of it
   pub written-more : (low low′ low″ high high′ high″ chosen chosen′ chosen″ : List ℤ) (old new : List BranchFit)
-      → Written matrix n m (j - 1) tree low low′ high high′ chosen chosen′ old
+      → Written matrix weights n m (j - 1) tree low low′ high high′ chosen chosen′ old
       → low″ ≡ withColumn n j (λ v. stateIn Low (statesAt states v)) low′
       → high″ ≡ withColumn n j (λ v. stateIn High (statesAt states v)) high′
       → chosen″ ≡ withColumn n j (λ v. stateIn Chosen (statesAt states v)) chosen′
-      → Lengthened n tree states old new
-      → Written matrix n m (j + 1 - 1) tree low low″ high high″ chosen chosen″ new
+      → Lengthened (weightOf weights j) n tree states old new
+      → Written matrix weights n m (j + 1 - 1) tree low low″ high high″ chosen chosen″ new
   written-more low low′ low″ high high′ high″ chosen chosen′ chosen″ old new before l h c longer = record {
     isLow = λ branches lent. list-next Low low low′ low″ branches lent (before .isLow branches lent) l;
     isHigh = λ branches lent. list-next High high high′ high″ branches lent (before .isHigh branches lent) h;
     isChosen = λ branches lent. list-next Chosen chosen chosen′ chosen″ branches lent (before .isChosen branches lent) c;
-    are = λ branches lent v p q. branch-right old new branches lent longer v p q (before .are branches lent v p q);
+    are = λ branches lent weighed v p q. branch-right old new branches lent weighed longer v p q (before .are branches lent weighed v p q);
   }

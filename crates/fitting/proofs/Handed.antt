@@ -15,7 +15,6 @@ use Rattle.lists.proofs.Stripes.{Narrow, stripes-inside}
 use Rattle.lists.proofs.Sums.{sum-same}
 use Rattle.matrix.specs.Shape.{columns, matrixSize, rowStart, lastNode}
 use Rattle.matrix.specs.NodeRows.{withRows}
-use Rattle.difference.specs.Rows.{plain}
 use Rattle.branching.specs.Ancestors.{ancestor}
 use Rattle.branching.specs.Nodes.{otherNodes}
 use Rattle.fitting.specs.Sets.{In}
@@ -69,10 +68,10 @@ pub ends-in : (tree : List ℕ) (rows : List (List ℤ)) (n v j : ℕ) (s a b : 
 unfolding statesIn
 ends-in tree rows n v j s a b e f = rw (e, f) (λ p. record { fromLow = p .0; toHigh = p .1 }, λ i. (i .fromLow, i .toHigh))
 
-module _ (tree : List ℕ) (rows : List (List ℤ)) (n m : ℕ) (some : 1 ≤ n) (few : n ≤ 64) (wide : m ≤ columns)
-    (claim : FitIsLeast (plain .step) tree rows n m) (above : (v : ℕ) → 2 ≤ v → v ≤ 2 * n - 2
+module _ (step : ℕ → ℤ → ℤ → ℕ) (tree : List ℕ) (rows : List (List ℤ)) (n m : ℕ) (some : 1 ≤ n) (few : n ≤ 64) (wide : m ≤ columns)
+    (claim : FitIsLeast step tree rows n m) (above : (v : ℕ) → 2 ≤ v → v ≤ 2 * n - 2
     → (1 ≤ ancestor tree v) × (ancestor tree v ≤ 2 * n - 2))
-    (low low′ high high′ chosen chosen′ : List ℤ) (fit : Fit) (fits : FitOf (plain .step) tree rows n m fit)
+    (low low′ high high′ chosen chosen′ : List ℤ) (fit : Fit) (fits : FitOf step tree rows n m fit)
     (lowSize : length low ≡ matrixSize) (highSize : length high ≡ matrixSize) (chosenSize : length chosen ≡ matrixSize)
     (isLow : low′ ≡ statesWritten Low tree rows n m low) (isHigh : high′ ≡ statesWritten High tree rows n m high)
     (isChosen : chosen′ ≡ statesWritten Chosen tree rows n m chosen) where
@@ -88,7 +87,7 @@ module _ (tree : List ℕ) (rows : List (List ℤ)) (n m : ℕ) (some : 1 ≤ n)
       rw (lt-leb v n htu) (read ∙ chosen-is tree rows n v j))
 
   -- what is handed back
-  pub handed-back : HandedBack (plain .step) tree rows n m low′ high′ chosen′ fit
+  pub handed-back : HandedBack step tree rows n m low′ high′ chosen′ fit
   handed-back = record {
     ranges = λ v j s p q l h.
         let a = ap (λ (list : List ℤ). stateAt list v j) isLow ∙ state-written Low tree rows n m low v j lowSize few wide p q l h in
@@ -102,7 +101,7 @@ module _ (tree : List ℕ) (rows : List (List ℤ)) (n m : ℕ) (some : 1 ≤ n)
     sums = same-sums ∙ claim .lengths ∙ sym (fits .total);
   }
     where
-      same-total : total (plain .step) tree n m (handedStates rows n chosen′) ≡ fittedTotal (plain .step) tree rows n m
+      same-total : total step tree n m (handedStates rows n chosen′) ≡ fittedTotal step tree rows n m
       same-total = unfold total branchLength fittedTotal otherNodes in
           sum-same _ _ (numbers 2 (2 * n - 3)) (λ v i.
           let w = numbers-within 2 (2 * n - 3) v i in
@@ -110,10 +109,10 @@ module _ (tree : List ℕ) (rows : List (List ℤ)) (n m : ℕ) (some : 1 ≤ n)
           let up = above v (w .0) last in
           sum-same _ _ (numbers 1 m) (λ j i′.
           let u = numbers-within 1 m j i′ in
-          ap₂ (plain .step j) (handed-state v j (omega (arith, w .0)) last (u .0) (omega (arith, u .1)))
+          ap₂ (step j) (handed-state v j (omega (arith, w .0)) last (u .0) (omega (arith, u .1)))
           (handed-state (ancestor tree v) j (up .0) (up .1) (u .0) (omega (arith, u .1)))))
 
-      same-sums : sumOver (λ v. getD (fit .lengths) v 0) (otherNodes n) ≡ sumOver (fittedLength (plain .step) tree rows n m) (otherNodes n)
+      same-sums : sumOver (λ v. getD (fit .lengths) v 0) (otherNodes n) ≡ sumOver (fittedLength step tree rows n m) (otherNodes n)
       same-sums = unfold otherNodes in
-          sum-same (λ v. getD (fit .lengths) v 0) (fittedLength (plain .step) tree rows n m) (numbers 2 (2 * n - 3))
+          sum-same (λ v. getD (fit .lengths) v 0) (fittedLength step tree rows n m) (numbers 2 (2 * n - 3))
           (λ v i. let w = numbers-within 2 (2 * n - 3) v i in fits .lengths v (w .0) (omega (arith, w .0, w .1)))

@@ -4,6 +4,7 @@ pub mod IntervalFit
 pub mod EachFitted
 pub mod Lengths
 pub mod ThirdRival
+pub mod AnyWeights
 pub mod ByNode
 pub mod OnlyCodes
 pub mod LeastCost

@@ -4,3 +4,4 @@ pub mod Basic
 pub mod Passes
 pub mod Chosen
 pub mod Range
+pub mod Weighed

@@ -8,8 +8,8 @@ use lib.IntN.{ℤ}
 use lib.ListN.{length}
 use Rattle.matrix.specs.NodeRows.{rowsOf}
 use Rattle.matrix.specs.Outcomes.{value}
-use Rattle.difference.specs.Rows.{plain}
-use Rattle.matrix.specs.Questions.{LentMatrix, askMatrix}
+use Rattle.difference.specs.Rows.{weighing}
+use Rattle.matrix.specs.Questions.{LentMatrix, LentWeights, askMatrix}
 use Rattle.matrix.specs.declared.refusal.Refusal.the-variants.{ListSize, NotBranching}
 use Rattle.matrix.specs.declared.refusal.Asked.the-variants.{Passed}
 use Rattle.matrix.proofs.Passing.{ask-passed, andThen-passed, matrix-passes}
@@ -34,29 +34,29 @@ unfolding lentBranching
 lent-test n records e = and-eq-true-iff (namedInOrder n records) (branching n (ancestorsOf n records)) .0 e .1
 
 -- what passed questions tell of the records
-pub records-passed : (codes : List ℤ) (n m : ℕ) (records : List Branch) → askBranching codes n m records ≡ Passed
+pub records-passed : (codes : List ℤ) (weights : List ℕ) (n m : ℕ) (records : List Branch) → askBranching codes weights n m records ≡ Passed
     → lentBranching n records ≡ true
 unfolding askBranching
-records-passed codes n m records e =
+records-passed codes weights n m records e =
     let size = ask-passed (eqb (length records) branchesSize) ListSize _ e in
-    let both = andThen-passed (askMatrix codes n m) _ (size .1) in
+    let both = andThen-passed (askMatrix codes weights n m) _ (size .1) in
     ask-passed (lentBranching n records) NotBranching Passed (both .1) .0
 
 -- what passed questions tell
-pub branching-passed : (codes : List ℤ) (n m : ℕ) (records : List Branch) → askBranching codes n m records ≡ Passed
-    → LentMatrix codes n m × (branchingWithin n (placesOf n records) ≡ true)
+pub branching-passed : (codes : List ℤ) (weights : List ℕ) (n m : ℕ) (records : List Branch) → askBranching codes weights n m records ≡ Passed
+    → LentMatrix codes n m × LentWeights weights m × (branchingWithin n (placesOf n records) ≡ true)
 unfolding askBranching
-branching-passed codes n m records e =
+branching-passed codes weights n m records e =
     let size = ask-passed (eqb (length records) branchesSize) ListSize _ e in
-    let both = andThen-passed (askMatrix codes n m) _ (size .1) in
-    let lent = matrix-passes codes n m .0 (both .0) in
-    (lent, places-branching codes n m records lent (ask-passed (lentBranching n records) NotBranching Passed (both .1) .0))
+    let both = andThen-passed (askMatrix codes weights n m) _ (size .1) in
+    let lent = matrix-passes codes weights n m .0 (both .0) in
+    (lent .0, lent .1, places-branching codes n m records (lent .0) (ask-passed (lentBranching n records) NotBranching Passed (both .1) .0))
 
 -- the fitted total of a lent branching that no question refuses
-pub total-passed : (codes : List ℤ) (n m : ℕ) (records : List Branch) (tree : List ℕ) (r : ℕ) → askBranching codes n m records ≡ Passed
-    → tree ≡ placesOf n records → TotalOf codes n m tree r → value r ≡ totalAnswer codes n m records
+pub total-passed : (codes : List ℤ) (weights : List ℕ) (n m : ℕ) (records : List Branch) (tree : List ℕ) (r : ℕ) → askBranching codes weights n m records ≡ Passed
+    → tree ≡ placesOf n records → TotalOf codes weights n m tree r → value r ≡ totalAnswer codes weights n m records
 unfolding totalAnswer
-total-passed codes n m records tree r e is of =
-    let passed = branching-passed codes n m records e in
-    let same = total-same (placesOf n records) (ancestorsOf n records) (places-ancestors n records) (rowsOf codes m n) n (plain .step) m in
-    rw (e, of .is (rw is (passed .1)) (passed .0), is, same)
+total-passed codes weights n m records tree r e is of =
+    let passed = branching-passed codes weights n m records e in
+    let same = total-same (placesOf n records) (ancestorsOf n records) (places-ancestors n records) (rowsOf codes m n) n (weighing weights .step) m in
+    rw (e, of .is (rw is (passed .2)) (passed .0) (passed .1), is, same)

@@ -8,9 +8,9 @@ use lib.ListN.{replicate, set}
 use Rattle.lists.specs.Numbers.{numbers}
 use Rattle.lists.specs.Tests.{every, sameNumbers}
 use Rattle.lists.specs.Filters.{keep}
-use Rattle.matrix.specs.Shape.{row, inRange, lastNode}
-use Rattle.matrix.specs.Questions.{oneTo, withinLimits, allInRange, rowsInRange, askMatrix}
-use Rattle.matrix.specs.declared.refusal.Refusal.the-variants.{BeyondLimits, CodeRange, ListSize, NotThere, NotBranching}
+use Rattle.matrix.specs.Shape.{row, inRange, isWeight, lastNode}
+use Rattle.matrix.specs.Questions.{oneTo, withinLimits, allInRange, rowsInRange, areWeights, askMatrix}
+use Rattle.matrix.specs.declared.refusal.Refusal.the-variants.{BeyondLimits, CodeRange, ListSize, NotThere, NotBranching, WeightForm}
 use Rattle.matrix.specs.declared.refusal.Asked.{Asked}
 use Rattle.matrix.specs.declared.refusal.Asked.the-variants.{Passed, Refused}
 use Rattle.branching.specs.declared.branch.Branch.{Branch}
@@ -32,6 +32,10 @@ wrongRow : ℕ → List ℤ
 unfolding codes
 wrongRow v = set (codes 16128) ((v - 1) * 128) (pos 1000)
 
+-- lent weights of which the first is given and the others are 1
+weights : ℕ → List ℕ
+weights first = first ∷ replicate 127 1
+
 -- a branch record
 branch : ℕ → ℕ → Branch
 branch v a = record { node = v; ancestor = a; length = 7 }
@@ -47,20 +51,48 @@ unfolding branch
 none = replicate 125 (branch 0 0)
 
 -- the questions of a fit of n taxa, with lists of these sizes
-fit : List ℤ → ℕ → List Branch → ℕ → ℕ → ℕ → Asked
+fitBy : List ℕ → List ℤ → ℕ → List Branch → ℕ → ℕ → ℕ → Asked
 unfolding numbers every sameNumbers keep row inRange lastNode oneTo withinLimits allInRange rowsInRange askMatrix ancestor descendants
     hasAncestor inTree nodesIn otherNodes taxaPlaced descendantCount descendantsWanted climbs rowOneAlone nodesOnly htusIn ancestorsIn
     descendantsRight allClimb grown growingTree branching branchesRead ancestorsOf namedInOrder lentBranching askBranching listsFull askFit
-    codes wrongRow branch three none
-fit matrix n records low high chosen = askFit matrix n 1 records (codes low) (codes high) (codes chosen)
+    isWeight areWeights codes wrongRow weights branch three none
+fitBy weights matrix n records low high chosen = askFit matrix weights n 1 records (codes low) (codes high) (codes chosen)
+
+-- the same with weights of 1
+fit : List ℤ → ℕ → List Branch → ℕ → ℕ → ℕ → Asked
+unfolding fitBy
+fit = fitBy (weights 1)
 
 -- the questions of the call for node v of n taxa in character j
-node : List ℤ → ℕ → List Branch → ℕ → ℕ → Asked
+nodeBy : List ℕ → List ℤ → ℕ → List Branch → ℕ → ℕ → Asked
 unfolding numbers every sameNumbers keep row inRange lastNode oneTo withinLimits allInRange rowsInRange askMatrix ancestor descendants
     hasAncestor inTree nodesIn otherNodes taxaPlaced descendantCount descendantsWanted climbs rowOneAlone nodesOnly htusIn ancestorsIn
     descendantsRight allClimb grown growingTree branching branchesRead ancestorsOf namedInOrder lentBranching askNode
-    codes wrongRow branch three none
-node matrix n records v j = askNode matrix n 1 records v j
+    isWeight areWeights codes wrongRow weights branch three none
+nodeBy weights matrix n records v j = askNode matrix weights n 1 records v j
+
+-- the same with weights of 1
+node : List ℤ → ℕ → List Branch → ℕ → ℕ → Asked
+unfolding nodeBy
+node = nodeBy (weights 1)
+
+-- in both calls 127 weights are 12, and a weight of 0 is 16, after 4 and before 10
+weights-asked : fitBy (replicate 127 1) (codes 16128) 3 (three 122) 16128 16128 16128
+    ∷ fitBy (weights 0) (codes 16128) 65 none 16128 16128 16128
+    ∷ fitBy (weights 0) (wrongRow 3) 3 none 16128 16128 16128
+    ∷ nodeBy (replicate 127 1) (codes 16128) 3 (three 122) 4 1
+    ∷ nodeBy (weights 0) (codes 16128) 65 none 0 0
+    ∷ nodeBy (weights 0) (wrongRow 3) 3 none 0 0
+    ∷ []
+    ≡ Refused ListSize
+    ∷ Refused BeyondLimits
+    ∷ Refused WeightForm
+    ∷ Refused ListSize
+    ∷ Refused BeyondLimits
+    ∷ Refused WeightForm
+    ∷ []
+unfolding fit node
+weights-asked = refl
 
 -- each of the three lists of states is asked for its size, before the limits
 lists-first : fit (codes 16128) 65 none 16127 16128 16128

@@ -1,14 +1,17 @@
 -- The claim about the third rival at document 01's example: its tree is a branching, every assignment has a total of at least 9,
 -- and in character 3 of an assignment of least length #1 has state 0 or 1, and no other.
-use mathlib.Core.Path.{refl}
+use mathlib.Core.Path.{_≡_, refl}
+use mathlib.Core.Bool.{true}
+use mathlib.Core.List.{List, [], _∷_}
 use mathlib.Core.Logic.{_↔_}
 use Prim.Native.Nat.{ℕ, _≤_}
 use native.Mathlib.Omega.{arith}
 use lib.IntN.{ℤ, pos}
 use Rattle.lists.specs.Numbers.{numbers}
-use Rattle.matrix.specs.Shape.{lastNode}
+use Rattle.matrix.specs.Shape.{lastNode, isWeight}
+use Rattle.matrix.specs.Questions.{areWeights}
 use Rattle.lists.specs.Tests.{every}
-use Rattle.difference.specs.Rows.{plain}
+use Rattle.difference.specs.Rows.{weighing}
 use Rattle.branching.specs.Ancestors.{ancestor, descendants}
 use Rattle.lists.specs.Filters.{keep}
 use Rattle.branching.specs.Nodes.{otherNodes, hasAncestor, inTree, nodesIn, taxaPlaced}
@@ -28,14 +31,23 @@ unfolding numbers lastNode every ancestor descendants hasAncestor inTree keep no
     descendantsWanted climbs rowOneAlone nodesOnly htusIn ancestorsIn descendantsRight allClimb grown growingTree branching
 branching-ABCD = branching-iff treeABCD 4 (omega arith) .0 refl
 
+-- all characters weigh 1
+abbrev alike : List ℕ
+alike = 1 ∷ 1 ∷ 1 ∷ []
+
+-- these are weights
+alike-known : areWeights alike 3 ≡ true
+unfolding areWeights isWeight every
+alike-known = refl
+
 -- every assignment has a total of at least 9
-pub at-least-9 : (states : ℕ → ℕ → ℤ) → IsAssignment rowsABCD 4 3 states → 9 ≤ total (plain .step) treeABCD 4 3 states
+pub at-least-9 : (states : ℕ → ℕ → ℤ) → IsAssignment rowsABCD 4 3 states → 9 ≤ total (weighing alike .step) treeABCD 4 3 states
 unfolding printed
-at-least-9 states h = third-rival 4 3 treeABCD rowsABCD (omega arith) branching-ABCD .least states h
+at-least-9 states h = third-rival alike 4 3 treeABCD rowsABCD (omega arith) alike-known branching-ABCD .least states h
 
 -- #1 has a state in character 3 of an assignment of least length exactly if it is from 0 to 1
-pub #1-in-character-3 : (s : ℤ) → In s (span (pos 0) (pos 1)) ↔ Occurs (plain .step) treeABCD rowsABCD 4 3 5 3 s
+pub #1-in-character-3 : (s : ℤ) → In s (span (pos 0) (pos 1)) ↔ Occurs (weighing alike .step) treeABCD rowsABCD 4 3 5 3 s
 unfolding printed
 #1-in-character-3 s =
-    third-rival 4 3 treeABCD rowsABCD (omega arith) branching-ABCD
+    third-rival alike 4 3 treeABCD rowsABCD (omega arith) alike-known branching-ABCD
     .ranges 5 3 s (omega arith) (unfold lastNode in omega arith) (omega arith) (omega arith)

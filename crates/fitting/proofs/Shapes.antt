@@ -14,9 +14,9 @@ use Rattle.lists.proofs.Numbers.{numbers-within, length-numbers}
 use Rattle.lists.proofs.Sums.{sum-same, sum-most}
 use Rattle.matrix.specs.Shape.{matrixSize}
 use Rattle.matrix.specs.NodeRows.{rowsOf}
-use Rattle.matrix.specs.Questions.{LentMatrix, withinLimits, oneTo}
+use Rattle.matrix.specs.Questions.{LentMatrix, LentWeights, withinLimits, oneTo}
 use Rattle.matrix.proofs.Passing.{oneTo-true, true-oneTo}
-use Rattle.difference.specs.Rows.{plain}
+use Rattle.difference.specs.Rows.{mostDifference, weighing}
 use Rattle.branching.specs.Nodes.{otherNodes}
 use Rattle.branching.specs.Within.{branchingWithin}
 use Rattle.fitting.specs.Fit.{fittedLength, fittedTotal}
@@ -83,49 +83,51 @@ true-shape matrix n m lent =
     )
 
 -- where the shapes are not right nothing is promised
-pub not-fitted : (matrix low high chosen : List ℤ) (n m : ℕ) (tree : List ℕ) (fit : Fit)
+pub not-fitted : (matrix low high chosen : List ℤ) (weights : List ℕ) (n m : ℕ) (tree : List ℕ) (fit : Fit)
     → fitShapes (length matrix) n m (length low) (length high) (length chosen) ≡ false
-    → TreeFitted matrix n m tree low low high high chosen chosen fit
-not-fitted matrix low high chosen n m tree fit e = record {
-  fitted = λ branches lent l h c. absurd (true≢false (sym (true-shapes matrix low high chosen n m lent l h c) ∙ e));
+    → TreeFitted matrix weights n m tree low low high high chosen chosen fit
+not-fitted matrix low high chosen weights n m tree fit e = record {
+  fitted = λ branches lent weighed l h c. absurd (true≢false (sym (true-shapes matrix low high chosen n m lent l h c) ∙ e));
 }
 
 -- the fit of a tree from what is written and from its branches
-pub tree-fitted : (matrix : List ℤ) (n m : ℕ) (tree : List ℕ) (low low′ high high′ chosen chosen′ : List ℤ) (branches : List BranchFit)
-    (total : ℕ) (fit : Fit) → Written matrix n m m tree low low′ high high′ chosen chosen′ branches → SumOf n branches total
-    → FitFrom n branches total fit → TreeFitted matrix n m tree low low′ high high′ chosen chosen′ fit
-tree-fitted matrix n m tree low low′ high high′ chosen chosen′ branches total fit written sum from = record {
-  fitted = λ whole lent l h c.
-      (fits whole lent, written .isLow whole lent, written .isHigh whole lent, written .isChosen whole lent);
+pub tree-fitted : (matrix : List ℤ) (weights : List ℕ) (n m : ℕ) (tree : List ℕ) (low low′ high high′ chosen chosen′ : List ℤ) (branches : List BranchFit)
+    (total : ℕ) (fit : Fit) → Written matrix weights n m m tree low low′ high high′ chosen chosen′ branches → SumOf n branches total
+    → FitFrom n branches total fit → TreeFitted matrix weights n m tree low low′ high high′ chosen chosen′ fit
+tree-fitted matrix weights n m tree low low′ high high′ chosen chosen′ branches total fit written sum from = record {
+  fitted = λ whole lent weighed l h c.
+      (fits whole lent weighed, written .isLow whole lent, written .isHigh whole lent, written .isChosen whole lent);
 }
   where
-    each : branchingWithin n tree ≡ true → LentMatrix matrix n m → (v : ℕ) → 2 ≤ v → v ≤ 2 * n - 2
-        → branchAt branches v .length ≡ fittedLength (plain .step) tree (rowsOf matrix m n) n m v
-    each whole lent v l h = ap (λ (b : BranchFit). b .length) (written .are whole lent v l h)
+    each : branchingWithin n tree ≡ true → LentMatrix matrix n m → LentWeights weights m → (v : ℕ) → 2 ≤ v → v ≤ 2 * n - 2
+        → branchAt branches v .length ≡ fittedLength (weighing weights .step) tree (rowsOf matrix m n) n m v
+    each whole lent weighed v l h = ap (λ (b : BranchFit). b .length) (written .are whole lent weighed v l h)
 
-    sums : branchingWithin n tree ≡ true → LentMatrix matrix n m
-        → sumOver (λ v. branchAt branches v .length) (otherNodes n) ≡ fittedTotal (plain .step) tree (rowsOf matrix m n) n m
-    sums whole lent = unfold otherNodes in
-        sum-same (λ v. branchAt branches v .length) (fittedLength (plain .step) tree (rowsOf matrix m n) n m) (numbers 2 (2 * n - 3))
-        (λ v i. let w = numbers-within 2 (2 * n - 3) v i in each whole lent v (w .0) (omega (arith, w .0, w .1)))
-        ∙ lengths-total (plain .step) n m tree (rowsOf matrix m n)
+    sums : branchingWithin n tree ≡ true → LentMatrix matrix n m → LentWeights weights m
+        → sumOver (λ v. branchAt branches v .length) (otherNodes n) ≡ fittedTotal (weighing weights .step) tree (rowsOf matrix m n) n m
+    sums whole lent weighed = unfold otherNodes in
+        sum-same (λ v. branchAt branches v .length) (fittedLength (weighing weights .step) tree (rowsOf matrix m n) n m) (numbers 2 (2 * n - 3))
+        (λ v i. let w = numbers-within 2 (2 * n - 3) v i in each whole lent weighed v (w .0) (omega (arith, w .0, w .1)))
+        ∙ lengths-total (weighing weights .step) n m tree (rowsOf matrix m n)
 
-    small : branchingWithin n tree ≡ true → LentMatrix matrix n m → sumOver (λ v. branchAt branches v .length) (otherNodes n) < 2 ^ 64
-    small whole lent = unfold otherNodes in
-        let most = sum-most (λ v. branchAt branches v .length) 255744 (numbers 2 (2 * n - 3))
+    small : branchingWithin n tree ≡ true → LentMatrix matrix n m → LentWeights weights m
+        → sumOver (λ v. branchAt branches v .length) (otherNodes n) < 2 ^ 64
+    small whole lent weighed = unfold otherNodes in
+        let most = sum-most (λ v. branchAt branches v .length) mostDifference (numbers 2 (2 * n - 3))
         (λ v i.
         let w = numbers-within 2 (2 * n - 3) v i in
         let last : v ≤ 2 * n - 2 = omega (arith, w .0, w .1) in
         let wide = lent .characters in
-        omega (arith, each whole lent v (w .0) last, length-most matrix n m tree whole lent v (w .0) last m (omega arith))) in
+        omega (arith, each whole lent weighed v (w .0) last, length-most matrix weights n m tree whole lent weighed v (w .0) last m (omega arith))) in
         let few = taxa-most n tree whole in
         omega (arith, most, length-numbers 2 (2 * n - 3))
 
-    fits : branchingWithin n tree ≡ true → LentMatrix matrix n m → FitOf (plain .step) tree (rowsOf matrix m n) n m fit
-    fits whole lent = record {
-      lengths = λ v l h. from .lengths v l h ∙ each whole lent v l h;
+    fits : branchingWithin n tree ≡ true → LentMatrix matrix n m → LentWeights weights m
+        → FitOf (weighing weights .step) tree (rowsOf matrix m n) n m fit
+    fits whole lent weighed = record {
+      lengths = λ v l h. from .lengths v l h ∙ each whole lent weighed v l h;
       noLength = from .noLength;
-      marks = λ v l h. from .marks v l h ∙ ap (λ (b : BranchFit). b .mark) (written .are whole lent v l h);
+      marks = λ v l h. from .marks v l h ∙ ap (λ (b : BranchFit). b .mark) (written .are whole lent weighed v l h);
       noMark = from .noMark;
-      total = from .total ∙ sum .is (small whole lent) ∙ sums whole lent;
+      total = from .total ∙ sum .is (small whole lent weighed) ∙ sums whole lent weighed;
     }

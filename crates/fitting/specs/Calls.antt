@@ -9,11 +9,11 @@ use lib.ListN.{length, getD, replicate}
 use Rattle.lists.specs.Numbers.{numbers}
 use Rattle.matrix.specs.Shape.{matrixSize, lastNode}
 use Rattle.matrix.specs.NodeRows.{rowsOf, withRows}
-use Rattle.matrix.specs.Questions.{LentMatrix}
+use Rattle.matrix.specs.Questions.{LentMatrix, LentWeights}
 use Rattle.matrix.specs.Outcomes.{Outcome, answered, ask}
 use Rattle.matrix.specs.declared.refusal.Refusal.the-variants.{ListSize}
 use Rattle.matrix.specs.declared.refusal.Asked.{Asked}
-use Rattle.difference.specs.Rows.{plain}
+use Rattle.difference.specs.Rows.{weighing}
 use Rattle.branching.specs.declared.branch.Branch.{Branch}
 use Rattle.branching.specs.Within.{branchingWithin}
 use Rattle.branching.specs.Branches.{ancestorsOf}
@@ -25,8 +25,9 @@ use Rattle.fitting.specs.declared.whole.Which.{Which}
 use Rattle.fitting.specs.declared.whole.Which.the-variants.{Low, High, Chosen}
 
 -- r is the fitted total of a branching with a lent matrix of n taxa and m characters
-pub record TotalOf (codes : List ℤ) (n m : ℕ) (tree : List ℕ) (r : ℕ) : Type 0 where
-  pub is : branchingWithin n tree ≡ true → LentMatrix codes n m → r ≡ fittedTotal (plain .step) tree (rowsOf codes m n) n m
+pub record TotalOf (codes : List ℤ) (weights : List ℕ) (n m : ℕ) (tree : List ℕ) (r : ℕ) : Type 0 where
+  pub is : branchingWithin n tree ≡ true → LentMatrix codes n m → LentWeights weights m
+      → r ≡ fittedTotal (weighing weights .step) tree (rowsOf codes m n) n m
 
 -- one of the states of a node
 abbrev pub stateIn : Which → States → ℤ
@@ -52,27 +53,28 @@ pub record FitOf (step : ℕ → ℤ → ℤ → ℕ) (tree : List ℕ) (rows : 
   pub total : fit .total ≡ fittedTotal step tree rows n m
 
 -- a tree that is a branching, with a lent matrix, fitted into three lists of the matrix's shape
-pub record TreeFitted (codes : List ℤ) (n m : ℕ) (tree : List ℕ) (low low′ high high′ chosen chosen′ : List ℤ) (fit : Fit) : Type 0 where
-  pub fitted : branchingWithin n tree ≡ true → LentMatrix codes n m
+pub record TreeFitted (codes : List ℤ) (weights : List ℕ) (n m : ℕ) (tree : List ℕ) (low low′ high high′ chosen chosen′ : List ℤ)
+    (fit : Fit) : Type 0 where
+  pub fitted : branchingWithin n tree ≡ true → LentMatrix codes n m → LentWeights weights m
       → length low ≡ matrixSize → length high ≡ matrixSize → length chosen ≡ matrixSize
-      → FitOf (plain .step) tree (rowsOf codes m n) n m fit
+      → FitOf (weighing weights .step) tree (rowsOf codes m n) n m fit
       × (low′ ≡ statesWritten Low tree (rowsOf codes m n) n m low)
       × (high′ ≡ statesWritten High tree (rowsOf codes m n) n m high)
       × (chosen′ ≡ statesWritten Chosen tree (rowsOf codes m n) n m chosen)
 
 -- the fitted total of a lent branching, once its questions are answered
-unfoldable pub totalAnswer : List ℤ → ℕ → ℕ → List Branch → Outcome ℕ
-totalAnswer codes n m records =
-    answered (askBranching codes n m records) (fittedTotal (plain .step) (ancestorsOf n records) (rowsOf codes m n) n m)
+unfoldable pub totalAnswer : List ℤ → List ℕ → ℕ → ℕ → List Branch → Outcome ℕ
+totalAnswer codes weights n m records =
+    answered (askBranching codes weights n m records) (fittedTotal (weighing weights .step) (ancestorsOf n records) (rowsOf codes m n) n m)
 
 -- three lists have the matrix's size
 unfoldable pub listsFull : ℕ → ℕ → ℕ → Bool
 listsFull low high chosen = eqb low matrixSize && (eqb high matrixSize && eqb chosen matrixSize)
 
 -- the questions of the call for a fit: the sizes of the three lists, then those on a lent branching that reads no HTU row
-unfoldable pub askFit : List ℤ → ℕ → ℕ → List Branch → List ℤ → List ℤ → List ℤ → Asked
-askFit codes n m records low high chosen =
-    ask (listsFull (length low) (length high) (length chosen)) ListSize (askBranching codes n m records)
+unfoldable pub askFit : List ℤ → List ℕ → ℕ → ℕ → List Branch → List ℤ → List ℤ → List ℤ → Asked
+askFit codes weights n m records low high chosen =
+    ask (listsFull (length low) (length high) (length chosen)) ListSize (askBranching codes weights n m records)
 
 -- r are the states of node v in character j of a branching with a lent matrix of n taxa and m characters
 pub record StatesOf (codes : List ℤ) (n m : ℕ) (tree : List ℕ) (v j : ℕ) (r : States) : Type 0 where

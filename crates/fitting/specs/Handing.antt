@@ -18,7 +18,7 @@ use Rattle.matrix.specs.declared.refusal.Refusal.{Refusal}
 use Rattle.matrix.specs.declared.refusal.Refusal.the-variants.{ListSize, NotThere, NotBranching}
 use Rattle.matrix.specs.declared.refusal.Asked.{Asked}
 use Rattle.matrix.specs.declared.refusal.Asked.the-variants.{Passed, Refused}
-use Rattle.difference.specs.Rows.{plain}
+use Rattle.difference.specs.Rows.{weighing}
 use Rattle.branching.specs.Nodes.{otherNodes}
 use Rattle.branching.specs.declared.branch.Branch.{Branch}
 use Rattle.branching.specs.Branches.{ancestorsOf, lentBranching}
@@ -59,28 +59,28 @@ pub record HandedBack (step : ℕ → ℤ → ℤ → ℕ) (tree : List ℕ) (ro
 
 -- the call answers its questions. If none refuses, the lists hold, in the HTUs' rows and the m columns, lowest, highest and chosen
 -- states, and elsewhere what they held; the fit is that of the branching. After a refusal there is no fit, and all lists are as before.
-pub record FitAnswer (codes : List ℤ) (n m : ℕ) (records : List Branch) (low low′ high high′ chosen chosen′ : List ℤ)
+pub record FitAnswer (codes : List ℤ) (weights : List ℕ) (n m : ℕ) (records : List Branch) (low low′ high high′ chosen chosen′ : List ℤ)
     (r : Fitted) : Type 0 where
-  pub says : askedSays (r .asked) ≡ askedSays (askFit codes n m records low high chosen)
-  pub fitted : askFit codes n m records low high chosen ≡ Passed
-      → FitOf (plain .step) (ancestorsOf n records) (rowsOf codes m n) n m (r .fit)
-  pub isLow : askFit codes n m records low high chosen ≡ Passed
+  pub says : askedSays (r .asked) ≡ askedSays (askFit codes weights n m records low high chosen)
+  pub fitted : askFit codes weights n m records low high chosen ≡ Passed
+      → FitOf (weighing weights .step) (ancestorsOf n records) (rowsOf codes m n) n m (r .fit)
+  pub isLow : askFit codes weights n m records low high chosen ≡ Passed
       → low′ ≡ statesWritten Low (ancestorsOf n records) (rowsOf codes m n) n m low
-  pub isHigh : askFit codes n m records low high chosen ≡ Passed
+  pub isHigh : askFit codes weights n m records low high chosen ≡ Passed
       → high′ ≡ statesWritten High (ancestorsOf n records) (rowsOf codes m n) n m high
-  pub isChosen : askFit codes n m records low high chosen ≡ Passed
+  pub isChosen : askFit codes weights n m records low high chosen ≡ Passed
       → chosen′ ≡ statesWritten Chosen (ancestorsOf n records) (rowsOf codes m n) n m chosen
-  pub handed : askFit codes n m records low high chosen ≡ Passed
-      → HandedBack (plain .step) (ancestorsOf n records) (rowsOf codes m n) n m low′ high′ chosen′ (r .fit)
-  pub refused : (refusal : Refusal) → askFit codes n m records low high chosen ≡ Refused refusal
+  pub handed : askFit codes weights n m records low high chosen ≡ Passed
+      → HandedBack (weighing weights .step) (ancestorsOf n records) (rowsOf codes m n) n m low′ high′ chosen′ (r .fit)
+  pub refused : (refusal : Refusal) → askFit codes weights n m records low high chosen ≡ Refused refusal
       → (r .fit ≡ noFit) × (low′ ≡ low) × (high′ ≡ high) × (chosen′ ≡ chosen)
 
 -- the questions of the call for node v in character j: the size of the list of branches, those on the matrix, whether node and character
 -- exist, whether the branches are a branching
-unfoldable pub askNode : List ℤ → ℕ → ℕ → List Branch → ℕ → ℕ → Asked
-askNode codes n m records v j =
+unfoldable pub askNode : List ℤ → List ℕ → ℕ → ℕ → List Branch → ℕ → ℕ → Asked
+askNode codes weights n m records v j =
     ask (eqb (length records) branchesSize) ListSize
-    (andThen (askMatrix codes n m)
+    (andThen (askMatrix codes weights n m)
     (ask (oneTo (lastNode n) v) NotThere (ask (oneTo m j) NotThere (ask (lentBranching n records) NotBranching Passed))))
 
 -- what states handed back say
@@ -90,7 +90,7 @@ nodeSays (NodeStates.Refused refusal) = refused (refusalNumber refusal) 0
 
 -- the call for node v in character j answers its questions; the states are those of the branching, and a state lies from low to high
 -- exactly if the node, taxon or HTU, has it in some assignment of least length
-pub record NodeAnswer (codes : List ℤ) (n m : ℕ) (records : List Branch) (v j : ℕ) (r : NodeStates) : Type 0 where
-  pub says : nodeSays r ≡ answered (askNode codes n m records v j) (statesIn (ancestorsOf n records) (rowsOf codes m n) n v j)
+pub record NodeAnswer (codes : List ℤ) (weights : List ℕ) (n m : ℕ) (records : List Branch) (v j : ℕ) (r : NodeStates) : Type 0 where
+  pub says : nodeSays r ≡ answered (askNode codes weights n m records v j) (statesIn (ancestorsOf n records) (rowsOf codes m n) n v j)
   pub ranges : (states : States) → nodeSays r ≡ value states → (s : ℤ)
-      → ((states .low ≤ℤ s) × (s ≤ℤ states .high)) ↔ Occurs (plain .step) (ancestorsOf n records) (rowsOf codes m n) n m v j s
+      → ((states .low ≤ℤ s) × (s ≤ℤ states .high)) ↔ Occurs (weighing weights .step) (ancestorsOf n records) (rowsOf codes m n) n m v j s

@@ -12,8 +12,8 @@ use Rattle.lists.specs.Over.{stripes}
 use Rattle.lists.specs.Sums.{sumOver}
 use Rattle.matrix.specs.Shape.{columns, matrixSize, rowStart}
 use Rattle.matrix.specs.NodeRows.{rowsOf}
-use Rattle.matrix.specs.Questions.{LentMatrix, withinLimits}
-use Rattle.difference.specs.Rows.{apart, plain}
+use Rattle.matrix.specs.Questions.{LentMatrix, LentWeights, withinLimits}
+use Rattle.difference.specs.Rows.{apart, part, weighing}
 use Rattle.branching.specs.Ancestors.{ancestor}
 use Rattle.branching.specs.Nodes.{otherNodes}
 use Rattle.branching.specs.Within.{branchingWithin}
@@ -38,22 +38,23 @@ abbrev pub branchAt : List BranchFit → ℕ → BranchFit
 branchAt branches v = getD branches v noBranch
 
 -- the branch of node v in the fit of k characters
-abbrev pub fittedBranch : List ℕ → List (List ℤ) → ℕ → ℕ → ℕ → BranchFit
-fittedBranch tree rows n k v = record { length = fittedLength (plain .step) tree rows n k v; mark = marked (plain .step) tree rows n k v }
+abbrev pub fittedBranch : List ℕ → List ℕ → List (List ℤ) → ℕ → ℕ → ℕ → BranchFit
+fittedBranch weights tree rows n k v =
+    record { length = fittedLength (weighing weights .step) tree rows n k v; mark = marked (weighing weights .step) tree rows n k v }
 
 -- a character marks the branch of a node, by its states and those of its immediate ancestor
 abbrev pub marksIn : States → States → Bool
 marksIn own above = ltb 0 (apart (own .chosen) (above .chosen))
 
--- r is a branch with one character more
-pub record Longer (own above : States) (branch r : BranchFit) : Type 0 where
-  pub length : PlusOf (branch .length) (apart (own .chosen) (above .chosen)) (r .length)
+-- r is a branch with one character more, of this weight
+pub record Longer (weight : ℕ) (own above : States) (branch r : BranchFit) : Type 0 where
+  pub length : PlusOf (branch .length) (part weight (own .chosen) (above .chosen)) (r .length)
   pub mark : r .mark ≡ (branch .mark || marksIn own above)
 
--- the branches with one character more
-pub record Lengthened (n : ℕ) (tree : List ℕ) (states : List States) (branches r : List BranchFit) : Type 0 where
+-- the branches with one character more, of this weight
+pub record Lengthened (weight n : ℕ) (tree : List ℕ) (states : List States) (branches r : List BranchFit) : Type 0 where
   pub added : (v : ℕ) → 2 ≤ v → v ≤ 2 * n - 2 → ancestor tree v ≤ 126
-      → Longer (statesAt states v) (statesAt states (ancestor tree v)) (branchAt branches v) (branchAt r v)
+      → Longer weight (statesAt states v) (statesAt states (ancestor tree v)) (branchAt branches v) (branchAt r v)
   pub kept : (v : ℕ) → (2 ≤ v → v ≤ 2 * n - 2 → ⊥) → branchAt r v ≡ branchAt branches v
 
 -- r is the sum of the branches' lengths, if it fits 64 bits
@@ -70,13 +71,13 @@ pub record FitFrom (n : ℕ) (branches : List BranchFit) (sum : ℕ) (fit : Fit)
   pub total : fit .total ≡ sum
 
 -- the first k of m characters fitted: the states of the HTUs in them are written, and the branches are those of the fit of them
-pub record Written (matrix : List ℤ) (n m k : ℕ) (tree : List ℕ) (low low′ high high′ chosen chosen′ : List ℤ)
-    (branches : List BranchFit) : Type 0 where
+pub record Written (matrix : List ℤ) (weights : List ℕ) (n m k : ℕ) (tree : List ℕ)
+    (low low′ high high′ chosen chosen′ : List ℤ) (branches : List BranchFit) : Type 0 where
   pub isLow : branchingWithin n tree ≡ true → LentMatrix matrix n m → low′ ≡ statesWritten Low tree (rowsOf matrix m n) n k low
   pub isHigh : branchingWithin n tree ≡ true → LentMatrix matrix n m → high′ ≡ statesWritten High tree (rowsOf matrix m n) n k high
   pub isChosen : branchingWithin n tree ≡ true → LentMatrix matrix n m → chosen′ ≡ statesWritten Chosen tree (rowsOf matrix m n) n k chosen
-  pub are : branchingWithin n tree ≡ true → LentMatrix matrix n m → (v : ℕ) → 2 ≤ v → v ≤ 2 * n - 2
-      → branchAt branches v ≡ fittedBranch tree (rowsOf matrix m n) n k v
+  pub are : branchingWithin n tree ≡ true → LentMatrix matrix n m → LentWeights weights m → (v : ℕ) → 2 ≤ v → v ≤ 2 * n - 2
+      → branchAt branches v ≡ fittedBranch weights tree (rowsOf matrix m n) n k v
 
 -- the lengths of a matrix and of three lists are that of the matrix's shape, and n and m are within their limits
 unfoldable pub fitShapes : ℕ → ℕ → ℕ → ℕ → ℕ → ℕ → Bool

@@ -37,6 +37,10 @@ pub record GapOf (a b : Span) (r : ℕ) : Type 0 where
 pub record PlusOf (a b r : ℕ) : Type 0 where
   pub is : a + b < 2 ^ 64 → r ≡ a + b
 
+-- r is a length that counts as often as a weight says, if the length is at most 2 ^ 32
+pub record WeighedOf (weight length r : ℕ) : Type 0 where
+  pub is : length ≤ 2 ^ 32 → r ≡ weight * length
+
 module _ (code : ℕ → ℤ) where
   -- the least cost within a clade: the gaps between the sets of sisters
   unfoldable pub leastCost : Clade → ℕ

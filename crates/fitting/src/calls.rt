@@ -31,6 +31,7 @@ pub struct Fitted {
 // matrix's shape.
 pub fn fit(
     matrix: &[i32],
+    weights: &[u8],
     n: usize,
     m: usize,
     records: [Branch; 125],
@@ -38,7 +39,7 @@ pub fn fit(
     high: &mut [i32],
     chosen: &mut [i32],
 ) -> Fitted
-    ensures { λ r. ⌜ FitAnswer (now (matrix .entry)) n m records (now (low .entry)) (now (low .exit)) (now (high .entry)) (now (high .exit)) (now (chosen .entry)) (now (chosen .exit)) r ⌝ }
+    ensures { λ r. ⌜ FitAnswer (now (matrix .entry)) (now (weights .entry)) n m records (now (low .entry)) (now (low .exit)) (now (high .entry)) (now (high .exit)) (now (chosen .entry)) (now (chosen .exit)) r ⌝ }
 {
     if !lists_full(low.len(), high.len(), chosen.len()) {
         return Fitted {
@@ -46,14 +47,23 @@ pub fn fit(
             fit: no_fit(),
         };
     }
-    match ask_branching(matrix, n, m, records) {
+    match ask_branching(matrix, weights, n, m, records) {
         Asked::Refused(refusal) => Fitted {
             asked: Asked::Refused(refusal),
             fit: no_fit(),
         },
         Asked::Passed => Fitted {
             asked: Asked::Passed,
-            fit: fit_tree(matrix, n, m, tree_of(records, n), low, high, chosen),
+            fit: fit_tree(
+                matrix,
+                weights,
+                n,
+                m,
+                tree_of(records, n),
+                low,
+                high,
+                chosen,
+            ),
         },
     }
 }
@@ -68,15 +78,16 @@ pub enum NodeStates {
 // are a branching.
 fn ask_node(
     matrix: &[i32],
+    weights: &[u8],
     n: usize,
     m: usize,
     records: [Branch; 125],
     node: usize,
     character: usize,
 ) -> Asked
-    ensures { λ r. ⌜ r ≡ askNode (now (matrix .entry)) n m records node character ⌝ }
+    ensures { λ r. ⌜ r ≡ askNode (now (matrix .entry)) (now (weights .entry)) n m records node character ⌝ }
 {
-    match ask_matrix(matrix, n, m) {
+    match ask_matrix(matrix, weights, n, m) {
         Asked::Refused(refusal) => Asked::Refused(refusal),
         Asked::Passed => {
             if !one_to(nodes_end(n) - 1, node) {
@@ -96,15 +107,16 @@ fn ask_node(
 // The lowest, the highest and the chosen state of one node in one character. It writes nothing.
 pub fn states(
     matrix: &[i32],
+    weights: &[u8],
     n: usize,
     m: usize,
     records: [Branch; 125],
     node: usize,
     character: usize,
 ) -> NodeStates
-    ensures { λ r. ⌜ NodeAnswer (now (matrix .entry)) n m records node character r ⌝ }
+    ensures { λ r. ⌜ NodeAnswer (now (matrix .entry)) (now (weights .entry)) n m records node character r ⌝ }
 {
-    match ask_node(matrix, n, m, records, node, character) {
+    match ask_node(matrix, weights, n, m, records, node, character) {
         Asked::Refused(refusal) => NodeStates::Refused(refusal),
         Asked::Passed => NodeStates::Are(states_at(
             matrix,
@@ -118,11 +130,11 @@ pub fn states(
 }
 
 // The fitted total of a lent branching. It writes nothing.
-pub fn total(matrix: &[i32], n: usize, m: usize, records: [Branch; 125]) -> Length
-    ensures { λ r. ⌜ lengthSays r ≡ totalAnswer (now (matrix .entry)) n m records ⌝ }
+pub fn total(matrix: &[i32], weights: &[u8], n: usize, m: usize, records: [Branch; 125]) -> Length
+    ensures { λ r. ⌜ lengthSays r ≡ totalAnswer (now (matrix .entry)) (now (weights .entry)) n m records ⌝ }
 {
-    match ask_branching(matrix, n, m, records) {
+    match ask_branching(matrix, weights, n, m, records) {
         Asked::Refused(refusal) => Length::Refused(refusal),
-        Asked::Passed => Length::Is(total_of(matrix, n, m, tree_of(records, n))),
+        Asked::Passed => Length::Is(total_of(matrix, weights, n, m, tree_of(records, n))),
     }
 }

@@ -11,6 +11,7 @@ use crate::spans::nearest_member;
 use crate::spans::only;
 use branching::tree::PLACES;
 use branching::tree::place_of;
+use difference::codes::times;
 use matrix::COLUMNS;
 use std::num::wrapping_add_u64;
 ghost use mathlib.Core.Path.{_≡_};
@@ -18,9 +19,12 @@ ghost use Prim.Native.Nat.{_≤_};
 ghost use lib.ListN.{length};
 ghost use Rattle.matrix.specs.Shape.{matrixSize};
 ghost use Rattle.fitting.specs.Plans.{Planned};
-ghost use Rattle.fitting.specs.Steps.{Column, PlusOf, PartOf, PartsUp, LeastCost};
+ghost use Rattle.fitting.specs.Steps.{Column, PlusOf, WeighedOf, PartOf, PartsUp, LeastCost};
 ghost use Rattle.fitting.specs.Steps.{stateOf, outsideFrom, SeenDown, statesWith, statesFrom, Fits};
 ghost use Rattle.branching.specs.Ancestors.{ancestors};
+
+// No character is as long as this, 2 ^ 32.
+const LONGEST: u64 = 4294967296;
 
 // What is found of a node from the tips up: its set, and the least cost of its clade.
 pub struct Part {
@@ -61,6 +65,16 @@ pub(crate) fn plus(a: u64, b: u64) -> u64
     ensures { λ r. ⌜ PlusOf a b r ⌝ }
 {
     wrapping_add_u64(a, b)
+}
+
+// A length as often as a weight says, if it is one that a character can have.
+pub(crate) fn weighed(weight: u8, length: u64) -> u64
+    ensures { λ r. ⌜ WeighedOf weight length r ⌝ }
+{
+    if LONGEST < length {
+        return 0;
+    }
+    times(weight) * length
 }
 
 // What is found of a node from the tips up: of a taxon from its code, of an HTU from its two descendants.

@@ -10,10 +10,12 @@ use branching::tree::PLACES;
 use branching::tree::Tree;
 use branching::tree::place_of;
 use difference::codes::apart;
+use difference::codes::part;
 use matrix::COLUMNS;
 use matrix::ROWS;
 use matrix::questions::one_to;
 use matrix::questions::within_limits;
+use matrix::weights::weight_at;
 ghost use mathlib.Core.Path.{_≡_};
 ghost use Prim.Native.Nat.{_≤_};
 ghost use lib.ListN.{length};
@@ -76,11 +78,11 @@ fn marks(own: States, above: States) -> bool
     0 < apart(own.chosen, above.chosen)
 }
 
-// A branch with one character more.
-fn lengthened(branch: BranchFit, own: States, above: States) -> BranchFit
-    ensures { λ r. ⌜ Longer own above branch r ⌝ }
+// A branch with one character more, of this weight.
+fn lengthened(branch: BranchFit, weight: u8, own: States, above: States) -> BranchFit
+    ensures { λ r. ⌜ Longer weight own above branch r ⌝ }
 {
-    let length = plus(branch.length, apart(own.chosen, above.chosen));
+    let length = plus(branch.length, part(weight, own.chosen, above.chosen));
     if branch.mark {
         return BranchFit { length, mark: true };
     }
@@ -88,15 +90,16 @@ fn lengthened(branch: BranchFit, own: States, above: States) -> BranchFit
     BranchFit { length, mark }
 }
 
-// The branches with one character more.
+// The branches with one character more, of this weight.
 fn add_lengths(
     mut branches: [BranchFit; 127],
     tree: Tree,
     n: usize,
+    weight: u8,
     states: [States; 127],
 ) -> [BranchFit; 127]
     requires { ⌜ n ≤ 64 ⌝ }
-    ensures { λ r. ⌜ Lengthened n (ancestors tree) states branches r ⌝ }
+    ensures { λ r. ⌜ Lengthened weight n (ancestors tree) states branches r ⌝ }
 {
     let places = tree.ancestors;
     let end = nodes_end(n);
@@ -104,7 +107,7 @@ fn add_lengths(
     while v < end {
         let u = place_of(places[v]);
         let before = branches[v];
-        branches[v] = lengthened(before, states[v], states[u]);
+        branches[v] = lengthened(before, weight, states[v], states[u]);
         v += 1;
     }
     branches
@@ -151,6 +154,7 @@ fn fit_of(branches: [BranchFit; 127], n: usize, total: u64) -> Fit
 // Fits character after character: writes the states of the HTUs, and gives the branches with their lengths and marks.
 fn fit_columns(
     matrix: &[i32],
+    weights: &[u8],
     n: usize,
     m: usize,
     plan: Plan,
@@ -160,7 +164,7 @@ fn fit_columns(
 ) -> [BranchFit; 127]
     requires { ⌜ (length (now matrix) ≡ matrixSize) × (1 ≤ n) × (n ≤ 64) × (m ≤ 128) × Planned n (ancestors (plan .tree)) plan ⌝ }
     requires { ⌜ (length (now low) ≡ matrixSize) × (length (now high) ≡ matrixSize) × (length (now chosen) ≡ matrixSize) ⌝ }
-    ensures { λ r. ⌜ Written (now (matrix .entry)) n m m (ancestors (plan .tree)) (now (low .entry)) (now (low .exit)) (now (high .entry)) (now (high .exit)) (now (chosen .entry)) (now (chosen .exit)) r ⌝ }
+    ensures { λ r. ⌜ Written (now (matrix .entry)) (now (weights .entry)) n m m (ancestors (plan .tree)) (now (low .entry)) (now (low .exit)) (now (high .entry)) (now (high .exit)) (now (chosen .entry)) (now (chosen .exit)) r ⌝ }
 {
     let tree = plan.tree;
     let none = BranchFit {
@@ -172,7 +176,8 @@ fn fit_columns(
     while j <= m {
         let codes = codes_of(matrix, n, j);
         let states = fit_character(codes, n, plan);
-        let longer = add_lengths(branches, tree, n, states);
+        let weight = weight_at(weights, j - 1);
+        let longer = add_lengths(branches, tree, n, weight, states);
         branches = longer;
         write_column(low, n, j, states, Which::Low);
         write_column(high, n, j, states, Which::High);
@@ -224,6 +229,7 @@ fn fit_shapes(matrix: usize, n: usize, m: usize, low: usize, high: usize, chosen
 // the matrix's shape.
 pub fn fit_tree(
     matrix: &[i32],
+    weights: &[u8],
     n: usize,
     m: usize,
     tree: Tree,
@@ -231,13 +237,13 @@ pub fn fit_tree(
     high: &mut [i32],
     chosen: &mut [i32],
 ) -> Fit
-    ensures { λ r. ⌜ TreeFitted (now (matrix .entry)) n m (ancestors tree) (now (low .entry)) (now (low .exit)) (now (high .entry)) (now (high .exit)) (now (chosen .entry)) (now (chosen .exit)) r ⌝ }
+    ensures { λ r. ⌜ TreeFitted (now (matrix .entry)) (now (weights .entry)) n m (ancestors tree) (now (low .entry)) (now (low .exit)) (now (high .entry)) (now (high .exit)) (now (chosen .entry)) (now (chosen .exit)) r ⌝ }
 {
     if !fit_shapes(matrix.len(), n, m, low.len(), high.len(), chosen.len()) {
         return no_fit();
     }
     let plan = plan_of(tree, n);
-    let branches = fit_columns(matrix, n, m, plan, low, high, chosen);
+    let branches = fit_columns(matrix, weights, n, m, plan, low, high, chosen);
     fit_of(branches, n, sum_lengths(branches, n))
 }
 

@@ -4,6 +4,7 @@ use mathlib.Core.Logic.{_≢_, by-cases, ⊎-elim}
 use mathlib.Core.List.{List, [], _∷_, _++_, map, List·Memᴰ, List·Memᴰ·head, List·Memᴰ·tail, List·Memᴰ·not-nil, List·Memᴰ·cases-cons}
 use mathlib.Core.Bool.{Bool, true, false, cond}
 use Prim.Native.Nat.{ℕ, zero, suc, _+_, _*_, _≤_, _<_}
+use native.Mathlib.Nat.{mul-zero, mul-add}
 use native.Mathlib.Omega.{arith}
 use native.Mathlib.Decide.{ℕ-discrete}
 use lib.Dec.{eqb}
@@ -102,6 +103,12 @@ module _ {A : Type 0} where
       let first : f u ≤ bound = h u (List·Memᴰ·head refl) in
       let rest : sumOver f us ≤ length us * bound = sum-most f bound us (λ v m. h v (List·Memᴰ·tail m)) in
       omega arith
+
+  -- a sum of which every part counts w times
+  pub sum-times : (w : ℕ) (f : A → ℕ) (vs : List A) → sumOver (λ v. w * f v) vs ≡ w * sumOver f vs
+  unfolding sumOver
+  sum-times w f [] = sym (mul-zero w)
+  sum-times w f (v ∷ vs) = ap (λ k. w * f v + k) (sum-times w f vs) ∙ sym (mul-add w (f v) (sumOver f vs))
 
   -- the sum over a list made from another
   pub sum-map : {B : Type 0} (f : B → ℕ) (g : A → B) (vs : List A) → sumOver f (map g vs) ≡ sumOver (λ v. f (g v)) vs

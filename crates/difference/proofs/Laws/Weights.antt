@@ -3,7 +3,7 @@
 use mathlib.Core.Path.{_≡_, refl, sym, ap, ap₂, _∙_}
 use mathlib.Core.Bool.{true, and-eq-true-iff}
 use mathlib.Core.List.{List, [], _∷_}
-use Prim.Native.Nat.{ℕ, zero, suc, _+_, _*_, _^_, _≤_, _<_}
+use Prim.Native.Nat.{ℕ, zero, suc, _+_, _-_, _*_, _^_, _≤_, _<_}
 use native.Mathlib.Nat.{mul-add, mul-zero, one-mul, mul-le-mul-left, mul-le-mul, eq-of-mul-eq-mul-left}
 use native.Mathlib.Omega.{arith}
 use borrow.Author.Tests.{leb-true}
@@ -11,7 +11,7 @@ use lib.Dec.{leb}
 use lib.IntN.{ℤ, natAbs}
 use lib.ListN.{length, drop}
 use Rattle.lists.specs.Tests.{every}
-use Rattle.matrix.specs.Shape.{inRange, isWeight, weightAt, heaviest}
+use Rattle.matrix.specs.Shape.{inRange, isWeight, weightAt, weightOf, heaviest}
 use Rattle.matrix.specs.Questions.{areWeights}
 use Rattle.difference.specs.Rows.{apart, part, median, difference, unweighted}
 use Rattle.difference.proofs.Laws.Codes.{apart-sym, apart-self, apart-zero, apart-triangle, apart-most, apart-inRange}
@@ -81,6 +81,24 @@ unfolding areWeights every weightAt isWeight
 areWeights-first [] zero e = (refl, refl)
 areWeights-first [] (suc m) e = (refl, refl)
 areWeights-first (w ∷ weights) m e = and-eq-true-iff (isWeight w) (areWeights weights m) .0 e
+
+-- of m weights from 1 to 9 each is one; one that is missing is 1
+pub areWeights-at : (weights : List ℕ) (m i : ℕ) → areWeights weights m ≡ true → i < m → isWeight (weightAt weights i) ≡ true
+areWeights-at weights zero i e h = absurd (omega arith)
+areWeights-at weights (suc m) zero e h = areWeights-first weights m e .0
+areWeights-at weights (suc m) (suc i) e h =
+    rw (sym (weightAt-drop weights i)) (areWeights-at (drop 1 weights) m i (areWeights-first weights m e .1) (omega arith))
+
+-- so the weight of each of m characters is from 1 to 9
+pub weightOf-weight : (weights : List ℕ) (m : ℕ) → areWeights weights m ≡ true → (j : ℕ) → 1 ≤ j → j ≤ m
+    → isWeight (weightOf weights j) ≡ true
+unfolding weightOf
+weightOf-weight weights m e j first last = areWeights-at weights m (j - 1) e (omega arith)
+
+-- that is, it lies between them
+pub weightOf-within : (weights : List ℕ) (m : ℕ) → areWeights weights m ≡ true → (j : ℕ) → 1 ≤ j → j ≤ m
+    → (1 ≤ weightOf weights j) × (weightOf weights j ≤ heaviest)
+weightOf-within weights m e j first last = weight-within (weightOf weights j) (weightOf-weight weights m e j first last)
 
 -- the weights of the characters of the rows decide their difference
 pub difference-weights : (v w : List ℕ) (xs ys : List ℤ) → ((i : ℕ) → i < length xs → weightAt v i ≡ weightAt w i)

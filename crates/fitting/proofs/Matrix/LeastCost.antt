@@ -8,9 +8,9 @@ use native.Mathlib.Omega.{arith}
 use lib.IntN.{ℤ}
 use Rattle.lists.specs.Numbers.{numbers}
 use Rattle.lists.specs.Sums.{sumOver}
-use Rattle.lists.proofs.Sums.{sum-swap}
-use Rattle.matrix.specs.Shape.{inRange}
-use Rattle.difference.specs.Rows.{apart, lower, higher, plain}
+use Rattle.lists.proofs.Sums.{sum-swap, sum-same, sum-times}
+use Rattle.matrix.specs.Shape.{inRange, weightOf}
+use Rattle.difference.specs.Rows.{apart, part, lower, higher, weighing}
 use Rattle.difference.proofs.Laws.Codes.{apart-inRange}
 use Rattle.difference.proofs.Laws.Order.{lower-keeps, higher-keeps}
 use Rattle.branching.specs.Ancestors.{ancestor, descendants}
@@ -32,12 +32,16 @@ use Rattle.fitting.proofs.Matrix.IntervalFit.{states-cost}
 use Rattle.fitting.proofs.Matrix.OneClade.{chosenState-taxon}
 use Rattle.fitting.proofs.Matrix.OnlyCodes.{Each, up-each}
 
--- the fitted total is the sum of the characters' lengths
-pub total-characters : (tree : List ℕ) (rows : List (List ℤ)) (n m : ℕ) →
-    fittedTotal (plain .step) tree rows n m ≡ sumOver (characterLength tree rows n) (numbers 1 m)
-unfolding fittedTotal total branchLength characterLength
-total-characters tree rows n m =
-    sum-swap (λ v j. apart (chosenState tree rows n v j) (chosenState tree rows n (ancestor tree v) j)) (otherNodes n) (numbers 1 m)
+-- the fitted total is the sum of the characters' lengths, each as often as its weight says
+pub total-characters : (weights tree : List ℕ) (rows : List (List ℤ)) (n m : ℕ) →
+    fittedTotal (weighing weights .step) tree rows n m ≡ sumOver (λ j. weightOf weights j * characterLength tree rows n j) (numbers 1 m)
+unfolding fittedTotal total branchLength characterLength part
+total-characters weights tree rows n m =
+    let length : ℕ → ℕ → ℕ = λ v j. apart (chosenState tree rows n v j) (chosenState tree rows n (ancestor tree v) j) in
+    sum-swap (λ v j. weightOf weights j * length v j) (otherNodes n) (numbers 1 m)
+    ∙ sum-same (λ j. sumOver (λ v. weightOf weights j * length v j) (otherNodes n))
+    (λ j. weightOf weights j * sumOver (λ v. length v j) (otherNodes n)) (numbers 1 m)
+    (λ j i. sum-times (weightOf weights j) (λ v. length v j) (otherNodes n))
 
 -- codes from -999 to 999
 abbrev Known : ℤ → Type 0

@@ -4,7 +4,7 @@ use Prim.Native.Nat.{ℕ}
 use lib.ListN.{length}
 use borrow.Author.Tests.{eq-eqb, not-true, not-false}
 use Rattle.matrix.specs.Questions.{oneTo}
-use Rattle.matrix.proofs.Passing.{matrix-passes}
+use Rattle.matrix.proofs.Passing.{matrix-passed}
 use Rattle.fitting.specs.Handing.{askNode}
 use Rattle.fitting.proofs.Pass.Standing.{last-end}
 use borrow.Author.Needs.{needs}
@@ -21,7 +21,7 @@ enum-told : tie.Need-enum-told
 enum-told c = search needs
 
 nodes-end-requires : tie.Need-nodes-end-requires
-nodes-end-requires c κs = matrix-passes _ _ _ .0 (sym (c .before .before .ask-matrix .ensures) ∙ c .enum-told .given .1) .taxa
+nodes-end-requires c κs = matrix-passed _ _ _ _ (sym (c .before .before .ask-matrix .ensures) ∙ c .enum-told .given .1) .taxa
 
 sub-one-to : tie.Need-sub-one-to
 sub-one-to c = search needs
@@ -32,7 +32,7 @@ one-to-requires c κs = search needs
 returns : tie.Need-returns
 unfolding askNode
 returns c =
-    let start = c .before .before .before .before .before .before in
+    let start = c .before .before .before .before .before .before .before in
     let size : length (start .args .records) ≡ 125 = search needs in
     rw (
       eq-eqb _ _ size,
@@ -49,7 +49,7 @@ one-to-requires-2 c κs = search needs
 returns-2 : tie.Need-returns-2
 unfolding askNode
 returns-2 c =
-    let start = c .before .before .before .before .before .before .before .before in
+    let start = c .before .before .before .before .before .before .before .before .before in
     let size : length (start .args .records) ≡ 125 = search needs in
     rw (
       eq-eqb _ _ size,
@@ -67,7 +67,7 @@ lent-branching-requires c κs = search needs
 returns-3 : tie.Need-returns-3
 unfolding askNode
 returns-3 c =
-    let start = c .before .before .before .before .before .before .before .before .before .before in
+    let start = c .before .before .before .before .before .before .before .before .before .before .before in
     let size : length (start .args .records) ≡ 125 = search needs in
     rw (
       eq-eqb _ _ size,
@@ -85,14 +85,14 @@ returns-3 c =
 returns-4 : tie.Need-returns-4
 unfolding askNode
 returns-4 c =
-    let start = c .before .before .before .before in
+    let start = c .before .before .before .before .before in
     let size : length (start .args .records) ≡ 125 = search needs in
     rw (eq-eqb _ _ size, sym (c .before .before .before .ask-matrix .ensures) ∙ c .before .refusal .given .1)
 
 returns-5 : tie.Need-returns-5
 unfolding askNode
 returns-5 c =
-    let start = c .before .before .before .before .before .before .before .before .before .before in
+    let start = c .before .before .before .before .before .before .before .before .before .before .before in
     let size : length (start .args .records) ≡ 125 = search needs in
     rw (
       eq-eqb _ _ size,

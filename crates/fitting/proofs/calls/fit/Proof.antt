@@ -26,17 +26,17 @@ no-fit-requires : tie.Need-no-fit-requires
 no-fit-requires c κs = search needs
 
 -- the questions, where the lists have their sizes
-asked-of : (codes : List ℤ) (n m : ℕ) (records : List Branch) (low high chosen : List ℤ) (asked : Asked)
-    → listsFull (length low) (length high) (length chosen) ≡ true → askBranching codes n m records ≡ asked
-    → askFit codes n m records low high chosen ≡ asked
+asked-of : (codes : List ℤ) (weights : List ℕ) (n m : ℕ) (records : List Branch) (low high chosen : List ℤ) (asked : Asked)
+    → listsFull (length low) (length high) (length chosen) ≡ true → askBranching codes weights n m records ≡ asked
+    → askFit codes weights n m records low high chosen ≡ asked
 unfolding askFit
-asked-of codes n m records low high chosen asked full e = rw (full, e)
+asked-of codes weights n m records low high chosen asked full e = rw (full, e)
 
 -- and where they have not
-asked-not : (codes : List ℤ) (n m : ℕ) (records : List Branch) (low high chosen : List ℤ)
-    → listsFull (length low) (length high) (length chosen) ≡ false → askFit codes n m records low high chosen ≡ Refused ListSize
+asked-not : (codes : List ℤ) (weights : List ℕ) (n m : ℕ) (records : List Branch) (low high chosen : List ℤ)
+    → listsFull (length low) (length high) (length chosen) ≡ false → askFit codes weights n m records low high chosen ≡ Refused ListSize
 unfolding askFit
-asked-not codes n m records low high chosen e = rw e
+asked-not codes weights n m records low high chosen e = rw e
 
 -- the sizes
 sizes : (low high chosen : ℕ) → listsFull low high chosen ≡ true → (low ≡ matrixSize) × (high ≡ matrixSize) × (chosen ≡ matrixSize)
@@ -48,8 +48,8 @@ sizes low high chosen e =
 
 returns : tie.Need-returns
 returns c =
-    refused-answer _ _ _ _ _ _ _ ListSize _
-    (asked-not _ _ _ _ _ _ _ (sym (c .before .before .lists-full .ensures) ∙ not-true _ (c .before .if1 .taken))) (c .no-fit .ensures)
+    refused-answer _ _ _ _ _ _ _ _ ListSize _
+    (asked-not _ _ _ _ _ _ _ _ (sym (c .before .before .lists-full .ensures) ∙ not-true _ (c .before .if1 .taken))) (c .no-fit .ensures)
 
 ask-branching-requires : tie.Need-ask-branching-requires
 ask-branching-requires c κs = search needs
@@ -73,7 +73,7 @@ returns-2 : tie.Need-returns-2
 returns-2 c =
     let asked = c .before .before .before .before in
     let full = sym (asked .before .before .lists-full .ensures) ∙ not-false _ (asked .before .if1 .left) in
-    refused-answer _ _ _ _ _ _ _ _ _ (asked-of _ _ _ _ _ _ _ _ full (sym (asked .ask-branching .ensures)
+    refused-answer _ _ _ _ _ _ _ _ _ _ (asked-of _ _ _ _ _ _ _ _ _ full (sym (asked .ask-branching .ensures)
     ∙ c .before .before .refusal .given .1))
     (c .no-fit2 .ensures)
 
@@ -94,7 +94,7 @@ returns-3 c =
     let full = sym (asked .before .before .lists-full .ensures) ∙ not-false _ (asked .before .if1 .left) in
     let right = sizes _ _ _ full in
     let passed = sym (asked .ask-branching .ensures) ∙ tree .before .enum-told .given .1 in
-    passed-answer _ _ _ _ _ _ _ _ _ _ _ _ (asked-of _ _ _ _ _ _ _ _ full passed) passed (right .0) (right .1) (right .2)
+    passed-answer _ _ _ _ _ _ _ _ _ _ _ _ _ (asked-of _ _ _ _ _ _ _ _ _ full passed) passed (right .0) (right .1) (right .2)
     (tree .tree-of .ensures)
     (done .fit-tree .ensures)
 

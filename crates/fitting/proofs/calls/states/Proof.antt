@@ -21,11 +21,11 @@ states-at-requires : tie.Need-states-at-requires
 states-at-requires c κs = search needs
 
 returns : tie.Need-returns
-returns c = node-refused _ _ _ _ _ _ _ (sym (c .before .before .before .ask-node .ensures) ∙ c .before .refusal .given .1)
+returns c = node-refused _ _ _ _ _ _ _ _ (sym (c .before .before .before .ask-node .ensures) ∙ c .before .refusal .given .1)
 
 returns-2 : tie.Need-returns-2
 returns-2 c =
-    node-answer _ _ _ _ _ _ _ _ (sym (c .before .before .before .before .ask-node .ensures) ∙ c .before .before .enum-told .given .1)
+    node-answer _ _ _ _ _ _ _ _ _ (sym (c .before .before .before .before .ask-node .ensures) ∙ c .before .before .enum-told .given .1)
     (c .before .tree-of .ensures) (c .states-at .ensures)
 
 pub states-spec : {M : Type 1} → statement M

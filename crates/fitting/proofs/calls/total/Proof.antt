@@ -27,7 +27,7 @@ returns c = rw (sym (c .before .before .before .ask-branching .ensures) ∙ c .b
 
 returns-2 : tie.Need-returns-2
 returns-2 c =
-    total-passed _ _ _ _ _ _ (sym (c .before .before .before .before .ask-branching .ensures) ∙ c .before .before .enum-told .given .1)
+    total-passed _ _ _ _ _ _ _ (sym (c .before .before .before .before .ask-branching .ensures) ∙ c .before .before .enum-told .given .1)
     (c .before .tree-of .ensures) (c .total-of .ensures)
 
 pub total-spec : {M : Type 1} → statement M

@@ -12,18 +12,18 @@ use Rattle.fitting.proofs.whole.add_lengths.Statement.{statement}
 use Rattle.fitting.proofs.whole.add_lengths.Tie as tie
 
 abbrev Inv-loop : tie.InvT-loop
-Inv-loop n branches₀ states places end v₀ branches v =
+Inv-loop n weight branches₀ states places end v₀ branches v =
     (2 ≤ v)
     × (v ≤ end)
     × (end ≤ 127)
     × (length branches ≡ 127)
     × FilledTo
-    (λ u b. ancestor places u ≤ 126 → Longer (statesAt states u) (statesAt states (ancestor places u))
+    (λ u b. ancestor places u ≤ 126 → Longer weight (statesAt states u) (statesAt states (ancestor places u))
     (branchAt branches₀ u) b)
     (λ u b. b ≡ branchAt branches₀ u) noBranch 2 v branches
 
 abbrev μ-loop : tie.MeasureT-loop
-μ-loop n branches₀ states places end v₀ branches v = end - v
+μ-loop n weight branches₀ states places end v₀ branches v = end - v
 
 nodes-end-requires : tie.Need-nodes-end-requires Inv-loop μ-loop
 nodes-end-requires c κs = search needs
@@ -82,10 +82,10 @@ loop-again c =
     let inv = loop .inv in
     let start = c .before .before .before .before .before .before .before .before .before in
     let tree = ancestors (start .args .tree) in
-    let states = start .args .t4 in
+    let states = start .args .t5 in
     let place = c .before .before .before .before .place-of .ensures in
     let above = statesAt states (c .before .before .before .before .place-of .result) in
-    let more : Longer (statesAt states (loop .v)) above (branchAt (loop .branches) (loop .v))
+    let more : Longer (start .args .weight) (statesAt states (loop .v)) above (branchAt (loop .branches) (loop .v))
     (c .lengthened .result) = c .lengthened .ensures in
     let same = inv .4 .outside (loop .v) (λ l h. omega arith) in (
       omega arith,
@@ -93,7 +93,7 @@ loop-again c =
       inv .2,
       simp length-set (inv .3),
       filled-more
-          (λ u b. ancestor tree u ≤ 126 → Longer (statesAt states u) (statesAt states (ancestor tree u)) (branchAt (start .args .t1) u) b)
+          (λ u b. ancestor tree u ≤ 126 → Longer (start .args .weight) (statesAt states u) (statesAt states (ancestor tree u)) (branchAt (start .args .t1) u) b)
           (λ u b. b ≡ branchAt (start .args .t1) u) noBranch (loop .branches) 2 (loop .v) _ (omega arith) (inv .0) (inv .4)
           (λ small. rw (same, place .is small) at more),
     )

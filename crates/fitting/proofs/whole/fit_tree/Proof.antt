@@ -15,12 +15,12 @@ no-fit-requires : tie.Need-no-fit-requires
 no-fit-requires c κs = search needs
 
 returns : tie.Need-returns
-returns c = not-fitted _ _ _ _ _ _ _ _ (sym (c .before .before .fit-shapes .ensures) ∙ not-true _ (c .before .if1 .taken))
+returns c = not-fitted _ _ _ _ _ _ _ _ _ (sym (c .before .before .fit-shapes .ensures) ∙ not-true _ (c .before .if1 .taken))
 
 -- the shapes are right where the test passed
-shaped : (c : tie.Else1) → Shaped (length (c .before .before .args .matrix .now)) (c .before .before .args .n) (c .before .before .args .m)
-    (length (c .before .before .args .low .now)) (length (c .before .before .args .high .now)) (length
-    (c .before .before .args .chosen .now))
+shaped : (c : tie.Else1) → Shaped (length (c .before .before .before .args .matrix .now)) (c .before .before .before .args .n) (c .before .before .before .args .m)
+    (length (c .before .before .before .args .low .now)) (length (c .before .before .before .args .high .now)) (length
+    (c .before .before .before .args .chosen .now))
 shaped c = shapes-true _ _ _ _ _ _ (sym (c .before .fit-shapes .ensures) ∙ not-false _ (c .if1 .left))
 
 plan-of-requires : tie.Need-plan-of-requires
@@ -52,7 +52,7 @@ returns-2 : tie.Need-returns-2
 returns-2 c =
     let columns = c .before .before .before .before .before in
     let written = rw (columns .before .before .before .before .plan-of .ensures .is) at (columns .fit-columns .ensures) in
-    tree-fitted _ _ _ _ _ _ _ _ _ _ _ _ _ written (c .before .sum-lengths .ensures) (c .fit-of .ensures)
+    tree-fitted _ _ _ _ _ _ _ _ _ _ _ _ _ _ written (c .before .sum-lengths .ensures) (c .fit-of .ensures)
 
 pub fit-tree-spec : {M : Type 1} → statement M
 fit-tree-spec =
