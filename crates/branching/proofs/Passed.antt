@@ -15,8 +15,8 @@ use Rattle.branching.specs.Asking.{htusOf, askPlacement}
 use Rattle.branching.proofs.Nodes.{not-inTree, false-inTree}
 
 -- what passed questions of a placement tell
-pub record PlacementAsked (codes : List ℤ) (n m : ℕ) (tree : List ℕ) (b : ℕ) : Type 0 where
-  pub matrix : askMatrix codes n m ≡ Passed
+pub record PlacementAsked (codes : List ℤ) (weights : List ℕ) (n m : ℕ) (tree : List ℕ) (b : ℕ) : Type 0 where
+  pub matrix : askMatrix codes weights n m ≡ Passed
   pub growing : growingTree n tree ≡ true
   pub unplaced : Unplaced n tree b
   pub htus : htusInRange codes n m (htusOf n tree) ≡ true
@@ -27,11 +27,11 @@ not-in n tree b low high e =
     let out = not-inTree tree b e in
     record { other = omega (arith, out .0); taxon = high; free = out .1 }
 
-pub placement-asked : (codes : List ℤ) (n m : ℕ) (tree : List ℕ) (b : ℕ) → askPlacement codes n m tree b ≡ Passed
-    → PlacementAsked codes n m tree b
+pub placement-asked : (codes : List ℤ) (weights : List ℕ) (n m : ℕ) (tree : List ℕ) (b : ℕ) → askPlacement codes weights n m tree b ≡ Passed
+    → PlacementAsked codes weights n m tree b
 unfolding askPlacement
-placement-asked codes n m tree b e =
-    let both = andThen-passed (askMatrix codes n m) _ e in
+placement-asked codes weights n m tree b e =
+    let both = andThen-passed (askMatrix codes weights n m) _ e in
     let taxon = ask-passed (oneTo n b) NotThere _ (both .1) in
     let tree-asked = ask-passed (growingTree n tree) NotBranching _ (taxon .1) in
     let free = ask-passed (not (inTree tree b)) NotThere _ (tree-asked .1) in
@@ -45,10 +45,10 @@ placement-asked codes n m tree b e =
     }
 
 -- and where all of it holds, the questions pass
-pub asked-placement : (codes : List ℤ) (n m : ℕ) (tree : List ℕ) (b : ℕ) → PlacementAsked codes n m tree b
-    → askPlacement codes n m tree b ≡ Passed
+pub asked-placement : (codes : List ℤ) (weights : List ℕ) (n m : ℕ) (tree : List ℕ) (b : ℕ) → PlacementAsked codes weights n m tree b
+    → askPlacement codes weights n m tree b ≡ Passed
 unfolding askPlacement
-asked-placement codes n m tree b asked =
+asked-placement codes weights n m tree b asked =
     let u = asked .unplaced in
     rw (
       asked .matrix,

@@ -26,19 +26,19 @@ use Rattle.branching.proofs.Standing.{Standing, asked-standing, standin
 use Rattle.branching.proofs.Standing.{placed-size, placed-else, placed-standing, placed-medians}
 
 -- a placement that passed its questions, on a tree with 127 places
-module _ (codes : List ℤ) (n m : ℕ) (tree : List ℕ) (b : ℕ) (pass : askPlacement codes n m tree b ≡ Passed) (places : length tree ≡ 127)
+module _ (codes : List ℤ) (weights : List ℕ) (n m : ℕ) (tree : List ℕ) (b : ℕ) (pass : askPlacement codes weights n m tree b ≡ Passed) (places : length tree ≡ 127)
   where
     -- it stands in the matrix
-    stands : Standing codes n m (taxaPlaced n tree) tree
-    stands = asked-standing codes n m tree b (placement-asked codes n m tree b pass) places
+    stands : Standing codes weights n m (taxaPlaced n tree) tree
+    stands = asked-standing codes weights n m tree b (placement-asked codes weights n m tree b pass) places
 
     -- the taxon is not in it
     unplaced : Unplaced n tree b
-    unplaced = placement-asked codes n m tree b pass .unplaced
+    unplaced = placement-asked codes weights n m tree b pass .unplaced
 
     -- on row 1 alone nothing is written
-    pub alone-writes-nothing : rowOneAlone tree ≡ true → matrixPlaced codes n m tree b ≡ codes
-    alone-writes-nothing e = written-first codes n m tree b (alone-iff tree .0 e)
+    pub alone-writes-nothing : rowOneAlone tree ≡ true → matrixPlaced codes weights n m tree b ≡ codes
+    alone-writes-nothing e = written-first codes weights n m tree b (alone-iff tree .0 e)
 
     -- on a tree of several taxa the new HTU's row is the one behind the others
     pub htu-next : rowOneAlone tree ≡ false → nextHtu n tree ≡ suc (lastRow n tree)
@@ -50,12 +50,12 @@ module _ (codes : List ℤ) (n m : ℕ) (tree : List ℕ) (b : ℕ) (pass : askP
         go (several g) = omega (arith, g .placed, g .atLeastTwo)
 
     -- and its codes for characters 1 to m are the medians of the taxon and of the two ends of its interval
-    pub htu-medians : rowOneAlone tree ≡ false → row (matrixPlaced codes n m tree b) m (nextHtu n tree)
-        ≡ medianRow (rowsOf codes m (lastRow n tree)) b (placeIn codes n m tree b .placement .lower)
-        (ancestor tree (placeIn codes n m tree b .placement .lower))
+    pub htu-medians : rowOneAlone tree ≡ false → row (matrixPlaced codes weights n m tree b) m (nextHtu n tree)
+        ≡ medianRow (rowsOf codes m (lastRow n tree)) b (placeIn codes weights n m tree b .placement .lower)
+        (ancestor tree (placeIn codes weights n m tree b .placement .lower))
     htu-medians several-taxa =
-        ap (row (matrixPlaced codes n m tree b) m) (htu-next several-taxa)
-        ∙ go (stands .growing) (placed-medians codes n m (taxaPlaced n tree) tree stands b unplaced)
+        ap (row (matrixPlaced codes weights n m tree b) m) (htu-next several-taxa)
+        ∙ go (stands .growing) (placed-medians codes weights n m (taxaPlaced n tree) tree stands b unplaced)
       where
         go : {k : ℕ} {A : Type 0} → GrowingTree n tree k → (Grown n k tree → A) → A
         go (alone none) f = absurd (false≢true (sym several-taxa ∙ alone-iff tree .1 none))
@@ -63,26 +63,26 @@ module _ (codes : List ℤ) (n m : ℕ) (tree : List ℕ) (b : ℕ) (pass : askP
 
     -- no code is changed but those of characters 1 to m of the new HTU: not a column past m, and no other row
     pub placement-else : (j : ℕ) → (rowStart (suc (lastRow n tree)) ≤ j → j < rowStart (suc (lastRow n tree)) + m → ⊥)
-        → getD (matrixPlaced codes n m tree b) j (pos 0) ≡ getD codes j (pos 0)
-    placement-else = placed-else codes n m (taxaPlaced n tree) tree stands b unplaced
+        → getD (matrixPlaced codes weights n m tree b) j (pos 0) ≡ getD codes j (pos 0)
+    placement-else = placed-else codes weights n m (taxaPlaced n tree) tree stands b unplaced
 
     -- the matrix keeps its size
-    pub placement-size : length (matrixPlaced codes n m tree b) ≡ length codes
-    placement-size = placed-size codes n m (taxaPlaced n tree) tree stands b unplaced
+    pub placement-size : length (matrixPlaced codes weights n m tree b) ≡ length codes
+    placement-size = placed-size codes weights n m (taxaPlaced n tree) tree stands b unplaced
 
     -- nothing that is handed back is refused: every taxon that is still unplaced passes the questions of the next placement
-    pub placement-again : (v : ℕ) → Unplaced n (placeIn codes n m tree b .tree) v
-        → askPlacement (matrixPlaced codes n m tree b) n m (placeIn codes n m tree b .tree) v ≡ Passed
+    pub placement-again : (v : ℕ) → Unplaced n (placeIn codes weights n m tree b .tree) v
+        → askPlacement (matrixPlaced codes weights n m tree b) weights n m (placeIn codes weights n m tree b .tree) v ≡ Passed
     placement-again v u =
-        standing-passes (matrixPlaced codes n m tree b) n m (suc (taxaPlaced n tree)) (placeIn codes n m tree b .tree)
-        (placed-standing codes n m (taxaPlaced n tree) tree stands b unplaced) v u
+        standing-passes (matrixPlaced codes weights n m tree b) weights n m (suc (taxaPlaced n tree)) (placeIn codes weights n m tree b .tree)
+        (placed-standing codes weights n m (taxaPlaced n tree) tree stands b unplaced) v u
 
 -- the same of what the call handed back: tree and matrix pass the questions again
-pub handed-again : (codes new : List ℤ) (n m : ℕ) (tree : List ℕ) (b : ℕ) (r : Placed) → length tree ≡ 127
-    → PlacementDone codes new n m tree b r → askPlacement codes n m tree b ≡ Passed
-    → (v : ℕ) → Unplaced n (ancestors (r .tree)) v → askPlacement new n m (ancestors (r .tree)) v ≡ Passed
+pub handed-again : (codes new : List ℤ) (weights : List ℕ) (n m : ℕ) (tree : List ℕ) (b : ℕ) (r : Placed) → length tree ≡ 127
+    → PlacementDone codes new weights n m tree b r → askPlacement codes weights n m tree b ≡ Passed
+    → (v : ℕ) → Unplaced n (ancestors (r .tree)) v → askPlacement new weights n m (ancestors (r .tree)) v ≡ Passed
 unfolding placementSays
-handed-again codes new n m tree b r places done pass v u =
+handed-again codes new weights n m tree b r places done pass v u =
     let grown = rw pass at (done .tree) in
     let written = rw pass at (done .matrix) in
-    rw (written, grown) (placement-again codes n m tree b pass places v (rw grown at u))
+    rw (written, grown) (placement-again codes weights n m tree b pass places v (rw grown at u))

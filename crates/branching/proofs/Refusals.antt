@@ -8,9 +8,9 @@ use lib.ListN.{replicate, set}
 use Rattle.lists.specs.Numbers.{numbers}
 use Rattle.lists.specs.Tests.{every, sameNumbers}
 use Rattle.lists.specs.Filters.{keep}
-use Rattle.matrix.specs.Shape.{row, inRange, lastNode}
-use Rattle.matrix.specs.Questions.{oneTo, withinLimits, allInRange, rowsInRange, askMatrix, htuInRange, htusInRange}
-use Rattle.matrix.specs.declared.refusal.Refusal.the-variants.{BeyondLimits, CodeRange, ListSize, NotThere, NotBranching}
+use Rattle.matrix.specs.Shape.{row, inRange, isWeight, lastNode}
+use Rattle.matrix.specs.Questions.{oneTo, withinLimits, allInRange, rowsInRange, areWeights, askMatrix, htuInRange, htusInRange}
+use Rattle.matrix.specs.declared.refusal.Refusal.the-variants.{BeyondLimits, CodeRange, ListSize, NotThere, NotBranching, WeightForm}
 use Rattle.matrix.specs.declared.refusal.Asked.{Asked}
 use Rattle.matrix.specs.declared.refusal.Asked.the-variants.{Passed, Refused}
 use Rattle.branching.specs.declared.branch.Branch.{Branch}
@@ -30,6 +30,14 @@ wrongRow : ℕ → List ℤ
 unfolding full
 wrongRow v = set full ((v - 1) * 128) (pos 1000)
 
+-- lent weights of 1
+ones : List ℕ
+ones = replicate 128 1
+
+-- lent weights of which the first is 10
+tenFirst : List ℕ
+tenFirst = 10 ∷ replicate 127 1
+
 -- a branch record
 branch : ℕ → ℕ → Branch
 branch v a = record { node = v; ancestor = a; length = 7 }
@@ -44,12 +52,17 @@ zeros : ℕ → List Branch
 zeros count = replicate count (record { node = 0; ancestor = 0; length = 0 })
 
 -- the questions of a lent branching of n taxa
-lent : List ℤ → ℕ → List Branch → Asked
-unfolding numbers every sameNumbers keep row inRange lastNode oneTo withinLimits allInRange rowsInRange askMatrix htuInRange htusInRange
+lentBy : List ℕ → List ℤ → ℕ → List Branch → Asked
+unfolding numbers every sameNumbers keep row inRange lastNode oneTo withinLimits allInRange rowsInRange isWeight areWeights askMatrix htuInRange htusInRange
     ancestor descendants hasAncestor inTree nodesIn otherNodes taxaPlaced descendantCount descendantsWanted climbs rowOneAlone nodesOnly
     htusIn ancestorsIn descendantsRight allClimb grown growingTree branching branchesRead ancestorsOf namedInOrder lentBranching htusOf
     askPlacement askBranching askRecords full wrongRow branch three zeros
-lent codes n records = askBranching codes n 1 records
+lentBy weights codes n records = askBranching codes weights n 1 records
+
+-- the same with weights of 1
+lent : List ℤ → ℕ → List Branch → Asked
+unfolding lentBy ones tenFirst
+lent = lentBy ones
 
 -- 124 and 126 records are 12, 125 pass
 record-counts : lent full 3 (three 121) ∷ lent full 3 (three 122) ∷ lent full 3 (three 123) ∷ []
@@ -100,9 +113,14 @@ wrongTree : List ℕ
 wrongTree = 0 ∷ 0 ∷ 1 ∷ 0 ∷ 1 ∷ 0 ∷ replicate 121 0
 
 -- the questions of a placement of taxon b
-placed : List ℤ → ℕ → List ℕ → ℕ → Asked
+placedBy : List ℕ → List ℤ → ℕ → List ℕ → ℕ → Asked
 unfolding lent grownTree wrongTree
-placed codes n tree b = askPlacement codes n 1 tree b
+placedBy weights codes n tree b = askPlacement codes weights n 1 tree b
+
+-- the same with weights of 1
+placed : List ℤ → ℕ → List ℕ → ℕ → Asked
+unfolding placedBy
+placed = placedBy ones
 
 -- each answer by itself: the matrix's size, the limits, a code of a taxon, a taxon that does not exist, no growing tree, a taxon that is
 -- in the tree, a code of an HTU of the tree, and none
@@ -187,9 +205,40 @@ wholeTree : List ℕ
 wholeTree = 0 ∷ 0 ∷ 4 ∷ 4 ∷ 1 ∷ replicate 122 0
 
 -- the questions of a finished tree that is handed back into a list of so many records
-recorded : List ℤ → ℕ → List ℕ → ℕ → Asked
+recordedBy : List ℕ → List ℤ → ℕ → List ℕ → ℕ → Asked
 unfolding placed wholeTree
-recorded codes n tree room = askRecords codes n 1 tree room
+recordedBy weights codes n tree room = askRecords codes weights n 1 tree room
+
+-- the same with weights of 1
+recorded : List ℤ → ℕ → List ℕ → ℕ → Asked
+unfolding recordedBy
+recorded = recordedBy ones
+
+-- in each of the three calls: 127 weights are 12; a weight of 10 is 16, after the limits and before the codes of the taxa
+weights-asked : lentBy (replicate 127 1) full 3 (three 122)
+    ∷ lentBy tenFirst full 3 (three 122)
+    ∷ lentBy tenFirst full 65 (three 122)
+    ∷ lentBy tenFirst (wrongRow 1) 3 (three 122)
+    ∷ placedBy (replicate 127 1) full 4 grownTree 3
+    ∷ placedBy tenFirst full 4 grownTree 3
+    ∷ placedBy tenFirst (wrongRow 1) 4 grownTree 3
+    ∷ recordedBy (replicate 127 1) full 3 wholeTree 125
+    ∷ recordedBy tenFirst full 3 wholeTree 125
+    ∷ recordedBy tenFirst (wrongRow 1) 3 wholeTree 125
+    ∷ []
+    ≡ Refused ListSize
+    ∷ Refused WeightForm
+    ∷ Refused BeyondLimits
+    ∷ Refused WeightForm
+    ∷ Refused ListSize
+    ∷ Refused WeightForm
+    ∷ Refused WeightForm
+    ∷ Refused ListSize
+    ∷ Refused WeightForm
+    ∷ Refused WeightForm
+    ∷ []
+unfolding recorded
+weights-asked = refl
 
 -- each answer by itself: the size of the list of records, too small and too large, that of the matrix, the limits, a code of a taxon, no
 -- growing tree, a growing tree that lacks a taxon, row 1 alone, a code of an HTU, and none; of one taxon, row 1 alone is the finished tree

@@ -38,19 +38,19 @@ second-rival d n m k tree rows laws g room full each b u =
           rw (g .placed) (omega (arith, adds, place-least d n k tree rows g room full b u m laws each c inside r long));
     }
 
--- the laws of medians for the difference of rows of m codes
-pub difference-laws : (m : ℕ) → MedianLaws difference m
+-- the laws of medians for the weighted difference of rows of m codes
+pub difference-laws : (weights : List ℕ) (m : ℕ) → MedianLaws (difference weights) m
 unfolding intervalBy
-difference-laws m =
+difference-laws weights m =
     record {
-      symmetric = difference-sym;
+      symmetric = difference-sym weights;
       sized = λ b c e hb hc he. medians-length b c e (hb ∙ sym hc) (hc ∙ sym he) ∙ hb;
-      least = λ b c e y hb hc he hy. interval-least b c e (hb ∙ sym hc) (hc ∙ sym he) y (hy ∙ sym hb);
-      equal = λ b c e hb hc he. interval-equal b c e (hb ∙ sym hc) (hc ∙ sym he);
+      least = λ b c e y hb hc he hy. interval-least weights b c e (hb ∙ sym hc) (hc ∙ sym he) y (hy ∙ sym hb);
+      equal = λ b c e hb hc he. interval-equal weights b c e (hb ∙ sym hc) (hc ∙ sym he);
     }
 
 -- our placement is one of the hangings and none adds less, for every growing tree of several taxa that is handed in
-pub placement-least : (n m k : ℕ) (tree : List ℕ) (rows : List (List ℤ)) → Grown n k tree → 2 * n - 2 < length tree
+pub placement-least : (weights : List ℕ) (n m k : ℕ) (tree : List ℕ) (rows : List (List ℤ)) → Grown n k tree → 2 * n - 2 < length tree
     → length rows ≡ n + k - 2 → OfLength m rows → (b : ℕ) → Unplaced n tree b
-    → PlacementIsLeast difference n m tree rows b (place difference n tree rows b)
-placement-least n m k tree rows = second-rival difference n m k tree rows (difference-laws m)
+    → PlacementIsLeast (difference weights) n m tree rows b (place (difference weights) n tree rows b)
+placement-least weights n m k tree rows = second-rival (difference weights) n m k tree rows (difference-laws weights m)

@@ -31,11 +31,11 @@ use Rattle.branching.specs.Unasked.{intervalAt, mediansAt, nearestAt, hu
 use Rattle.branching.specs.Nearest.{NearestBelow, NearestOf, Leaves}
 
 -- the interval difference of three rows of a matrix, of at most 128 codes each
-pub interval-rows : (codes : List ℤ) (m b c e r : ℕ) (tree : List ℕ) (xs ys zs : List ℤ) → m ≤ 128 → e ≡ ancestor tree c
+pub interval-rows : (codes : List ℤ) (weights : List ℕ) (m b c e r : ℕ) (tree : List ℕ) (xs ys zs : List ℤ) → m ≤ 128 → e ≡ ancestor tree c
     → xs ≡ row codes m b → ys ≡ row codes m c → zs ≡ row codes m e
-    → r ≡ intervalDifference (take 128 xs) (take 128 ys) (take 128 zs) → r ≡ intervalAt codes m tree b c
+    → r ≡ intervalDifference weights (take 128 xs) (take 128 ys) (take 128 zs) → r ≡ intervalAt codes weights m tree b c
 unfolding intervalAt
-interval-rows codes m b c e r tree xs ys zs narrow above ex ey ez is =
+interval-rows codes weights m b c e r tree xs ys zs narrow above ex ey ez is =
     rw (is, ex, ey, ez, row-128 codes m b narrow, row-128 codes m c narrow, row-128 codes m e narrow, above)
 
 -- a node with an immediate ancestor is in the tree
@@ -44,25 +44,25 @@ has-above tree c above is some =
     inTree-iff tree c .1 (inr (by-cases (decLe 1 (ancestor tree c)) (λ h. h) (λ h. absurd (some (omega arith)))))
 
 -- before the first node no interval is found
-pub nearest-start : (codes : List ℤ) (m : ℕ) (tree : List ℕ) (b : ℕ) → NearestBelow codes m tree b 2 (record { lower = 0; added = 0 })
-nearest-start codes m tree b =
-    record { lower = sym (scan-start (intervalAt codes m tree b) (inTree tree) 2); added = λ some. absurd (some refl) }
+pub nearest-start : (codes : List ℤ) (weights : List ℕ) (m : ℕ) (tree : List ℕ) (b : ℕ) → NearestBelow codes weights m tree b 2 (record { lower = 0; added = 0 })
+nearest-start codes weights m tree b =
+    record { lower = sym (scan-start (intervalAt codes weights m tree b) (inTree tree) 2); added = λ some. absurd (some refl) }
 
 -- from the nearest interval of those below c to that of those below c + 1
-module _ (codes : List ℤ) (m : ℕ) (tree : List ℕ) (b c : ℕ) (low : 2 ≤ c) (best : Nearest)
-    (below : NearestBelow codes m tree b c best) where
+module _ (codes : List ℤ) (weights : List ℕ) (m : ℕ) (tree : List ℕ) (b c : ℕ) (low : 2 ≤ c) (best : Nearest)
+    (below : NearestBelow codes weights m tree b c best) where
   -- the interval difference by which it is searched
   abbrev key : ℕ → ℕ
-  key v = intervalAt codes m tree b v
+  key v = intervalAt codes weights m tree b v
 
   -- a node that is not in the tree is passed over
-  pub nearer-out : inTree tree c ≡ false → NearestBelow codes m tree b (c + 1) best
+  pub nearer-out : inTree tree c ≡ false → NearestBelow codes weights m tree b (c + 1) best
   nearer-out out =
       record { lower = step-fails key (inTree tree) 2 c (best .lower) low (below .lower) out; added = below .added }
 
-  module _ (inside : inTree tree c ≡ true) (added : ℕ) (is : added ≡ intervalAt codes m tree b c) where
+  module _ (inside : inTree tree c ≡ true) (added : ℕ) (is : added ≡ intervalAt codes weights m tree b c) where
     -- the first interval is taken
-    pub nearer-first : best .lower ≡ 0 → NearestBelow codes m tree b (c + 1) (record { lower = c; added = added })
+    pub nearer-first : best .lower ≡ 0 → NearestBelow codes weights m tree b (c + 1) (record { lower = c; added = added })
     nearer-first none =
         record {
           lower = step-first key (inTree tree) 2 c (best .lower) low (below .lower) inside (omega arith) none;
@@ -71,36 +71,36 @@ module _ (codes : List ℤ) (m : ℕ) (tree : List ℕ) (b c : ℕ) (low : 2 ≤
 
     module _ (some : best .lower ≢ 0) where
       -- a nearer one is taken
-      pub nearer-moves : added < best .added → NearestBelow codes m tree b (c + 1) (record { lower = c; added = added })
+      pub nearer-moves : added < best .added → NearestBelow codes weights m tree b (c + 1) (record { lower = c; added = added })
       nearer-moves less =
           let nearer : key c < key (best .lower) = rw (sym is, sym (below .added some)) less in
           record { lower = step-less key (inTree tree) 2 c (best .lower) low (below .lower) inside some nearer; added = λ some. is }
 
       -- one that is not nearer is passed over
-      pub nearer-stays : best .added ≤ added → NearestBelow codes m tree b (c + 1) best
+      pub nearer-stays : best .added ≤ added → NearestBelow codes weights m tree b (c + 1) best
       nearer-stays more =
           let farther : key (best .lower) ≤ key c = rw (sym is, sym (below .added some)) more in
           record { lower = step-stays key (inTree tree) 2 c (best .lower) low (below .lower) inside some farther; added = below .added }
 
 -- all nodes gone through, it is the nearest interval
-pub nearest-end : (codes : List ℤ) (n m : ℕ) (tree : List ℕ) (b c : ℕ) (r : Nearest) → c ≡ 2 + (2 * n - 3) → NearestBelow codes m tree b c r
-    → NearestOf codes n m tree b r
+pub nearest-end : (codes : List ℤ) (weights : List ℕ) (n m : ℕ) (tree : List ℕ) (b c : ℕ) (r : Nearest) → c ≡ 2 + (2 * n - 3) → NearestBelow codes weights m tree b c r
+    → NearestOf codes weights n m tree b r
 unfolding nearestAt scanned nodesIn otherNodes
-nearest-end codes n m tree b c r end below =
+nearest-end codes weights n m tree b c r end below =
     let count : c - 2 ≡ 2 * n - 3 = omega arith in
     record {
-      lower = below .lower ∙ ap (λ (k : ℕ). leastOf (intervalAt codes m tree b) (keep (inTree tree) (numbers 2 k))) count;
+      lower = below .lower ∙ ap (λ (k : ℕ). leastOf (intervalAt codes weights m tree b) (keep (inTree tree) (numbers 2 k))) count;
       added = below .added;
     }
 
 -- a taxon hung, by the parts that were found one after the other
-pub hung-leaves : (codes : List ℤ) (n m : ℕ) (tree : List ℕ) (b c upper htu added : ℕ) (new : List ℤ) → n ≤ 64
-    → added ≡ intervalAt codes m tree b c → upper ≡ ancestor tree c → htu ≡ nextHtuWithin n tree
+pub hung-leaves : (codes : List ℤ) (weights : List ℕ) (n m : ℕ) (tree : List ℕ) (b c upper htu added : ℕ) (new : List ℤ) → n ≤ 64
+    → added ≡ intervalAt codes weights m tree b c → upper ≡ ancestor tree c → htu ≡ nextHtuWithin n tree
     → new ≡ withRow codes htu (mediansAt codes m b c upper) → (larger : Tree) → ancestors larger ≡ hung tree b c htu
-    → Leaves (hungAt codes m n tree b c) new
+    → Leaves (hungAt codes weights m n tree b c) new
     (record { tree = larger; placement = record { taxon = b; lower = c; upper = upper; htu = htu; added = added } })
 unfolding hungAt
-hung-leaves codes n m tree b c upper htu added new most is above next written larger hangs =
+hung-leaves codes weights n m tree b c upper htu added new most is above next written larger hangs =
     let y : htu ≡ nextHtu n tree = next ∙ next-plain n tree most in
     record {
       tree = rw y at hangs;

@@ -32,72 +32,72 @@ use Rattle.branching.proofs.Nodes.{node-nodesIn}
 use Rattle.branching.proofs.Test.{growing-fact}
 use Rattle.branching.proofs.Placing.{place-first, place-later, nearest-node}
 
-module _ (codes : List ℤ) (n m : ℕ) (tree : List ℕ) (b : ℕ) where
+module _ (codes : List ℤ) (weights : List ℕ) (n m : ℕ) (tree : List ℕ) (b : ℕ) where
   -- nothing is done
   abbrev nothing : AfterUnasked
   nothing = record { tree = tree; placement = noPlacement; codes = codes }
 
   -- for more than 64 taxa
-  unasked-more : 64 < n → unasked codes n m tree b ≡ nothing
+  unasked-more : 64 < n → unasked codes weights n m tree b ≡ nothing
   unfolding unasked
   unasked-more more =
-      ap (λ (t : Bool). cond (t && leb m 128) (placedAt codes m n tree b (nearestAt codes m n tree b)) nothing) (lt-leb n 64 more)
+      ap (λ (t : Bool). cond (t && leb m 128) (placedAt codes weights m n tree b (nearestAt codes weights m n tree b)) nothing) (lt-leb n 64 more)
 
   -- for more than 128 characters
-  unasked-wide : n ≤ 64 → 128 < m → unasked codes n m tree b ≡ nothing
+  unasked-wide : n ≤ 64 → 128 < m → unasked codes weights n m tree b ≡ nothing
   unfolding unasked
   unasked-wide most wide = rw (le-leb n 64 most, lt-leb m 128 wide)
 
   -- what is handed back then
-  done-nothing : (r : Unasked) → unasked codes n m tree b ≡ nothing → ancestors (r .tree) ≡ tree → r .placement ≡ noPlacement
-      → UnaskedDone codes codes n m tree b r
+  done-nothing : (r : Unasked) → unasked codes weights n m tree b ≡ nothing → ancestors (r .tree) ≡ tree → r .placement ≡ noPlacement
+      → UnaskedDone codes codes weights n m tree b r
   done-nothing r e t p = record { tree = rw e t; placement = rw e p; matrix = rw e }
 
-  pub done-more : (r : Unasked) → 64 < n → ancestors (r .tree) ≡ tree → r .placement ≡ noPlacement → UnaskedDone codes codes n m tree b r
+  pub done-more : (r : Unasked) → 64 < n → ancestors (r .tree) ≡ tree → r .placement ≡ noPlacement → UnaskedDone codes codes weights n m tree b r
   done-more r more = done-nothing r (unasked-more more)
 
   pub done-wide : (r : Unasked) → n ≤ 64 → 128 < m → ancestors (r .tree) ≡ tree → r .placement ≡ noPlacement
-      → UnaskedDone codes codes n m tree b r
+      → UnaskedDone codes codes weights n m tree b r
   done-wide r most wide = done-nothing r (unasked-wide most wide)
 
   module _ (most : n ≤ 64) (narrow : m ≤ 128) where
     -- otherwise the taxon is placed on its interval
-    pub unasked-plain : unasked codes n m tree b ≡ placedAt codes m n tree b (nearestAt codes m n tree b)
+    pub unasked-plain : unasked codes weights n m tree b ≡ placedAt codes weights m n tree b (nearestAt codes weights m n tree b)
     unfolding unasked
     unasked-plain = rw (le-leb n 64 most, le-leb m 128 narrow)
 
     -- what is handed back is what the placement leaves
-    done-leaves : (after : AfterUnasked) (new : List ℤ) (r : Unasked) → unasked codes n m tree b ≡ after → Leaves after new r
-        → UnaskedDone codes new n m tree b r
+    done-leaves : (after : AfterUnasked) (new : List ℤ) (r : Unasked) → unasked codes weights n m tree b ≡ after → Leaves after new r
+        → UnaskedDone codes new weights n m tree b r
     done-leaves after new r e l = record { tree = rw e (l .tree); placement = rw e (l .placement); matrix = rw e (l .matrix) }
 
     -- no interval: it is linked to row 1
-    unasked-linked : nearestAt codes m n tree b ≡ 0 → unasked codes n m tree b ≡ linkedAt codes m tree b
+    unasked-linked : nearestAt codes weights m n tree b ≡ 0 → unasked codes weights n m tree b ≡ linkedAt codes weights m tree b
     unfolding placedAt
-    unasked-linked none = unasked-plain ∙ ap (placedAt codes m n tree b) none
+    unasked-linked none = unasked-plain ∙ ap (placedAt codes weights m n tree b) none
 
     -- an interval: it is hung on it
-    unasked-hung : (c : ℕ) → nearestAt codes m n tree b ≡ c → c ≢ 0 → unasked codes n m tree b ≡ hungAt codes m n tree b c
+    unasked-hung : (c : ℕ) → nearestAt codes weights m n tree b ≡ c → c ≢ 0 → unasked codes weights n m tree b ≡ hungAt codes weights m n tree b c
     unfolding placedAt
-    unasked-hung c e some = unasked-plain ∙ ap (placedAt codes m n tree b) e ∙ on c some
+    unasked-hung c e some = unasked-plain ∙ ap (placedAt codes weights m n tree b) e ∙ on c some
       where
-        on : (c : ℕ) → c ≢ 0 → placedAt codes m n tree b c ≡ hungAt codes m n tree b c
+        on : (c : ℕ) → c ≢ 0 → placedAt codes weights m n tree b c ≡ hungAt codes weights m n tree b c
         on zero some = absurd (some refl)
         on (suc c) some = refl
 
-    pub done-linked : (c : ℕ) (r : Unasked) → c ≡ nearestAt codes m n tree b → c ≡ 0 → Leaves (linkedAt codes m tree b) codes r
-        → UnaskedDone codes codes n m tree b r
-    done-linked c r is none l = done-leaves (linkedAt codes m tree b) codes r (unasked-linked (sym is ∙ none)) l
+    pub done-linked : (c : ℕ) (r : Unasked) → c ≡ nearestAt codes weights m n tree b → c ≡ 0 → Leaves (linkedAt codes weights m tree b) codes r
+        → UnaskedDone codes codes weights n m tree b r
+    done-linked c r is none l = done-leaves (linkedAt codes weights m tree b) codes r (unasked-linked (sym is ∙ none)) l
 
-    pub done-hung : (c : ℕ) (new : List ℤ) (r : Unasked) → c ≡ nearestAt codes m n tree b → c ≢ 0 → Leaves (hungAt codes m n tree b c) new r
-        → UnaskedDone codes new n m tree b r
-    done-hung c new r is some l = done-leaves (hungAt codes m n tree b c) new r (unasked-hung c (sym is) some) l
+    pub done-hung : (c : ℕ) (new : List ℤ) (r : Unasked) → c ≡ nearestAt codes weights m n tree b → c ≢ 0 → Leaves (hungAt codes weights m n tree b c) new r
+        → UnaskedDone codes new weights n m tree b r
+    done-hung c new r is some l = done-leaves (hungAt codes weights m n tree b c) new r (unasked-hung c (sym is) some) l
 
 -- what a placement without questions leaves is the placement by the rows of the tree's nodes
-pub record AsPlaced (codes : List ℤ) (n m : ℕ) (before : List ℕ) (b : ℕ) (after : AfterUnasked) : Type 0 where
-  pub tree : after .tree ≡ placeIn codes n m before b .tree
-  pub placement : after .placement ≡ placeIn codes n m before b .placement
-  pub codes-after : after .codes ≡ matrixPlaced codes n m before b
+pub record AsPlaced (codes : List ℤ) (weights : List ℕ) (n m : ℕ) (before : List ℕ) (b : ℕ) (after : AfterUnasked) : Type 0 where
+  pub tree : after .tree ≡ placeIn codes weights n m before b .tree
+  pub placement : after .placement ≡ placeIn codes weights n m before b .placement
+  pub codes-after : after .codes ≡ matrixPlaced codes weights n m before b
 
 -- one row written
 pub one-row : (codes : List ℤ) (v : ℕ) (r : List ℤ) → withRows codes v (r ∷ []) ≡ withRow codes v r
@@ -110,35 +110,35 @@ unfolding withRows stripes
 no-row codes v = refl
 
 -- the matrix that a placement by the rows of the tree's nodes leaves
-module _ (codes : List ℤ) (n m : ℕ) (tree : List ℕ) (b : ℕ) where
+module _ (codes : List ℤ) (weights : List ℕ) (n m : ℕ) (tree : List ℕ) (b : ℕ) where
   -- on row 1 alone it is as before
-  pub written-first : ((v : ℕ) → ancestor tree v ≡ 0) → matrixPlaced codes n m tree b ≡ codes
+  pub written-first : ((v : ℕ) → ancestor tree v ≡ 0) → matrixPlaced codes weights n m tree b ≡ codes
   unfolding placeIn matrixPlaced linkFirst
   written-first none =
       let rows : List (List ℤ) = rowsOf codes m (lastRow n tree) in
       let past : length rows ≤ lastRow n tree = omega (arith, length-rowsOf codes m (lastRow n tree)) in
       ap (λ (after : AfterPlacing). withRows codes (suc (lastRow n tree)) (drop (lastRow n tree) (after .rows)))
-      (place-first difference n tree rows b none)
+      (place-first (difference weights) n tree rows b none)
       ∙ ap (withRows codes (suc (lastRow n tree))) (drop-of-length-le rows past)
       ∙ no-row codes (suc (lastRow n tree))
 
   -- on a tree of several taxa the HTU's row is written into the row behind the others
-  pub written-later : (k : ℕ) → Grown n k tree → matrixPlaced codes n m tree b
+  pub written-later : (k : ℕ) → Grown n k tree → matrixPlaced codes weights n m tree b
       ≡ withRow codes (suc (lastRow n tree))
-      (medianRow (rowsOf codes m (lastRow n tree)) b (nearestInterval difference n tree (rowsOf codes m (lastRow n tree)) b)
-      (ancestor tree (nearestInterval difference n tree (rowsOf codes m (lastRow n tree)) b)))
+      (medianRow (rowsOf codes m (lastRow n tree)) b (nearestInterval (difference weights) n tree (rowsOf codes m (lastRow n tree)) b)
+      (ancestor tree (nearestInterval (difference weights) n tree (rowsOf codes m (lastRow n tree)) b)))
   unfolding placeIn matrixPlaced hang
   written-later k g =
       let rows : List (List ℤ) = rowsOf codes m (lastRow n tree) in
-      let c : ℕ = nearestInterval difference n tree rows b in
+      let c : ℕ = nearestInterval (difference weights) n tree rows b in
       let htu : List ℤ = medianRow rows b c (ancestor tree c) in
       ap (λ (after : AfterPlacing). withRows codes (suc (lastRow n tree)) (drop (lastRow n tree) (after .rows)))
-      (place-later difference n tree rows b k g)
+      (place-later (difference weights) n tree rows b k g)
       ∙ ap (withRows codes (suc (lastRow n tree))) (drop-at rows (htu ∷ []) (lastRow n tree) (length-rowsOf codes m (lastRow n tree)))
       ∙ one-row codes (suc (lastRow n tree)) htu
 
 -- on a growing tree, of a taxon that is not in it
-module _ (codes : List ℤ) (n m : ℕ) (most : n ≤ 64) (narrow : m ≤ 128) (tree : List ℕ) (b : ℕ) (u : Unplaced n tree b) where
+module _ (codes : List ℤ) (weights : List ℕ) (n m : ℕ) (most : n ≤ 64) (narrow : m ≤ 128) (tree : List ℕ) (b : ℕ) (u : Unplaced n tree b) where
   -- the rows of the tree's nodes
   abbrev rows : List (List ℤ)
   rows = rowsOf codes m (lastRow n tree)
@@ -154,23 +154,23 @@ module _ (codes : List ℤ) (n m : ℕ) (most : n ≤ 64) (narrow : m ≤ 128) (
 
   module _ (none : (v : ℕ) → ancestor tree v ≡ 0) where
     -- row 1 alone has no interval
-    none-at : nearestAt codes m n tree b ≡ 0
+    none-at : nearestAt codes weights m n tree b ≡ 0
     unfolding nearestAt
     none-at =
-        leastOf-none (intervalAt codes m tree b) (nodesIn tree (otherNodes n)) (λ v mem. omega (arith, node-nodesIn tree n v mem, none v))
+        leastOf-none (intervalAt codes weights m tree b) (nodesIn tree (otherNodes n)) (λ v mem. omega (arith, node-nodesIn tree n v mem, none v))
 
     -- the taxon is linked to row 1, and nothing is written
-    linked-placed : AsPlaced codes n m tree b (unasked codes n m tree b)
+    linked-placed : AsPlaced codes weights n m tree b (unasked codes weights n m tree b)
     unfolding placeIn matrixPlaced linkedAt linkFirst nodeDifference
     linked-placed =
-        let first = place-first difference n tree rows b none in
-        let ours = unasked-linked codes n m tree b most narrow none-at in
-        let added : difference (row codes m b) (row codes m 1) ≡ difference (rowOf rows b) (rowOf rows 1) =
-        sym (ap₂ difference (taxon-row b (omega arith) (u .taxon)) (taxon-row 1 (omega arith) (omega arith))) in
+        let first = place-first (difference weights) n tree rows b none in
+        let ours = unasked-linked codes weights n m tree b most narrow none-at in
+        let added : difference weights (row codes m b) (row codes m 1) ≡ difference weights (rowOf rows b) (rowOf rows 1) =
+        sym (ap₂ (difference weights) (taxon-row b (omega arith) (u .taxon)) (taxon-row 1 (omega arith) (omega arith))) in
         record {
           tree = rw (ours, first);
           placement = rw (ours, first, added);
-          codes-after = ap (λ (after : AfterUnasked). after .codes) ours ∙ sym (written-first codes n m tree b none);
+          codes-after = ap (λ (after : AfterUnasked). after .codes) ours ∙ sym (written-first codes weights n m tree b none);
         }
 
   module _ (k : ℕ) (g : Grown n k tree) where
@@ -193,25 +193,25 @@ module _ (codes : List ℤ) (n m : ℕ) (most : n ≤ 64) (narrow : m ≤ 128) (
         (g .ancestorsIn c inside))
 
     -- the interval difference is the same by the rows
-    interval-same : (c : ℕ) → 1 ≤ ancestor tree c → intervalAt codes m tree b c ≡ fromInterval difference tree rows b c
+    interval-same : (c : ℕ) → 1 ≤ ancestor tree c → intervalAt codes weights m tree b c ≡ fromInterval (difference weights) tree rows b c
     unfolding intervalAt fromInterval nodeInterval
     interval-same c inside = rw (taxon-row b (omega arith) (u .taxon), lower-row c inside, upper-row c inside)
 
     -- so is the nearest interval
-    nearest-same : nearestAt codes m n tree b ≡ nearestInterval difference n tree rows b
+    nearest-same : nearestAt codes weights m n tree b ≡ nearestInterval (difference weights) n tree rows b
     unfolding nearestAt nearestInterval
     nearest-same =
-        leastOf-congr (intervalAt codes m tree b) (fromInterval difference tree rows b) (nodesIn tree (otherNodes n))
+        leastOf-congr (intervalAt codes weights m tree b) (fromInterval (difference weights) tree rows b) (nodesIn tree (otherNodes n))
         (λ c mem. interval-same c (node-nodesIn tree n c mem .2))
 
     -- the taxon is hung on it, and the HTU's row is written into the row behind the others
-    hung-placed : AsPlaced codes n m tree b (unasked codes n m tree b)
+    hung-placed : AsPlaced codes weights n m tree b (unasked codes weights n m tree b)
     unfolding placeIn matrixPlaced hungAt hang mediansAt medianRow
     hung-placed =
-        let c : ℕ = nearestInterval difference n tree rows b in
-        let found = nearest-node difference n tree rows b k g in
-        let later = place-later difference n tree rows b k g in
-        let ours = unasked-hung codes n m tree b most narrow c nearest-same (λ z. omega (arith, found .0)) in
+        let c : ℕ = nearestInterval (difference weights) n tree rows b in
+        let found = nearest-node (difference weights) n tree rows b k g in
+        let later = place-later (difference weights) n tree rows b k g in
+        let ours = unasked-hung codes weights n m tree b most narrow c nearest-same (λ z. omega (arith, found .0)) in
         let same = interval-same c (found .1) in
         let written : mediansAt codes m b c (ancestor tree c) ≡ medianRow rows b c (ancestor tree c) =
         rw (taxon-row b (omega arith) (u .taxon), lower-row c (found .1), upper-row c (found .1)) in
@@ -222,16 +222,16 @@ module _ (codes : List ℤ) (n m : ℕ) (most : n ≤ 64) (narrow : m ≤ 128) (
           codes-after =
               ap (λ (after : AfterUnasked). after .codes) ours
               ∙ ap₂ (withRow codes) next written
-              ∙ sym (written-later codes n m tree b k g);
+              ∙ sym (written-later codes weights n m tree b k g);
         }
       where
         next-row : nextHtu n tree ≡ suc (lastRow n tree)
         next-row = unfold nextHtu in omega (arith, last-row, g .placed, g .atLeastTwo)
 
   -- on every growing tree
-  pub unasked-placed : growingTree n tree ≡ true → AsPlaced codes n m tree b (unasked codes n m tree b)
+  pub unasked-placed : growingTree n tree ≡ true → AsPlaced codes weights n m tree b (unasked codes weights n m tree b)
   unasked-placed growing = go (growing-fact tree n (omega arith) growing)
     where
-      go : {k : ℕ} → GrowingTree n tree k → AsPlaced codes n m tree b (unasked codes n m tree b)
+      go : {k : ℕ} → GrowingTree n tree k → AsPlaced codes weights n m tree b (unasked codes weights n m tree b)
       go (alone none) = linked-placed none
       go (several {k = k} g) = hung-placed k g

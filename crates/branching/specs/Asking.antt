@@ -22,9 +22,9 @@ htusOf n tree = numbers (n + 1) (taxaPlaced n tree - 2)
 
 -- the questions of a placement of taxon b on a tree handed in: those on the matrix; the taxon exists; the tree is a growing tree; the
 -- taxon is not yet in it; the rows of its HTUs
-unfoldable pub askPlacement : List ℤ → ℕ → ℕ → List ℕ → ℕ → Asked
-askPlacement codes n m tree b =
-    andThen (askMatrix codes n m)
+unfoldable pub askPlacement : List ℤ → List ℕ → ℕ → ℕ → List ℕ → ℕ → Asked
+askPlacement codes weights n m tree b =
+    andThen (askMatrix codes weights n m)
     (ask (oneTo n b) NotThere
     (ask (growingTree n tree) NotBranching
     (ask (not (inTree tree b)) NotThere (ask (htusInRange codes n m (htusOf n tree)) CodeRange Passed))))
@@ -35,15 +35,15 @@ branchesSize = 125
 
 -- the questions of a call on a lent branching that reads no HTU row, as a fitting: the size of the list of branches, those on the
 -- matrix, whether the branches are a branching
-unfoldable pub askBranching : List ℤ → ℕ → ℕ → List Branch → Asked
-askBranching codes n m records =
+unfoldable pub askBranching : List ℤ → List ℕ → ℕ → ℕ → List Branch → Asked
+askBranching codes weights n m records =
     ask (eqb (length records) branchesSize) ListSize
-    (andThen (askMatrix codes n m) (ask (lentBranching n records) NotBranching Passed))
+    (andThen (askMatrix codes weights n m) (ask (lentBranching n records) NotBranching Passed))
 
 -- the questions of a call that hands a finished tree back as branch records, into a lent list of so many records: the size of that list,
 -- those on the matrix, whether the tree is a branching of all n taxa, the rows of its HTUs
-unfoldable pub askRecords : List ℤ → ℕ → ℕ → List ℕ → ℕ → Asked
-askRecords codes n m tree room =
+unfoldable pub askRecords : List ℤ → List ℕ → ℕ → ℕ → List ℕ → ℕ → Asked
+askRecords codes weights n m tree room =
     ask (eqb room branchesSize) ListSize
-    (andThen (askMatrix codes n m)
+    (andThen (askMatrix codes weights n m)
     (ask (branching n tree) NotBranching (ask (htusInRange codes n m (htusOf n tree)) CodeRange Passed)))

@@ -24,20 +24,20 @@ pub record AfterUnasked : Type 0 where
   pub placement : Placement
   pub codes : List ℤ
 
-module _ (codes : List ℤ) (m : ℕ) where
+-- the median row of three nodes
+unfoldable pub mediansAt : List ℤ → ℕ → ℕ → ℕ → ℕ → List ℤ
+mediansAt codes m b c e = medians (row codes m b) (row codes m c) (row codes m e)
+
+module _ (codes : List ℤ) (weights : List ℕ) (m : ℕ) where
   -- the interval difference of taxon b from the interval between c and its immediate ancestor
   unfoldable pub intervalAt : List ℕ → ℕ → ℕ → ℕ
-  intervalAt tree b c = intervalDifference (row codes m b) (row codes m c) (row codes m (ancestor tree c))
-
-  -- the median row of three nodes
-  unfoldable pub mediansAt : ℕ → ℕ → ℕ → List ℤ
-  mediansAt b c e = medians (row codes m b) (row codes m c) (row codes m e)
+  intervalAt tree b c = intervalDifference weights (row codes m b) (row codes m c) (row codes m (ancestor tree c))
 
   -- taxon b linked to row 1
   unfoldable pub linkedAt : List ℕ → ℕ → AfterUnasked
   linkedAt tree b = record {
     tree = linked tree b;
-    placement = record { taxon = b; lower = 0; upper = 1; htu = 0; added = difference (row codes m b) (row codes m 1) };
+    placement = record { taxon = b; lower = 0; upper = 1; htu = 0; added = difference weights (row codes m b) (row codes m 1) };
     codes = codes;
   }
 
@@ -51,7 +51,7 @@ module _ (codes : List ℤ) (m : ℕ) where
     hungAt tree b c = record {
       tree = hung tree b c (nextHtu n tree);
       placement = record { taxon = b; lower = c; upper = ancestor tree c; htu = nextHtu n tree; added = intervalAt tree b c };
-      codes = withRow codes (nextHtu n tree) (mediansAt b c (ancestor tree c));
+      codes = withRow codes (nextHtu n tree) (mediansAt codes m b c (ancestor tree c));
     }
 
     -- taxon b placed on the interval with lower end c; 0: there is none
@@ -60,14 +60,14 @@ module _ (codes : List ℤ) (m : ℕ) where
     placedAt tree b (suc c) = hungAt tree b (suc c)
 
 -- taxon b placed on its interval; nothing is done for more than 64 taxa or more than 128 characters
-unfoldable pub unasked : List ℤ → ℕ → ℕ → List ℕ → ℕ → AfterUnasked
-unasked codes n m tree b =
+unfoldable pub unasked : List ℤ → List ℕ → ℕ → ℕ → List ℕ → ℕ → AfterUnasked
+unasked codes weights n m tree b =
     cond (leb n mostTaxa && leb m mostCharacters)
-    (placedAt codes m n tree b (nearestAt codes m n tree b))
+    (placedAt codes weights m n tree b (nearestAt codes weights m n tree b))
     (record { tree = tree; placement = noPlacement; codes = codes })
 
 -- what such a placement hands back, and what the matrix then holds
-pub record UnaskedDone (codes new : List ℤ) (n m : ℕ) (before : List ℕ) (b : ℕ) (r : Unasked) : Type 0 where
-  pub tree : ancestors (r .tree) ≡ unasked codes n m before b .tree
-  pub placement : r .placement ≡ unasked codes n m before b .placement
-  pub matrix : new ≡ unasked codes n m before b .codes
+pub record UnaskedDone (codes new : List ℤ) (weights : List ℕ) (n m : ℕ) (before : List ℕ) (b : ℕ) (r : Unasked) : Type 0 where
+  pub tree : ancestors (r .tree) ≡ unasked codes weights n m before b .tree
+  pub placement : r .placement ≡ unasked codes weights n m before b .placement
+  pub matrix : new ≡ unasked codes weights n m before b .codes

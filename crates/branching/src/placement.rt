@@ -79,24 +79,37 @@ fn nodes_end(n: usize) -> usize
 }
 
 // The interval difference of taxon b from the interval between c and its immediate ancestor, the node above.
-fn from_interval(matrix: &[i32], m: usize, b: usize, c: usize, above: usize) -> u64
+fn from_interval(matrix: &[i32], weights: &[u8], m: usize, b: usize, c: usize, above: usize) -> u64
     requires { ⌜ m ≤ mostCharacters ⌝ }
-    ensures { λ r. ⌜ ((tree : List ℕ) → above ≡ ancestor tree c → r ≡ intervalAt (now (matrix .entry)) m tree b c) ⌝ }
+    ensures { λ r. ⌜ ((tree : List ℕ) → above ≡ ancestor tree c → r ≡ intervalAt (now (matrix .entry)) (now (weights .entry)) m tree b c) ⌝ }
 {
-    interval_difference(row(matrix, m, b), row(matrix, m, c), row(matrix, m, above))
+    interval_difference(
+        weights,
+        row(matrix, m, b),
+        row(matrix, m, c),
+        row(matrix, m, above),
+    )
 }
 
 // Of the nearest interval of those gone through and that of node c, the nearer one: that of c if c has an immediate ancestor, the node
 // above, and is nearer.
-fn nearer(best: Nearest, matrix: &[i32], m: usize, b: usize, c: usize, above: usize) -> Nearest
+fn nearer(
+    best: Nearest,
+    matrix: &[i32],
+    weights: &[u8],
+    m: usize,
+    b: usize,
+    c: usize,
+    above: usize,
+) -> Nearest
     requires { ⌜ (m ≤ mostCharacters) × (2 ≤ c) ⌝ }
-    ensures { λ r. ⌜ ((tree : List ℕ) → above ≡ ancestor tree c → NearestBelow (now (matrix .entry)) m tree b c best
-        → NearestBelow (now (matrix .entry)) m tree b (c + 1) r) ⌝ }
+    ensures { λ r. ⌜ ((tree : List ℕ) → above ≡ ancestor tree c → NearestBelow (now (matrix .entry)) (now (weights .entry)) m tree b c best
+        → NearestBelow (now (matrix .entry)) (now (weights .entry)) m tree b (c + 1) r) ⌝ }
 {
     if above == 0 {
         return best;
     }
-    let added = from_interval(matrix, m, b, c, above);
+    let added = from_interval(matrix, weights, m, b, c, above);
     if best.lower == 0 {
         return Nearest { lower: c, added };
     }
@@ -107,16 +120,23 @@ fn nearer(best: Nearest, matrix: &[i32], m: usize, b: usize, c: usize, above: us
 }
 
 // The interval of least interval difference, the least node number among equals.
-fn nearest_interval(matrix: &[i32], n: usize, m: usize, tree: Tree, b: usize) -> Nearest
+fn nearest_interval(
+    matrix: &[i32],
+    weights: &[u8],
+    n: usize,
+    m: usize,
+    tree: Tree,
+    b: usize,
+) -> Nearest
     requires { ⌜ (n ≤ mostTaxa) × (m ≤ mostCharacters) ⌝ }
-    ensures { λ r. ⌜ NearestOf (now (matrix .entry)) n m (ancestors tree) b r ⌝ }
+    ensures { λ r. ⌜ NearestOf (now (matrix .entry)) (now (weights .entry)) n m (ancestors tree) b r ⌝ }
 {
     let places = tree.ancestors;
     let end = nodes_end(n);
     let mut best = Nearest { lower: 0, added: 0 };
     let mut c = 2;
     while c < end {
-        best = nearer(best, matrix, m, b, c, places[c]);
+        best = nearer(best, matrix, weights, m, b, c, places[c]);
         c += 1;
     }
     best
@@ -156,11 +176,11 @@ fn write_htu(matrix: &mut [i32], m: usize, b: usize, c: usize, e: usize, y: usiz
 
 impl Tree {
     // Taxon b linked to row 1.
-    fn link_first(self, matrix: &[i32], m: usize, b: usize) -> Unasked
+    fn link_first(self, matrix: &[i32], weights: &[u8], m: usize, b: usize) -> Unasked
         requires { ⌜ m ≤ mostCharacters ⌝ }
-        ensures { λ r. ⌜ Leaves (linkedAt (now (matrix .entry)) m (ancestors self) b) (now (matrix .entry)) r ⌝ }
+        ensures { λ r. ⌜ Leaves (linkedAt (now (matrix .entry)) (now (weights .entry)) m (ancestors self) b) (now (matrix .entry)) r ⌝ }
     {
-        let added = difference(row(matrix, m, b), row(matrix, m, 1));
+        let added = difference(weights, row(matrix, m, b), row(matrix, m, 1));
         Unasked {
             tree: self.link(b),
             placement: Placement {
@@ -177,14 +197,15 @@ impl Tree {
     fn hang_on(
         self,
         matrix: &mut [i32],
+        weights: &[u8],
         n: usize,
         m: usize,
         b: usize,
         c: usize,
         added: u64,
     ) -> Unasked
-        requires { ⌜ (n ≤ mostTaxa) × (m ≤ mostCharacters) × (added ≡ intervalAt (now matrix) m (ancestors self) b c) ⌝ }
-        ensures { λ r. ⌜ Leaves (hungAt (now (matrix .entry)) m n (ancestors self) b c) (now (matrix .exit)) r ⌝ }
+        requires { ⌜ (n ≤ mostTaxa) × (m ≤ mostCharacters) × (added ≡ intervalAt (now matrix) (now weights) m (ancestors self) b c) ⌝ }
+        ensures { λ r. ⌜ Leaves (hungAt (now (matrix .entry)) (now (weights .entry)) m n (ancestors self) b c) (now (matrix .exit)) r ⌝ }
     {
         let upper = self.ancestor(c);
         let htu = self.next_htu(n);
@@ -212,8 +233,15 @@ impl Tree {
     }
 
     // Taxon b placed on its interval, without the questions of a placement; nothing is done for more than 64 taxa or 128 characters.
-    pub fn place_unasked(self, matrix: &mut [i32], n: usize, m: usize, b: usize) -> Unasked
-        ensures { λ r. ⌜ UnaskedDone (now (matrix .entry)) (now (matrix .exit)) n m (ancestors self) b r ⌝ }
+    pub fn place_unasked(
+        self,
+        matrix: &mut [i32],
+        weights: &[u8],
+        n: usize,
+        m: usize,
+        b: usize,
+    ) -> Unasked
+        ensures { λ r. ⌜ UnaskedDone (now (matrix .entry)) (now (matrix .exit)) (now (weights .entry)) n m (ancestors self) b r ⌝ }
     {
         if MOST_TAXA < n {
             return self.unplaced();
@@ -221,17 +249,25 @@ impl Tree {
         if MOST_CHARACTERS < m {
             return self.unplaced();
         }
-        let nearest = nearest_interval(matrix, n, m, self, b);
+        let nearest = nearest_interval(matrix, weights, n, m, self, b);
         if nearest.lower == 0 {
-            return self.link_first(matrix, m, b);
+            return self.link_first(matrix, weights, m, b);
         }
-        self.hang_on(matrix, n, m, b, nearest.lower, nearest.added)
+        self.hang_on(matrix, weights, n, m, b, nearest.lower, nearest.added)
     }
 
     // The placement of taxon b after its questions: done where they passed; a refusal hands the tree back unchanged, and writes nothing.
-    fn place_asked(self, asked: Asked, matrix: &mut [i32], n: usize, m: usize, b: usize) -> Placed
-        requires { ⌜ asked ≡ askPlacement (now matrix) n m (ancestors self) b ⌝ }
-        ensures { λ r. ⌜ PlacementDone (now (matrix .entry)) (now (matrix .exit)) n m (ancestors self) b r ⌝ }
+    fn place_asked(
+        self,
+        asked: Asked,
+        matrix: &mut [i32],
+        weights: &[u8],
+        n: usize,
+        m: usize,
+        b: usize,
+    ) -> Placed
+        requires { ⌜ asked ≡ askPlacement (now matrix) (now weights) n m (ancestors self) b ⌝ }
+        ensures { λ r. ⌜ PlacementDone (now (matrix .entry)) (now (matrix .exit)) (now (weights .entry)) n m (ancestors self) b r ⌝ }
     {
         match asked {
             Asked::Refused(refusal) => {
@@ -245,7 +281,7 @@ impl Tree {
                 }
             }
             Asked::Passed => {
-                let done = self.place_unasked(matrix, n, m, b);
+                let done = self.place_unasked(matrix, weights, n, m, b);
                 let tree = done.tree;
                 let placement = done.placement;
                 Placed {
@@ -259,10 +295,10 @@ impl Tree {
 
     // The placement of taxon b on a tree handed in, with its questions: the tree comes out one taxon larger, and the codes of the new HTU
     // are written into its row of the matrix. A refused placement hands the tree back unchanged, and writes nothing.
-    pub fn place(self, matrix: &mut [i32], n: usize, m: usize, b: usize) -> Placed
-        ensures { λ r. ⌜ PlacementDone (now (matrix .entry)) (now (matrix .exit)) n m (ancestors self) b r ⌝ }
+    pub fn place(self, matrix: &mut [i32], weights: &[u8], n: usize, m: usize, b: usize) -> Placed
+        ensures { λ r. ⌜ PlacementDone (now (matrix .entry)) (now (matrix .exit)) (now (weights .entry)) n m (ancestors self) b r ⌝ }
     {
-        let asked = ask_placement(matrix, n, m, self, b);
-        self.place_asked(asked, matrix, n, m, b)
+        let asked = ask_placement(matrix, weights, n, m, self, b);
+        self.place_asked(asked, matrix, weights, n, m, b)
     }
 }

@@ -44,10 +44,17 @@ fn htus_right(matrix: &[i32], n: usize, m: usize, tree: Tree) -> bool
 
 // The questions of a placement of taxon b on a tree handed in: those on the matrix, whether the taxon exists, whether the tree is a growing
 // tree, whether the taxon is not yet in it, and the rows of its HTUs.
-pub fn ask_placement(matrix: &[i32], n: usize, m: usize, tree: Tree, b: usize) -> Asked
-    ensures { λ r. ⌜ r ≡ askPlacement (now (matrix .entry)) n m (ancestors tree) b ⌝ }
+pub fn ask_placement(
+    matrix: &[i32],
+    weights: &[u8],
+    n: usize,
+    m: usize,
+    tree: Tree,
+    b: usize,
+) -> Asked
+    ensures { λ r. ⌜ r ≡ askPlacement (now (matrix .entry)) (now (weights .entry)) n m (ancestors tree) b ⌝ }
 {
-    match ask_matrix(matrix, n, m) {
+    match ask_matrix(matrix, weights, n, m) {
         Asked::Refused(refusal) => Asked::Refused(refusal),
         Asked::Passed => {
             let exists = one_to(n, b);
@@ -70,10 +77,16 @@ pub fn ask_placement(matrix: &[i32], n: usize, m: usize, tree: Tree, b: usize) -
 }
 
 // The questions of a call on a lent branching that reads no HTU row: those on the matrix, and whether the records are a branching.
-pub fn ask_branching(matrix: &[i32], n: usize, m: usize, records: [Branch; 125]) -> Asked
-    ensures { λ r. ⌜ r ≡ askBranching (now (matrix .entry)) n m records ⌝ }
+pub fn ask_branching(
+    matrix: &[i32],
+    weights: &[u8],
+    n: usize,
+    m: usize,
+    records: [Branch; 125],
+) -> Asked
+    ensures { λ r. ⌜ r ≡ askBranching (now (matrix .entry)) (now (weights .entry)) n m records ⌝ }
 {
-    match ask_matrix(matrix, n, m) {
+    match ask_matrix(matrix, weights, n, m) {
         Asked::Refused(refusal) => Asked::Refused(refusal),
         Asked::Passed => {
             if !lent_branching(records, n) {
@@ -86,13 +99,20 @@ pub fn ask_branching(matrix: &[i32], n: usize, m: usize, records: [Branch; 125])
 
 // The questions of a call that hands a finished tree back as branch records, into a lent list of `room` records: the size of that list,
 // those on the matrix, whether the tree is a branching of n taxa, and the rows of its HTUs.
-pub fn ask_records(matrix: &[i32], n: usize, m: usize, tree: Tree, room: usize) -> Asked
-    ensures { λ r. ⌜ r ≡ askRecords (now (matrix .entry)) n m (ancestors tree) room ⌝ }
+pub fn ask_records(
+    matrix: &[i32],
+    weights: &[u8],
+    n: usize,
+    m: usize,
+    tree: Tree,
+    room: usize,
+) -> Asked
+    ensures { λ r. ⌜ r ≡ askRecords (now (matrix .entry)) (now (weights .entry)) n m (ancestors tree) room ⌝ }
 {
     if room != BRANCHES {
         return Asked::Refused(Refusal::ListSize);
     }
-    match ask_matrix(matrix, n, m) {
+    match ask_matrix(matrix, weights, n, m) {
         Asked::Refused(refusal) => Asked::Refused(refusal),
         Asked::Passed => {
             if !tree.is_branching(n) {

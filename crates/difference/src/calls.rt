@@ -15,20 +15,17 @@ pub enum Length {
 }
 
 // The difference of nodes a and b.
-pub fn difference(
-    matrix: &[i32],
-    weights: &[u8],
-    n: usize,
-    m: usize,
-    a: usize,
-    b: usize,
-) -> Length
+pub fn difference(matrix: &[i32], weights: &[u8], n: usize, m: usize, a: usize, b: usize) -> Length
     ensures { λ r. ⌜ lengthSays r ≡ differenceAnswer (now (matrix .entry)) (now (weights .entry)) n m a b ⌝ }
 {
     let named = [a, b];
     match ask_nodes(matrix, weights, n, m, &named) {
         Asked::Refused(refusal) => Length::Refused(refusal),
-        Asked::Passed => Length::Is(rows::difference(weights, row(matrix, m, a), row(matrix, m, b))),
+        Asked::Passed => Length::Is(rows::difference(
+            weights,
+            row(matrix, m, a),
+            row(matrix, m, b),
+        )),
     }
 }
 

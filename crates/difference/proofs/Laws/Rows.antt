@@ -83,8 +83,8 @@ difference-take-suc j weights (x ∷ xs) [] h k = absurd (omega arith)
 difference-take-suc zero weights (x ∷ xs) (y ∷ ys) h k = omega arith
 difference-take-suc (suc j) weights (x ∷ xs) (y ∷ ys) h k =
     let at : part (weightAt (drop 1 weights) j) (getD xs j (pos 0)) (getD ys j (pos 0))
-            ≡ part (weightAt weights (suc j)) (getD xs j (pos 0)) (getD ys j (pos 0)) =
-        ap (λ w. part w (getD xs j (pos 0)) (getD ys j (pos 0))) (weightAt-drop weights j) in
+    ≡ part (weightAt weights (suc j)) (getD xs j (pos 0)) (getD ys j (pos 0)) =
+    ap (λ w. part w (getD xs j (pos 0)) (getD ys j (pos 0))) (weightAt-drop weights j) in
     omega (arith, difference-take-suc j (drop 1 weights) xs ys (omega arith) (omega arith), at)
 
 -- ---- the medians of three rows

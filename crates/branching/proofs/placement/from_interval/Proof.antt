@@ -18,8 +18,8 @@ interval-difference-requires c κs = search needs
 
 returns : tie.Need-returns
 returns c tree above =
-    let start = c .before .before .before .before in
-    interval-rows _ _ _ _ _ _ tree _ _ _ (start .pre) above
+    let start = c .before .before .before .before .before in
+    interval-rows _ _ _ _ _ _ _ tree _ _ _ (start .pre) above
     (c .before .before .before .row .ensures)
     (c .before .before .row2 .ensures) (c .before .row3 .ensures) (c .interval-difference .ensures)
 

@@ -10,20 +10,20 @@ use Rattle.branching.proofs.placement.nearest_interval.Statement.{state
 use Rattle.branching.proofs.placement.nearest_interval.Tie as tie
 
 abbrev Inv-loop : tie.InvT-loop
-Inv-loop matrix n m b places end best₀ c₀ best c =
-    (2 ≤ c) × (c ≤ end) × (end ≡ 2 + (2 * n - 3)) × (m ≤ 128) × (end ≤ 127) × NearestBelow matrix m places b c best
+Inv-loop matrix weights n m b places end best₀ c₀ best c =
+    (2 ≤ c) × (c ≤ end) × (end ≡ 2 + (2 * n - 3)) × (m ≤ 128) × (end ≤ 127) × NearestBelow matrix weights m places b c best
 
 abbrev μ-loop : tie.MeasureT-loop
-μ-loop matrix n m b places end best₀ c₀ best c = end - c
+μ-loop matrix weights n m b places end best₀ c₀ best c = end - c
 
 nodes-end-requires : tie.Need-nodes-end-requires Inv-loop μ-loop
 nodes-end-requires c κs = search needs
 
 loop-holds : tie.Need-loop-holds Inv-loop μ-loop
 loop-holds c =
-    let pre = c .before .before .pre in
+    let pre = c .before .before .before .pre in
     let end = c .nodes-end .ensures in
-    (omega arith, omega arith, end, pre .1, omega arith, nearest-start _ _ _ _)
+    (omega arith, omega arith, end, pre .1, omega arith, nearest-start _ _ _ _ _)
 
 mul-nearer : tie.Need-mul-nearer Inv-loop μ-loop
 mul-nearer c = search needs
@@ -50,7 +50,7 @@ returns : tie.Need-returns Inv-loop μ-loop
 returns c =
     let loop = c .before .loop in
     let end : loop .c ≡ c .before .before .nodes-end .result = omega (arith, c .loop-test .left) in
-    nearest-end _ _ _ _ _ (loop .c) _ (end ∙ loop .inv .2) (loop .inv .5)
+    nearest-end _ _ _ _ _ _ (loop .c) _ (end ∙ loop .inv .2) (loop .inv .5)
 
 pub nearest-interval-spec : {M : Type 1} → statement M
 nearest-interval-spec =

@@ -22,7 +22,7 @@ lent-branching-requires c κs = search needs
 returns : tie.Need-returns
 unfolding askBranching
 returns c =
-    let start = c .before .before .before .before .before in
+    let start = c .before .before .before .before .before .before in
     let size : length (start .args .records) ≡ 125 = search needs in
     rw (
       eq-eqb _ _ size,
@@ -33,14 +33,14 @@ returns c =
 returns-2 : tie.Need-returns-2
 unfolding askBranching
 returns-2 c =
-    let start = c .before .before .before .before in
+    let start = c .before .before .before .before .before in
     let size : length (start .args .records) ≡ 125 = search needs in
     rw (eq-eqb _ _ size, sym (c .before .before .before .ask-matrix .ensures) ∙ c .before .refusal .given .1)
 
 returns-3 : tie.Need-returns-3
 unfolding askBranching
 returns-3 c =
-    let start = c .before .before .before .before .before in
+    let start = c .before .before .before .before .before .before in
     let size : length (start .args .records) ≡ 125 = search needs in
     rw (
       eq-eqb _ _ size,

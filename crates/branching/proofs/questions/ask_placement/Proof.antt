@@ -1,7 +1,7 @@
 -- `branching::questions::ask_placement` meets its contract: each answer follows from the tests that led to it. Assumes nothing.
 use mathlib.Core.Path.{sym, _∙_}
 use borrow.Author.Tests.{not-true, not-false}
-use Rattle.matrix.proofs.Passing.{matrix-passes}
+use Rattle.matrix.proofs.Passing.{matrix-passed}
 use Rattle.branching.specs.Asking.{askPlacement}
 use Rattle.branching.proofs.Within.{growing-plain}
 use borrow.Author.Needs.{needs}
@@ -37,7 +37,7 @@ unfolding askPlacement
 returns-2 c =
     let found = c .before .before in
     let told = sym (found .before .before .before .before .ask-matrix .ensures) ∙ found .before .before .enum-told .given .1 in
-    let most = matrix-passes _ _ _ .0 told .taxa in
+    let most = matrix-passed _ _ _ _ told .taxa in
     rw (
       told,
       sym (found .before .one-to .ensures) ∙ not-false _ (c .before .if1 .left),
@@ -53,7 +53,7 @@ returns-3 c =
     let growing = c .before .before in
     let found = growing .before .before in
     let told = sym (found .before .before .before .before .ask-matrix .ensures) ∙ found .before .before .enum-told .given .1 in
-    let most = matrix-passes _ _ _ .0 told .taxa in
+    let most = matrix-passed _ _ _ _ told .taxa in
     rw (
       told,
       sym (found .before .one-to .ensures) ∙ not-false _ (growing .before .if1 .left),
@@ -64,7 +64,7 @@ returns-3 c =
 htus-right-requires : tie.Need-htus-right-requires
 htus-right-requires c κs =
     let found = c .before .before .before .before in
-    matrix-passes _ _ _ .0
+    matrix-passed _ _ _ _
     (sym (found .before .before .before .before .ask-matrix .ensures) ∙ found .before .before .enum-told .given .1) .taxa
 
 returns-4 : tie.Need-returns-4
@@ -74,7 +74,7 @@ returns-4 c =
     let growing = placed .before .before in
     let found = growing .before .before in
     let told = sym (found .before .before .before .before .ask-matrix .ensures) ∙ found .before .before .enum-told .given .1 in
-    let most = matrix-passes _ _ _ .0 told .taxa in
+    let most = matrix-passed _ _ _ _ told .taxa in
     rw (
       told,
       sym (found .before .one-to .ensures) ∙ not-false _ (growing .before .if1 .left),
@@ -94,7 +94,7 @@ returns-6 c =
     let growing = placed .before .before in
     let found = growing .before .before in
     let told = sym (found .before .before .before .before .ask-matrix .ensures) ∙ found .before .before .enum-told .given .1 in
-    let most = matrix-passes _ _ _ .0 told .taxa in
+    let most = matrix-passed _ _ _ _ told .taxa in
     rw (
       told,
       sym (found .before .one-to .ensures) ∙ not-false _ (growing .before .if1 .left),

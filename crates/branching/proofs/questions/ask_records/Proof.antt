@@ -1,7 +1,7 @@
 -- `branching::questions::ask_records` meets its contract: each answer follows from the tests that led to it. Assumes nothing.
 use mathlib.Core.Path.{sym, _∙_}
 use borrow.Author.Tests.{eq-eqb, ne-eqb, not-true, not-false}
-use Rattle.matrix.proofs.Passing.{matrix-passes}
+use Rattle.matrix.proofs.Passing.{matrix-passed}
 use Rattle.branching.specs.Asking.{askRecords}
 use Rattle.branching.proofs.Within.{branching-plain}
 use borrow.Author.Needs.{needs}
@@ -29,7 +29,7 @@ unfolding askRecords
 returns-2 c =
     let asked = c .before .before .before .before in
     let told = sym (asked .ask-matrix .ensures) ∙ c .before .before .enum-told .given .1 in
-    let most = matrix-passes _ _ _ .0 told .taxa in
+    let most = matrix-passed _ _ _ _ told .taxa in
     rw (
       eq-eqb _ _ (asked .before .if1 .left),
       told,
@@ -39,14 +39,14 @@ returns-2 c =
 htus-right-requires : tie.Need-htus-right-requires
 htus-right-requires c κs =
     let told = sym (c .before .before .before .before .ask-matrix .ensures) ∙ c .before .before .enum-told .given .1 in
-    matrix-passes _ _ _ .0 told .taxa
+    matrix-passed _ _ _ _ told .taxa
 
 returns-3 : tie.Need-returns-3
 unfolding askRecords
 returns-3 c =
     let asked = c .before .before .before .before .before .before in
     let told = sym (asked .ask-matrix .ensures) ∙ c .before .before .before .before .enum-told .given .1 in
-    let most = matrix-passes _ _ _ .0 told .taxa in
+    let most = matrix-passed _ _ _ _ told .taxa in
     rw (
       eq-eqb _ _ (asked .before .if1 .left),
       told,
@@ -65,7 +65,7 @@ unfolding askRecords
 returns-5 c =
     let asked = c .before .before .before .before .before .before in
     let told = sym (asked .ask-matrix .ensures) ∙ c .before .before .before .before .enum-told .given .1 in
-    let most = matrix-passes _ _ _ .0 told .taxa in
+    let most = matrix-passed _ _ _ _ told .taxa in
     rw (
       eq-eqb _ _ (asked .before .if1 .left),
       told,

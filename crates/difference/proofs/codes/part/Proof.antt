@@ -28,7 +28,7 @@ mul-result : tie.Need-mul-result
 mul-result c =
     let given = c .before .before .fits in
     let most = part-most (c .before .before .args .weight) (c .before .before .args .a) (c .before .before .args .b)
-            (omega (arith, given .weight .fits)) (natAbs-le (c .before .before .args .a) (given .a .sfits)) (natAbs-le (c .before .before .args .b) (given .b .sfits)) in
+    (omega (arith, given .weight .fits)) (natAbs-le (c .before .before .args .a) (given .a .sfits)) (natAbs-le (c .before .before .args .b) (given .b .sfits)) in
     record { fits = omega (arith, product c, most) }
 
 returns : tie.Need-returns

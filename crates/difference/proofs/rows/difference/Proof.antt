@@ -54,8 +54,11 @@ row-y c = c .before .before .before .before .before .before .before .before .bef
 added : (c : tie.After-part Inv-loop μ-loop)
     → c .part .result ≡ part (weightAt (weights-of c) (at c)) (getD (row-x c) (at c) (pos 0)) (getD (row-y c) (at c) (pos 0))
 added c =
-    rw (toZ-ofZ (sfits-of (c .before .before .part-arg .given)), toZ-ofZ (sfits-of (c .before .part-arg2 .given)),
-    c .before .before .before .weight-at .ensures)
+    rw (
+      toZ-ofZ (sfits-of (c .before .before .part-arg .given)),
+      toZ-ofZ (sfits-of (c .before .part-arg2 .given)),
+      c .before .before .before .weight-at .ensures,
+    )
     at (c .part .ensures)
 
 -- it is at most 2 ^ 40

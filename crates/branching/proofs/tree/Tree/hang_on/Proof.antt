@@ -22,8 +22,8 @@ same-length c = search needs
 returns : tie.Need-returns
 returns c =
     let asked = c .before .before .before .before in
-    let start = asked .before .before in
-    hung-leaves _ _ _ _ _ _ _ _ _ _ (start .pre .0) (start .pre .2) (asked .before .ancestor .ensures) (asked .next-htu .ensures)
+    let start = asked .before .before .before in
+    hung-leaves _ _ _ _ _ _ _ _ _ _ _ (start .pre .0) (start .pre .2) (asked .before .ancestor .ensures) (asked .next-htu .ensures)
     (c .before .before .write-htu .ensures) _ (c .hang .ensures)
 
 pub hang-on-spec : {M : Type 1} → statement M

@@ -25,12 +25,12 @@ link-requires c κs = search needs
 returns : tie.Need-returns
 unfolding linkedAt
 returns c =
-    let start = c .before .before .before .before in
+    let start = c .before .before .before .before .before in
     let codes = start .args .matrix .now in
     let m = start .args .m in
     let added =
     c .before .difference .ensures .is
-    ∙ ap₂ difference
+    ∙ ap₂ (difference (start .args .weights .now))
     (ap (take 128) (c .before .before .before .row .ensures) ∙ row-128 codes m (start .args .b) (start .pre))
     (ap (take 128) (c .before .before .row2 .ensures) ∙ row-128 codes m 1 (start .pre)) in
     record {

@@ -21,7 +21,7 @@ returns : tie.Need-returns
 returns c =
     let kept = c .before .before in
     let told = kept .before .before in
-    hands-refusal _ _ _ _ _ _ _ (sym (told .before .before .pre) ∙ told .asked .given .1) (kept .unplaced .ensures .0)
+    hands-refusal _ _ _ _ _ _ _ _ (sym (told .before .before .before .pre) ∙ told .asked .given .1) (kept .unplaced .ensures .0)
     (kept .unplaced .ensures .1)
 
 same-length : tie.Need-same-length
@@ -31,7 +31,7 @@ returns-2 : tie.Need-returns-2
 returns-2 c =
     let done = c .before .before .before in
     let told = done .before .before in
-    hands-placement _ _ _ _ _ _ _ (sym (told .before .before .pre) ∙ told .enum-told .given .1) (done .place-unasked .ensures)
+    hands-placement _ _ _ _ _ _ _ _ (sym (told .before .before .before .pre) ∙ told .enum-told .given .1) (done .place-unasked .ensures)
 
 pub place-asked-spec : {M : Type 1} → statement M
 place-asked-spec =

@@ -10,13 +10,13 @@ unplaced-requires : tie.Need-unplaced-requires
 unplaced-requires c κs = search needs
 
 returns : tie.Need-returns
-returns c = done-more _ _ _ _ _ _ (c .before .if1 .taken) (ap ancestors (c .unplaced .ensures .0)) (c .unplaced .ensures .1)
+returns c = done-more _ _ _ _ _ _ _ (c .before .if1 .taken) (ap ancestors (c .unplaced .ensures .0)) (c .unplaced .ensures .1)
 
 unplaced-requires-2 : tie.Need-unplaced-requires-2
 unplaced-requires-2 c κs = search needs
 
 returns-2 : tie.Need-returns-2
-returns-2 c = done-wide _ _ _ _ _ _ (c .before .before .if1 .left) (c .before .if2 .taken)
+returns-2 c = done-wide _ _ _ _ _ _ _ (c .before .before .if1 .left) (c .before .if2 .taken)
     (ap ancestors (c .unplaced2 .ensures .0)) (c .unplaced2 .ensures .1)
 
 nearest-interval-requires : tie.Need-nearest-interval-requires
@@ -31,7 +31,7 @@ same-length c = search needs
 returns-3 : tie.Need-returns-3
 returns-3 c =
     let found = c .before .before .before .before in
-    done-linked _ _ _ _ _ (found .before .before .before .if1 .left) (found .before .before .if2 .left) _ _
+    done-linked _ _ _ _ _ _ (found .before .before .before .if1 .left) (found .before .before .if2 .left) _ _
     (found .nearest-interval .ensures .lower) (c .before .before .if3 .taken) (c .link-first .ensures)
 
 hang-on-requires : tie.Need-hang-on-requires
@@ -49,7 +49,7 @@ same-length-2 c = search needs
 returns-4 : tie.Need-returns-4
 returns-4 c =
     let found = c .before .before .before .before .before in
-    done-hung _ _ _ _ _ (found .before .before .before .if1 .left) (found .before .before .if2 .left) _ _ _
+    done-hung _ _ _ _ _ _ (found .before .before .before .if1 .left) (found .before .before .if2 .left) _ _ _
     (found .nearest-interval .ensures .lower) (c .before .before .before .if3 .left) (c .before .hang-on .ensures)
 
 pub place-unasked-spec : {M : Type 1} → statement M
