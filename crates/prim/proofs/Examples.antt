@@ -1,10 +1,10 @@
--- The Prim Network computed: document 01's example, one and two taxa, and a tie of each kind.
+-- The Prim Network computed: document 01's example, without weights and with them, one and two taxa, and a tie of each kind.
 use mathlib.Core.Path.{_≡_, refl}
 use mathlib.Core.List.{List, [], _∷_, _++_}
 use Prim.Native.Nat.{ℕ, _-_}
 use lib.IntN.{ℤ, pos, negsuc}
 use lib.ListN.{length, replicate}
-use Rattle.matrix.specs.Shape.{row}
+use Rattle.matrix.specs.Shape.{row, columns}
 use Rattle.difference.specs.Rows.{nodeDifference, difference}
 use Rattle.difference.specs.Rows
 use Rattle.lists.specs.Filters
@@ -21,9 +21,13 @@ abbrev lent : List (List ℤ) → List ℤ
 lent [] = []
 lent (r ∷ rs) = r ++ replicate (128 - length r) (pos 0) ++ lent rs
 
--- the Prim Network of n rows of m codes
+-- the Prim Network of n rows of m codes, by weights
+abbrev by : List ℕ → ℕ → ℕ → List (List ℤ) → List Link
+by weights n m rows = network (nodeDifference (difference weights) (row (lent rows) m)) n
+
+-- and with every weight 1
 abbrev of : ℕ → ℕ → List (List ℤ) → List Link
-of n m rows = network (nodeDifference difference (row (lent rows) m)) n
+of n m rows = by (replicate columns 1) n m rows
 
 -- taxon v joins taxon x at a difference
 abbrev joins : ℕ → ℕ → ℕ → Link
@@ -51,6 +55,9 @@ pub record Examples : Type 0 where
   -- document 01: B joins A at 3, C joins B at 3, D joins A at 4; the total is 10
   pub document : of 4 3 example ≡ joins 2 1 3 ∷ joins 3 2 3 ∷ joins 4 1 4 ∷ []
   pub sum : networkLength (of 4 3 example) ≡ 10
+  -- with weights 1, 3 and 2: B joins A at 5, D joins B at 7, C joins B at 8; the total is 20
+  pub weighted : by (1 ∷ 3 ∷ 2 ∷ []) 4 3 example ≡ joins 2 1 5 ∷ joins 4 2 7 ∷ joins 3 2 8 ∷ []
+  pub heavier : networkLength (by (1 ∷ 3 ∷ 2 ∷ []) 4 3 example) ≡ 20
   -- one taxon has no link, two have one
   pub one : of 1 3 example ≡ []
   pub two : of 2 3 example ≡ joins 2 1 3 ∷ []
@@ -63,5 +70,5 @@ pub record Examples : Type 0 where
 pub examples : Examples
 unfolding Network.network Network.grow Network.next Network.link Network.distance Network.nearestPlaced Network.unplaced
     Filters.without Filters.keep Tests.among Network.taxa Network.networkLength Rows.nodeDifference Sums.sumOver
-    Least.firstLeast Numbers.numbers Shape.row Rows.difference Rows.apart
-examples = record { document = refl; sum = refl; one = refl; two = refl; lowest = refl; earliest = refl }
+    Least.firstLeast Numbers.numbers Shape.row Shape.weightAt Rows.difference Rows.part Rows.apart
+examples = record { document = refl; sum = refl; weighted = refl; heavier = refl; one = refl; two = refl; lowest = refl; earliest = refl }

@@ -7,6 +7,7 @@ use native.Mathlib.Omega.{arith}
 use lib.ListN.{length}
 use lib.Seq.{append-snoc}
 use Rattle.lists.specs.Sums.{sumOver}
+use Rattle.difference.specs.Rows.{mostDifference}
 use Rattle.prim.specs.Network.{Link, taxa, networkLength, unplaced, distance, link, next, grow, network}
 use Rattle.prim.specs.Answers.{Holds}
 use Rattle.prim.specs.Growing.{WithLink, keptAt, keptOf, Keeps, placing, NextTaxon, Places}
@@ -27,7 +28,7 @@ pub record GrownTo (d : ℕ → ℕ → ℕ) (n : ℕ) (kept : List Kept) (r : N
   pub within : placed ≤ n
   pub rest : network d n ≡ links ++ grow d n (n - placed) (taxa links)
   pub left : length (unplaced n (taxa links)) ≡ n - placed
-  pub sum : networkLength links ≤ length links * 255744
+  pub sum : networkLength links ≤ length links * mostDifference
 
 -- row 1 alone
 pub grown-start : (d : ℕ → ℕ → ℕ) (n : ℕ) (kept : List Kept) (r : Network) → 1 ≤ n → Keeps d n [] kept → Holds [] r → GrownTo d n kept r 1
@@ -53,7 +54,7 @@ grown-end d n kept r placed all g =
     rw same (g .holds)
 
 -- one more taxon
-module _ (d : ℕ → ℕ → ℕ) (n : ℕ) (few : n ≤ 64) (near : (v : ℕ) → 1 ≤ v → v ≤ n → d v 1 ≤ 255744) where
+module _ (d : ℕ → ℕ → ℕ) (n : ℕ) (few : n ≤ 64) (near : (v : ℕ) → 1 ≤ v → v ≤ n → d v 1 ≤ mostDifference) where
   module _ (kept : List Kept) (r : Network) (placed : ℕ) (more : placed < n) (g : GrownTo d n kept r placed) where
     module _ (v : ℕ) (found : NextTaxon kept n v) where
       -- the taxa placed after row 1
@@ -103,11 +104,11 @@ module _ (d : ℕ → ℕ → ℕ) (n : ℕ) (few : n ≤ 64) (near : (v : ℕ) 
       kept-link = g .keeps .unplaced v fresh
 
       -- it is no farther than from row 1
-      short : distance d later v ≤ 255744
+      short : distance d later v ≤ mostDifference
       short =
           let t = mem-unplaced n later v .0 fresh in
           let one : distance d later v ≤ d v 1 = distance-least d later v 1 (List·Memᴰ·head refl) in
-          let far : d v 1 ≤ 255744 = near v (omega arith) (t .1) in
+          let far : d v 1 ≤ mostDifference = near v (omega arith) (t .1) in
           omega arith
 
       -- there is room for its link, and its length can be added

@@ -28,8 +28,11 @@ pub record Holds (links : List Link) (r : Network) : Type 0 where
   pub count : r .count ≡ length links
   pub total : r .total ≡ networkLength links
 
--- the answer for a lent matrix of n taxa and m characters: what the questions say, and the Prim Network, or no link on a refusal
-pub record NetworkAnswer (codes : List ℤ) (n m : ℕ) (r : Answer) : Type 0 where
-  pub says : askedSays (r .asked) ≡ askedSays (askMatrix codes n m)
+-- the answer for a lent matrix of n taxa and m characters with its weights: what the questions say, and the Prim Network by the weighted
+-- difference, or no link on a refusal
+pub record NetworkAnswer (codes : List ℤ) (weights : List ℕ) (n m : ℕ) (r : Answer) : Type 0 where
+  pub says : askedSays (r .asked) ≡ askedSays (askMatrix codes weights n m)
   pub network :
-      Holds (afterwards (askedSays (askMatrix codes n m)) (network (nodeDifference difference (row codes m)) n) []) (r .network)
+      Holds
+      (afterwards (askedSays (askMatrix codes weights n m)) (network (nodeDifference (difference weights) (row codes m)) n) [])
+      (r .network)

@@ -13,7 +13,7 @@ ghost use Prim.Native.Nat.{_+_, _≤_, _<_, _^_};
 ghost use lib.ListN.{length};
 ghost use Rattle.matrix.specs.Shape.{mostTaxa, mostCharacters, row};
 ghost use Rattle.difference.specs.Rows.{nodeDifference, difference};
-ghost use Rattle.matrix.specs.Questions.{LentMatrix};
+ghost use Rattle.matrix.specs.Questions.{LentMatrix, LentWeights};
 ghost use Rattle.prim.specs.Network.{network};
 ghost use Rattle.prim.specs.Answers.{Holds, NetworkAnswer};
 ghost use Rattle.prim.specs.Growing.{WithLink, Keeps, Nearer, NextTaxon, Compared, Places};
@@ -25,18 +25,18 @@ struct Kept {
     distance: u64,
 }
 
-// The difference of taxa x and y.
-fn between(matrix: &[i32], m: usize, x: usize, y: usize) -> u64
+// The difference of taxa x and y, by the weights of the characters.
+fn between(matrix: &[i32], weights: &[u8], m: usize, x: usize, y: usize) -> u64
     requires { ⌜ m ≤ mostCharacters ⌝ }
-    ensures { λ r. ⌜ r ≡ nodeDifference difference (row (now (matrix .entry)) m) x y ⌝ }
+    ensures { λ r. ⌜ r ≡ nodeDifference (difference (now (weights .entry))) (row (now (matrix .entry)) m) x y ⌝ }
 {
-    difference(row(matrix, m, x), row(matrix, m, y))
+    difference(weights, row(matrix, m, x), row(matrix, m, y))
 }
 
 // Before the first taxon is placed, each is nearest to row 1.
-fn start(matrix: &[i32], n: usize, m: usize) -> [Kept; 65]
+fn start(matrix: &[i32], weights: &[u8], n: usize, m: usize) -> [Kept; 65]
     requires { ⌜ (n ≤ mostTaxa) × (m ≤ mostCharacters) ⌝ }
-    ensures { λ r. ⌜ Keeps (nodeDifference difference (row (now (matrix .entry)) m)) n [] r ⌝ }
+    ensures { λ r. ⌜ Keeps (nodeDifference (difference (now (weights .entry))) (row (now (matrix .entry)) m)) n [] r ⌝ }
 {
     let none = Kept {
         placed: false,
@@ -46,7 +46,7 @@ fn start(matrix: &[i32], n: usize, m: usize) -> [Kept; 65]
     let mut taxa = [none; 65];
     let mut v = 2;
     while v <= n {
-        let distance = between(matrix, m, v, 1);
+        let distance = between(matrix, weights, m, v, 1);
         taxa[v] = Kept {
             placed: false,
             nearest: 1,
@@ -88,14 +88,14 @@ fn next_taxon(taxa: [Kept; 65], n: usize) -> usize
 }
 
 // What is kept of taxon u when taxon v has been placed: an unplaced taxon is compared with it, and its link moves only if v is nearer.
-fn compared(kept: Kept, matrix: &[i32], m: usize, u: usize, v: usize) -> Kept
+fn compared(kept: Kept, matrix: &[i32], weights: &[u8], m: usize, u: usize, v: usize) -> Kept
     requires { ⌜ m ≤ mostCharacters ⌝ }
-    ensures { λ r. ⌜ Compared (nodeDifference difference (row (now (matrix .entry)) m)) u v kept r ⌝ }
+    ensures { λ r. ⌜ Compared (nodeDifference (difference (now (weights .entry))) (row (now (matrix .entry)) m)) u v kept r ⌝ }
 {
     if kept.placed {
         return kept;
     }
-    let distance = between(matrix, m, u, v);
+    let distance = between(matrix, weights, m, u, v);
     if distance < kept.distance {
         return Kept {
             placed: false,
@@ -107,9 +107,16 @@ fn compared(kept: Kept, matrix: &[i32], m: usize, u: usize, v: usize) -> Kept
 }
 
 // Places taxon v, and compares each taxon that is still unplaced with it.
-fn place(mut taxa: [Kept; 65], matrix: &[i32], n: usize, m: usize, v: usize) -> [Kept; 65]
+fn place(
+    mut taxa: [Kept; 65],
+    matrix: &[i32],
+    weights: &[u8],
+    n: usize,
+    m: usize,
+    v: usize,
+) -> [Kept; 65]
     requires { ⌜ (length taxa ≡ 65) × (n ≤ mostTaxa) × (m ≤ mostCharacters) × (v ≤ mostTaxa) ⌝ }
-    ensures { λ r. ⌜ Places (nodeDifference difference (row (now (matrix .entry)) m)) n taxa v r ⌝ }
+    ensures { λ r. ⌜ Places (nodeDifference (difference (now (weights .entry))) (row (now (matrix .entry)) m)) n taxa v r ⌝ }
 {
     taxa[v] = Kept {
         placed: true,
@@ -119,7 +126,7 @@ fn place(mut taxa: [Kept; 65], matrix: &[i32], n: usize, m: usize, v: usize) -> 
     let mut u = 2;
     while u <= n {
         let kept = taxa[u];
-        taxa[u] = compared(kept, matrix, m, u, v);
+        taxa[u] = compared(kept, matrix, weights, m, u, v);
         u += 1;
     }
     taxa
@@ -158,35 +165,35 @@ fn with_link(mut network: Network, v: usize, x: usize, length: u64) -> Network
 }
 
 // The Prim Network of a matrix that no question refuses.
-fn grow(matrix: &[i32], n: usize, m: usize) -> Network
-    requires { ⌜ LentMatrix (now matrix) n m ⌝ }
-    ensures { λ r. ⌜ Holds (network (nodeDifference difference (row (now (matrix .entry)) m)) n) r ⌝ }
+fn grow(matrix: &[i32], weights: &[u8], n: usize, m: usize) -> Network
+    requires { ⌜ LentMatrix (now matrix) n m × LentWeights (now weights) m ⌝ }
+    ensures { λ r. ⌜ Holds (network (nodeDifference (difference (now (weights .entry))) (row (now (matrix .entry)) m)) n) r ⌝ }
 {
-    let mut taxa = start(matrix, n, m);
+    let mut taxa = start(matrix, weights, n, m);
     let mut network = no_links();
     let mut placed = 1;
     while placed < n {
         let v = next_taxon(taxa, n);
         let kept = taxa[v];
         network = with_link(network, v, kept.nearest, kept.distance);
-        taxa = place(taxa, matrix, n, m, v);
+        taxa = place(taxa, matrix, weights, n, m, v);
         placed += 1;
     }
     network
 }
 
-// The Prim Network of a lent matrix of n taxa and m characters.
-pub fn network(matrix: &[i32], n: usize, m: usize) -> Answer
-    ensures { λ r. ⌜ NetworkAnswer (now (matrix .entry)) n m r ⌝ }
+// The Prim Network of a lent matrix of n taxa and m characters, by the weights of the characters.
+pub fn network(matrix: &[i32], weights: &[u8], n: usize, m: usize) -> Answer
+    ensures { λ r. ⌜ NetworkAnswer (now (matrix .entry)) (now (weights .entry)) n m r ⌝ }
 {
-    match ask_matrix(matrix, n, m) {
+    match ask_matrix(matrix, weights, n, m) {
         Asked::Refused(refusal) => Answer {
             asked: Asked::Refused(refusal),
             network: no_links(),
         },
         Asked::Passed => Answer {
             asked: Asked::Passed,
-            network: grow(matrix, n, m),
+            network: grow(matrix, weights, n, m),
         },
     }
 }

@@ -49,6 +49,38 @@ fn three(data: &Data, m: usize, shown: usize) {
     medians(data, 3, m, [1, 2, 3], shown);
 }
 
+/// The matrix with weights of which the first three are these and the last is 9; the others are 1.
+fn weighing(data: &Data, first: [i32; 3]) -> Data {
+    let mut other = all_weighing(data, 1, 128);
+    other.weights[..3].copy_from_slice(&first);
+    other.weights[127] = 9;
+    other
+}
+
+/// The matrix with so many weights, all alike.
+fn all_weighing(data: &Data, weight: i32, count: usize) -> Data {
+    let mut other = data.clone();
+    other.weights = vec![weight; count];
+    other
+}
+
+fn weighted(data: &Data) {
+    apart(data, 4, 3, 1, 2);
+    apart(data, 4, 3, 3, 4);
+    apart(data, 4, 2, 4, 3);
+    interval(data, 4, 3, 3, 1, 2);
+    interval(data, 4, 3, 4, 2, 3);
+    medians(data, 4, 3, [4, 2, 3], 4);
+}
+
+fn refused_weights(data: &Data) {
+    apart(data, 3, 3, 9, 9);
+    interval(data, 2, 3, 1, 2, 2);
+    medians(data, 2, 3, [1, 2, 2], 2);
+    apart(data, 3, 2, 1, 2);
+    apart(data, 2, 2, 1, 2);
+}
+
 fn main() {
     let mut d = Data::blank(5, 12);
     put(&mut d, 2, &[1, 1, 1, 1, 0, 0, 0, 0, 0, 0, 0, 0]);
@@ -118,4 +150,36 @@ fn main() {
         median_of_three(high, low, high),
         median_of_three(low, low, 0)
     );
+
+    let mut d = Data::blank(4, 3);
+    put(&mut d, 1, &[0, 0, 0]);
+    put(&mut d, 2, &[2, 1, 0]);
+    put(&mut d, 3, &[2, 3, 1]);
+    put(&mut d, 4, &[-1, 1, 2]);
+    weighted(&d);
+    weighted(&weighing(&d, [1, 3, 2]));
+    weighted(&weighing(&d, [9, 1, 4]));
+
+    let mut d = Data::blank(3, 128);
+    let mut last = [0; 128];
+    last[127] = 5;
+    put(&mut d, 2, &last);
+    three(&weighing(&d, [1, 1, 1]), 128, 2);
+    three(&weighing(&d, [1, 1, 1]), 127, 2);
+    put(&mut d, 1, &[-999; 128]);
+    put(&mut d, 2, &[999; 128]);
+    put(&mut d, 3, &[999; 128]);
+    three(&all_weighing(&d, 9, 128), 1, 2);
+    three(&all_weighing(&d, 9, 128), 128, 3);
+
+    let mut d = Data::blank(3, 3);
+    apart(&all_weighing(&d, 1, 127), 65, 0, 9, 9);
+    apart(&all_weighing(&d, 1, 129), 3, 3, 1, 2);
+    apart(&all_weighing(&d, 0, 128), 65, 1, 9, 9);
+    apart(&all_weighing(&d, 0, 128), 3, 129, 1, 1);
+    put(&mut d, 2, &[4, 1]);
+    put(&mut d, 3, &[1000]);
+    refused_weights(&all_weighing(&d, 0, 128));
+    refused_weights(&all_weighing(&d, 10, 128));
+    refused_weights(&weighing(&d, [1, 1, 0]));
 }

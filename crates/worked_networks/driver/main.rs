@@ -30,12 +30,30 @@ fn short(n: usize, m: usize, rows: usize) {
     answer(&data);
 }
 
+/// Weights that are these eight again and again, for this matrix alone.
+fn show_weighted(data: &Data, eight: [i32; 8], n: usize, m: usize) {
+    let mut other = data.clone();
+    other.weights = (0..128).map(|j| eight[j % 8]).collect();
+    show(&mut other, n, m);
+}
+
+/// Weights of another number.
+fn many(data: &Data, count: usize, n: usize, m: usize) {
+    let mut other = data.clone();
+    other.weights = vec![1; count];
+    show(&mut other, n, m);
+}
+
+fn put_example(data: &mut Data) {
+    put(data, 1, &[0, 0, 0]);
+    put(data, 2, &[2, 1, 0]);
+    put(data, 3, &[2, 3, 1]);
+    put(data, 4, &[-1, 1, 2]);
+}
+
 fn main() {
     let mut d = Data::blank(4, 3);
-    put(&mut d, 1, &[0, 0, 0]);
-    put(&mut d, 2, &[2, 1, 0]);
-    put(&mut d, 3, &[2, 3, 1]);
-    put(&mut d, 4, &[-1, 1, 2]);
+    put_example(&mut d);
     show(&mut d, 4, 3);
     show(&mut d, 1, 3);
     show(&mut d, 2, 3);
@@ -87,4 +105,34 @@ fn main() {
     fill(&mut d, [-999, -500, -37, 0, 1, 250, 998, 999], 3);
     show(&mut d, 64, 20);
     show(&mut d, 9, 128);
+
+    put_example(&mut d);
+    show_weighted(&d, [1, 3, 2, 1, 1, 1, 1, 1], 4, 3);
+    show_weighted(&d, [9, 1, 4, 1, 1, 1, 1, 1], 4, 3);
+    put(&mut d, 2, &[1, 0, 0]);
+    put(&mut d, 3, &[0, 1, 0]);
+    show(&mut d, 3, 3);
+    show_weighted(&d, [2, 1, 1, 1, 1, 1, 1, 1], 3, 3);
+
+    put(&mut d, 1, &[-999; 128]);
+    put(&mut d, 2, &[999; 128]);
+    put(&mut d, 3, &[0; 128]);
+    show_weighted(&d, [9; 8], 2, 128);
+    show_weighted(&d, [9; 8], 3, 128);
+    fill(&mut d, [-2, -1, -1, 0, 0, 0, 1, 2], 1);
+    show_weighted(&d, [1, 9, 2, 8, 3, 7, 4, 5], 64, 4);
+    show_weighted(&d, [1, 2, 1, 2, 1, 2, 1, 2], 23, 9);
+    fill(&mut d, [-999, -500, -37, 0, 1, 250, 998, 999], 3);
+    show_weighted(&d, [9, 6, 5, 4, 3, 7, 1, 8], 64, 20);
+    show_weighted(&d, [1, 2, 3, 4, 5, 6, 7, 9], 9, 128);
+
+    many(&d, 127, 0, 0);
+    many(&d, 129, 3, 3);
+    put(&mut d, 3, &[0, 0, 0, 1000]);
+    show_weighted(&d, [0; 8], 0, 3);
+    show_weighted(&d, [0; 8], 3, 4);
+    show_weighted(&d, [10; 8], 3, 4);
+    show_weighted(&d, [1, 9, 1, 1, 0, 1, 1, 1], 3, 5);
+    show_weighted(&d, [1, 9, 1, 1, 0, 1, 1, 1], 3, 4);
+    show_weighted(&d, [1, 9, 1, 0, 1, 1, 1, 1], 3, 3);
 }

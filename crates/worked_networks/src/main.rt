@@ -50,17 +50,38 @@ fn print_answer(answer: Answer) {
     }
 }
 
-// The lines of a matrix of n taxa and m characters.
+// The lines of a matrix of n taxa and m characters, every weight 1.
 fn show(codes: &[i32; 16128], n: usize, m: usize) {
-    print_answer(network(codes, n, m));
+    print_answer(network(codes, &[1u8; 128], n, m));
 }
 
-// Document 01's example, and the first one and two of its taxa.
-fn example(codes: &mut [i32; 16128]) {
+// The lines of a matrix of n taxa and m characters with other weights.
+fn show_weighted(codes: &[i32; 16128], weights: [u8; 128], n: usize, m: usize) {
+    print_answer(network(codes, &weights, n, m));
+}
+
+// Weights of 128 characters: these eight again and again.
+fn repeated(eight: [u8; 8]) -> [u8; 128] {
+    let mut weights = [1u8; 128];
+    let mut j = 0;
+    while j < 128 {
+        weights[j] = eight[j % 8];
+        j += 1;
+    }
+    weights
+}
+
+// The rows of document 01's example.
+fn write_example(codes: &mut [i32; 16128]) {
     write_row(codes, 1, &[0, 0, 0]);
     write_row(codes, 2, &[2, 1, 0]);
     write_row(codes, 3, &[2, 3, 1]);
     write_row(codes, 4, &[-1, 1, 2]);
+}
+
+// Document 01's example, and the first one and two of its taxa.
+fn example(codes: &mut [i32; 16128]) {
+    write_example(codes);
     show(codes, 4, 3);
     show(codes, 1, 3);
     show(codes, 2, 3);
@@ -94,8 +115,8 @@ fn ends(codes: &mut [i32; 16128]) {
 
 // Refusals: a matrix that is not of full size, then n, then m, then a code; the first "no" counts.
 fn refusals(codes: &mut [i32; 16128]) {
-    print_answer(network(&[0i32; 16127], 0, 0));
-    print_answer(network(&[0, 0, 0], 3, 3));
+    print_answer(network(&[0i32; 16127], &[1u8; 128], 0, 0));
+    print_answer(network(&[0, 0, 0], &[1u8; 128], 3, 3));
     show(codes, 0, 3);
     show(codes, 65, 3);
     show(codes, 3, 0);
@@ -129,6 +150,51 @@ fn generated(matrix: &mut [i32; 16128]) {
     show(matrix, 9, 128);
 }
 
+// Document 01's example by weights: D joins B, and before C. Then rows 2 and 3, equally near to row 1 before, by weights 2 and 1.
+fn weighted(codes: &mut [i32; 16128]) {
+    write_example(codes);
+    show_weighted(codes, repeated([1, 3, 2, 1, 1, 1, 1, 1]), 4, 3);
+    show_weighted(codes, repeated([9, 1, 4, 1, 1, 1, 1, 1]), 4, 3);
+    write_row(codes, 2, &[1, 0, 0]);
+    write_row(codes, 3, &[0, 1, 0]);
+    show(codes, 3, 3);
+    show_weighted(codes, repeated([2, 1, 1, 1, 1, 1, 1, 1]), 3, 3);
+}
+
+// The largest difference, and generated matrices with weights.
+fn heavier(codes: &mut [i32; 16128]) {
+    ends_weighted(codes, [9u8; 128]);
+    fill(codes, [-2, -1, -1, 0, 0, 0, 1, 2], 1);
+    show_weighted(codes, repeated([1, 9, 2, 8, 3, 7, 4, 5]), 64, 4);
+    show_weighted(codes, repeated([1, 2, 1, 2, 1, 2, 1, 2]), 23, 9);
+    fill(codes, [-999, -500, -37, 0, 1, 250, 998, 999], 3);
+    show_weighted(codes, repeated([9, 6, 5, 4, 3, 7, 1, 8]), 64, 20);
+    show_weighted(codes, repeated([1, 2, 3, 4, 5, 6, 7, 9]), 9, 128);
+}
+
+// Both ends of the range by weights.
+fn ends_weighted(codes: &mut [i32; 16128], weights: [u8; 128]) {
+    write_row(codes, 1, &[-999i32; 128]);
+    write_row(codes, 2, &[999i32; 128]);
+    write_row(codes, 3, &[0i32; 128]);
+    show_weighted(codes, weights, 2, 128);
+    show_weighted(codes, weights, 3, 128);
+}
+
+// Refusals of weights: their number before the limits, the weights behind the limits and before the codes. A weight behind the last
+// character is not read.
+fn refused_weights(codes: &mut [i32; 16128]) {
+    print_answer(network(codes, &[1u8; 127], 0, 0));
+    print_answer(network(codes, &[1u8; 129], 3, 3));
+    write_row(codes, 3, &[0, 0, 0, 1000]);
+    show_weighted(codes, [0u8; 128], 0, 3);
+    show_weighted(codes, [0u8; 128], 3, 4);
+    show_weighted(codes, [10u8; 128], 3, 4);
+    show_weighted(codes, repeated([1, 9, 1, 1, 0, 1, 1, 1]), 3, 5);
+    show_weighted(codes, repeated([1, 9, 1, 1, 0, 1, 1, 1]), 3, 4);
+    show_weighted(codes, repeated([1, 9, 1, 0, 1, 1, 1, 1]), 3, 3);
+}
+
 fn main() {
     let mut codes = [0i32; 16128];
     example(&mut codes);
@@ -137,4 +203,7 @@ fn main() {
     refusals(&mut codes);
     unread(&mut codes);
     generated(&mut codes);
+    weighted(&mut codes);
+    heavier(&mut codes);
+    refused_weights(&mut codes);
 }

@@ -19,11 +19,11 @@ difference-requires c κs = search needs
 returns : tie.Need-returns
 unfolding nodeDifference
 returns c =
-    let start = c .before .before .before in
+    let start = c .before .before .before .before in
     let codes = start .args .matrix .now in
     let m = start .args .m in
     c .difference .ensures .is
-    ∙ ap₂ difference
+    ∙ ap₂ (difference (start .args .weights .now))
     (ap (take 128) (c .before .before .row .ensures) ∙ row-128 codes m (start .args .x) (start .pre))
     (ap (take 128) (c .before .row2 .ensures) ∙ row-128 codes m (start .args .y) (start .pre))
 

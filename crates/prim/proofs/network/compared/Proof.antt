@@ -14,15 +14,15 @@ between-requires c κs = search needs
 
 returns-2 : tie.Need-returns-2
 returns-2 c =
-    let a = c .before .before .before .before .args in
-    let d = nodeDifference difference (row (a .matrix .now) (a .m)) in
+    let a = c .before .before .before .before .before .args in
+    let d = nodeDifference (difference (a .weights .now)) (row (a .matrix .now) (a .m)) in
     let is = c .before .before .between .ensures in
     rw is (compared-moves d (a .u) (a .v) (a .kept) (c .before .before .before .if1 .left) (rw is at (c .if2 .taken)))
 
 returns-3 : tie.Need-returns-3
 returns-3 c =
-    let a = c .before .before .before .before .args in
-    let d = nodeDifference difference (row (a .matrix .now) (a .m)) in
+    let a = c .before .before .before .before .before .args in
+    let d = nodeDifference (difference (a .weights .now)) (row (a .matrix .now) (a .m)) in
     let is = c .before .before .between .ensures in
     compared-stays d (a .u) (a .v) (a .kept) (c .before .before .before .if1 .left) (rw is at (c .if2 .left))
 

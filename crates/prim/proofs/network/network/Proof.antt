@@ -19,7 +19,7 @@ enum-told : tie.Need-enum-told
 enum-told c = search needs
 
 grow-requires : tie.Need-grow-requires
-grow-requires c κs = matrix-passes _ _ _ .0 (sym (c .before .before .ask-matrix .ensures) ∙ c .enum-told .given .1)
+grow-requires c κs = matrix-passes _ _ _ _ .0 (sym (c .before .before .ask-matrix .ensures) ∙ c .enum-told .given .1)
 
 returns : tie.Need-returns
 returns c =

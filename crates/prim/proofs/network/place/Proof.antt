@@ -13,14 +13,14 @@ use Rattle.prim.proofs.network.place.Statement.{statement}
 use Rattle.prim.proofs.network.place.Tie as tie
 
 abbrev Inv-loop : tie.InvT-loop
-Inv-loop matrix n m v taxa₀ u₀ taxa u =
+Inv-loop matrix weights n m v taxa₀ u₀ taxa u =
     (2 ≤ u)
     × (u ≤ 65)
     × (length taxa ≡ 65)
-    × Passed (λ x k. Compared (nodeDifference difference (row matrix m)) x v (keptAt taxa₀ x) k) taxa₀ taxa u
+    × Passed (λ x k. Compared (nodeDifference (difference weights) (row matrix m)) x v (keptAt taxa₀ x) k) taxa₀ taxa u
 
 abbrev μ-loop : tie.MeasureT-loop
-μ-loop matrix n m v taxa₀ u₀ taxa u = 65 - u
+μ-loop matrix weights n m v taxa₀ u₀ taxa u = 65 - u
 
 mul-taxa : tie.Need-mul-taxa Inv-loop μ-loop
 mul-taxa c = search needs
@@ -29,7 +29,7 @@ array-set-from-taxa : tie.Need-array-set-from-taxa Inv-loop μ-loop
 array-set-from-taxa c = search needs
 
 loop-holds : tie.Need-loop-holds Inv-loop μ-loop
-loop-holds c = (omega arith, omega arith, simp length-set (c .pre .0), passed-none _ _)
+loop-holds c = (omega arith, omega arith, simp length-set (c .before .pre .0), passed-none _ _)
 
 mul-kept : tie.Need-mul-kept Inv-loop μ-loop
 mul-kept c = search needs
@@ -65,7 +65,7 @@ loop-again c =
 
 returns : tie.Need-returns Inv-loop μ-loop
 returns c =
-    let a = c .before .before .args in
+    let a = c .before .before .before .args in
     let inv = c .before .loop .inv in
     place-keeps _ (a .n) (a .v) (a .t1) (c .before .loop .taxa) _ refl (omega arith) _ (inv .3) (inv .2) (c .loop-test .left)
 

@@ -13,11 +13,14 @@ use Rattle.prim.proofs.network.start.Statement.{statement}
 use Rattle.prim.proofs.network.start.Tie as tie
 
 abbrev Inv-loop : tie.InvT-loop
-Inv-loop matrix n m taxa₀ v₀ taxa v =
-    (2 ≤ v) × (v ≤ 65) × (length taxa ≡ 65) × Passed (λ x k. k ≡ keptOf (nodeDifference difference (row matrix m)) [] x) taxa₀ taxa v
+Inv-loop matrix weights n m taxa₀ v₀ taxa v =
+    (2 ≤ v)
+    × (v ≤ 65)
+    × (length taxa ≡ 65)
+    × Passed (λ x k. k ≡ keptOf (nodeDifference (difference weights) (row matrix m)) [] x) taxa₀ taxa v
 
 abbrev μ-loop : tie.MeasureT-loop
-μ-loop matrix n m taxa₀ v₀ taxa v = 65 - v
+μ-loop matrix weights n m taxa₀ v₀ taxa v = 65 - v
 
 loop-holds : tie.Need-loop-holds Inv-loop μ-loop
 loop-holds c = (omega arith, omega arith, refl, passed-none _ _)
@@ -40,8 +43,8 @@ loop-less c = search needs
 loop-again : tie.Need-loop-again Inv-loop μ-loop
 loop-again c =
     let inv = c .before .before .loop .inv in
-    let a = c .before .before .before .args in
-    let d = nodeDifference difference (row (a .matrix .now) (a .m)) in
+    let a = c .before .before .before .before .args in
+    let d = nodeDifference (difference (a .weights .now)) (row (a .matrix .now) (a .m)) in
     let v = c .before .before .loop .v in (
       omega arith,
       omega arith,
