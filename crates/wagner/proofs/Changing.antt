@@ -27,17 +27,18 @@ use Rattle.branching.proofs.Standing.{Standing, last-is, placed-other}
 use Rattle.wagner.specs.Closeness.{intervals, AllChanged}
 
 -- taxon b placed on a growing tree that stands in a matrix
-module _ (codes : List ℤ) (n m k : ℕ) (tree : List ℕ) (s : Standing codes n m k tree) (b : ℕ) (u : Unplaced n tree b) where
+module _ (codes : List ℤ) (weights : List ℕ) (n m k : ℕ) (tree : List ℕ) (s : Standing codes weights n m k tree) (b : ℕ)
+    (u : Unplaced n tree b) where
   -- the rows of the tree's nodes
   abbrev rows : List (List ℤ)
   rows = rowsOf codes m (lastRow n tree)
 
   -- what comes out of it, and the matrix then
   abbrev ours : AfterPlacing
-  ours = placeIn codes n m tree b
+  ours = placeIn codes weights n m tree b
 
   abbrev now : List ℤ
-  now = matrixPlaced codes n m tree b
+  now = matrixPlaced codes weights n m tree b
 
   -- there is a place for every node
   room : 2 * n - 2 < length tree
@@ -45,21 +46,22 @@ module _ (codes : List ℤ) (n m k : ℕ) (tree : List ℕ) (s : Standing codes 
 
   -- the row of a node that had one is as before
   row-stays : (v : ℕ) → 1 ≤ v → v ≤ lastRow n tree → row now m v ≡ row codes m v
-  row-stays = placed-other codes n m k tree s b u
+  row-stays = placed-other codes weights n m k tree s b u
 
   -- and so is the advancement of a taxon
-  advancement-stays : (v : ℕ) → 1 ≤ v → v ≤ n → nodeDifference difference (row now m) v 1 ≡ nodeDifference difference (row codes m) v 1
+  advancement-stays : (v : ℕ) → 1 ≤ v → v ≤ n → nodeDifference (difference weights) (row now m) v 1
+      ≡ nodeDifference (difference weights) (row codes m) v 1
   unfolding nodeDifference
   advancement-stays v low high =
-      ap₂ difference (row-stays v low (omega (arith, last-is codes n m k tree s)))
-      (row-stays 1 (omega arith) (omega (arith, last-is codes n m k tree s)))
+      ap₂ (difference weights) (row-stays v low (omega (arith, last-is codes weights n m k tree s)))
+      (row-stays 1 (omega arith) (omega (arith, last-is codes weights n m k tree s)))
 
   -- the first link
   module _ (none : (v : ℕ) → ancestor tree v ≡ 0) where
     -- b is linked to row 1
-    is-linked : ours ≡ linkFirst difference tree rows b
+    is-linked : ours ≡ linkFirst (difference weights) tree rows b
     unfolding placeIn
-    is-linked = place-first difference n tree rows b none
+    is-linked = place-first (difference weights) n tree rows b none
 
     -- b is the lower end of one now
     one-interval : List·Memᴰ b (intervals n (linked tree b))
@@ -74,7 +76,7 @@ module _ (codes : List ℤ) (n m k : ℕ) (tree : List ℕ) (s : Standing codes 
         (λ ne. absurd (omega (arith, node-nodesIn (linked tree b) n e mem .2, linked-other n tree none room b u e ne)))
 
     -- what the first link changes
-    changed-first : AllChanged codes now n m tree (ours .tree) (ours .placement)
+    changed-first : AllChanged codes now weights n m tree (ours .tree) (ours .placement)
     unfolding linkFirst
     changed-first v free = record {
       unplaced = free;
@@ -88,7 +90,7 @@ module _ (codes : List ℤ) (n m k : ℕ) (tree : List ℕ) (s : Standing codes 
   module _ (g : Grown n k tree) where
     -- the lower end of its interval, and the new HTU
     abbrev c : ℕ
-    c = nearestInterval difference n tree rows b
+    c = nearestInterval (difference weights) n tree rows b
 
     abbrev y : ℕ
     y = n + k - 1
@@ -99,16 +101,16 @@ module _ (codes : List ℤ) (n m k : ℕ) (tree : List ℕ) (s : Standing codes 
 
     -- c is in the tree
     inside : 1 ≤ ancestor tree c
-    inside = nearest-node difference n tree rows b k g .1
+    inside = nearest-node (difference weights) n tree rows b k g .1
 
     -- b, c and y are three of its places
     joint : Joint n tree b c y
     joint = hung-joint n k tree g room b c u inside
 
     -- b is hung so
-    is-hung : ours ≡ hang difference n tree rows b c
+    is-hung : ours ≡ hang (difference weights) n tree rows b c
     unfolding placeIn
-    is-hung = place-later difference n tree rows b k g
+    is-hung = place-later (difference weights) n tree rows b k g
 
     -- a node with an immediate ancestor in the new tree
     interval-new : (e : ℕ) → 2 ≤ e → e ≤ 2 * n - 2 → 1 ≤ ancestor new e → List·Memᴰ e (intervals n new)
@@ -121,20 +123,20 @@ module _ (codes : List ℤ) (n m k : ℕ) (tree : List ℕ) (s : Standing codes 
         by-cases (ℕ-discrete e b) inl (λ nb. inr
         (by-cases (ℕ-discrete e y) inl (λ ny. inr
         (by-cases (ℕ-discrete e c)
-        (λ is. rw is (nearest-in difference n tree rows b k g))
+        (λ is. rw is (nearest-in (difference weights) n tree rows b k g))
         (λ nc. nodesIn-node tree n e (w .0) (w .1) (inr (rw (hung-other n tree b c y joint e nb nc ny) at (w .2))))))))
 
     -- the immediate ancestor of a node of the tree has a row
     upper-row : (e : ℕ) → 1 ≤ ancestor tree e → ancestor tree e ≤ lastRow n tree
     upper-row e a =
         ⊎-elim
-        (λ one. omega (arith, last-is codes n m k tree s, s .matrix .taxon))
-        (λ above. omega (arith, g .nodesOnly (ancestor tree e) above, last-is codes n m k tree s, g .atLeastTwo))
+        (λ one. omega (arith, last-is codes weights n m k tree s, s .matrix .taxon))
+        (λ above. omega (arith, g .nodesOnly (ancestor tree e) above, last-is codes weights n m k tree s, g .atLeastTwo))
         (g .ancestorsIn e a)
 
     -- from an earlier interval, other than that of c, a taxon is as far as before
     interval-same : (v : ℕ) → 1 ≤ v → v ≤ n → (e : ℕ) → List·Memᴰ e (intervals n tree) → e ≢ c
-        → intervalAt now m new v e ≡ intervalAt codes m tree v e
+        → intervalAt now weights m new v e ≡ intervalAt codes weights m tree v e
     unfolding intervalAt
     interval-same v low high e mem nc =
         let w = node-nodesIn tree n e mem in
@@ -142,8 +144,8 @@ module _ (codes : List ℤ) (n m k : ℕ) (tree : List ℕ) (s : Standing codes 
         let above : ancestor new e ≡ ancestor tree e =
         hung-other n tree b c y joint e (λ is. omega (arith, ap (ancestor tree) is, u .free, w .2)) nc
         (λ is. omega (arith, ap (ancestor tree) is, htu-out n k tree g room b c u inside, w .2)) in
-        let own = row-stays v low (omega (arith, last-is codes n m k tree s)) in
-        let lower = row-stays e (omega (arith, w .0)) (omega (arith, within .1, last-is codes n m k tree s, g .atLeastTwo)) in
+        let own = row-stays v low (omega (arith, last-is codes weights n m k tree s)) in
+        let lower = row-stays e (omega (arith, w .0)) (omega (arith, within .1, last-is codes weights n m k tree s, g .atLeastTwo)) in
         let upper = row-stays (ancestor tree e) (w .2) (upper-row e (w .2)) in
         rw (above, own, lower, upper)
 
@@ -171,7 +173,8 @@ module _ (codes : List ℤ) (n m k : ℕ) (tree : List ℕ) (s : Standing codes 
 
     -- an interval belongs to the placement, or is an earlier one from which a taxon is as far as before
     interval-each : (v : ℕ) → 1 ≤ v → v ≤ n → (e : ℕ) → List·Memᴰ e (intervals n new)
-        → ((e ≡ b) ⊎ ((e ≡ y) ⊎ (e ≡ c))) ⊎ (List·Memᴰ e (intervals n tree) × (intervalAt now m new v e ≡ intervalAt codes m tree v e))
+        → ((e ≡ b) ⊎ ((e ≡ y) ⊎ (e ≡ c))) ⊎ (List·Memᴰ e (intervals n tree)
+        × (intervalAt now weights m new v e ≡ intervalAt codes weights m tree v e))
     interval-each v low high e mem =
         ⊎-elim (λ is. inl (inl is))
         (λ rest. ⊎-elim (λ is. inl (inr (inl is)))
@@ -180,7 +183,7 @@ module _ (codes : List ℤ) (n m k : ℕ) (tree : List ℕ) (s : Standing codes 
         (interval-only e mem)
 
     -- what a hanging changes
-    changed-later : AllChanged codes now n m tree (ours .tree) (ours .placement)
+    changed-later : AllChanged codes now weights n m tree (ours .tree) (ours .placement)
     unfolding hang
     changed-later v free =
         let grown : ours .tree ≡ new = ap (λ (after : AfterPlacing). after .tree) is-hung ∙ ap (hung tree b c) is-htu in
@@ -198,7 +201,7 @@ module _ (codes : List ℤ) (n m k : ℕ) (tree : List ℕ) (s : Standing codes 
         }
 
   -- every placement
-  pub placed-changed : AllChanged codes now n m tree (ours .tree) (ours .placement)
+  pub placed-changed : AllChanged codes now weights n m tree (ours .tree) (ours .placement)
   placed-changed = go (s .growing) changed-first changed-later
     where
       go : {j : ℕ} {A : Type 0} → GrowingTree n tree j → (((v : ℕ) → ancestor tree v ≡ 0) → A) → (Grown n j tree → A) → A

@@ -38,11 +38,12 @@ use Rattle.wagner.specs.Closeness.{kept, leastKept}
 use Rattle.wagner.proofs.Closest.{adds, closeness-least}
 
 -- one advancement more is kept
-pub key-next : (codes : List ℤ) (m : ℕ) (keys : List ℕ) (v x : ℕ) → v < length keys → x ≡ difference (row codes m v) (row codes m 1)
-    → ((u : ℕ) → 1 ≤ u → u < v → keyOf keys u ≡ nodeDifference difference (row codes m) u 1)
-    → (u : ℕ) → 1 ≤ u → u < v + 1 → keyOf (set keys v x) u ≡ nodeDifference difference (row codes m) u 1
+pub key-next : (codes : List ℤ) (weights : List ℕ) (m : ℕ) (keys : List ℕ) (v x : ℕ) → v < length keys
+    → x ≡ difference weights (row codes m v) (row codes m 1)
+    → ((u : ℕ) → 1 ≤ u → u < v → keyOf keys u ≡ nodeDifference (difference weights) (row codes m) u 1)
+    → (u : ℕ) → 1 ≤ u → u < v + 1 → keyOf (set keys v x) u ≡ nodeDifference (difference weights) (row codes m) u 1
 unfolding keyOf nodeDifference
-key-next codes m keys v x room is before u low high =
+key-next codes weights m keys v x room is before u low high =
     by-cases
     (ℕ-discrete u v)
     (λ e. rw e (getD-set-same keys v x 0 room ∙ is))
@@ -116,54 +117,55 @@ next-end key n tree v r end among is =
     record { among = among; is = is ∙ ap (λ (k : ℕ). leastOf key (keep (λ u. not (inTree tree u)) (numbers 1 k))) count }
 
 -- before the first link there is no interval, and in both orders the key of a taxon is its advancement
-pub alone-key : (order : Order) (codes : List ℤ) (n m v : ℕ)
-    → nodeDifference difference (row codes m) v 1 ≡ keyBy order codes n m noBranches v
+pub alone-key : (order : Order) (codes : List ℤ) (weights : List ℕ) (n m v : ℕ)
+    → nodeDifference (difference weights) (row codes m) v 1 ≡ keyBy order codes weights n m noBranches v
 unfolding keyBy nearestAt placedAt linkedAt nodeDifference
-alone-key Advance codes n m v = refl
-alone-key Closest codes n m v =
-    ap (λ (c : ℕ). placedAt codes m n noBranches v c .placement .added)
-    (sym (leastOf-none (intervalAt codes m noBranches v) (nodesIn noBranches (otherNodes n))
+alone-key Advance codes weights n m v = refl
+alone-key Closest codes weights n m v =
+    ap (λ (c : ℕ). placedAt codes weights m n noBranches v c .placement .added)
+    (sym (leastOf-none (intervalAt codes weights m noBranches v) (nodesIn noBranches (otherNodes n))
     (λ e mem. omega (arith, node-nodesIn noBranches n e mem, noBranches-none e))))
 
 -- a growing tree that stands in a matrix
-module _ (now : List ℤ) (n m placed : ℕ) (tree : List ℕ) (stands : Standing now n m placed tree) where
+module _ (now : List ℤ) (weights : List ℕ) (n m placed : ℕ) (tree : List ℕ) (stands : Standing now weights n m placed tree) where
   -- the rows of its nodes
   abbrev rows : List (List ℤ)
   rows = rowsOf now m (lastRow n tree)
 
   -- the row of a taxon
   taxon-row : (v : ℕ) → 1 ≤ v → v ≤ n → row now m v ≡ rowOf rows v
-  taxon-row v low high = sym (rowOf-rowsOf now m (lastRow n tree) v low (omega (arith, last-is now n m placed tree stands)))
+  taxon-row v low high = sym (rowOf-rowsOf now m (lastRow n tree) v low (omega (arith, last-is now weights n m placed tree stands)))
 
   -- the key of a taxon that is not placed, by the rows: its advancement
-  advance-key : (v : ℕ) → Unplaced n tree v → keyBy Advance now n m tree v ≡ advancement difference rows v
+  advance-key : (v : ℕ) → Unplaced n tree v → keyBy Advance now weights n m tree v ≡ advancement (difference weights) rows v
   unfolding keyBy advancement nodeDifference
   advance-key v u =
-      ap₂ difference (taxon-row v (omega (arith, u .other)) (u .taxon)) (taxon-row 1 (omega arith) (omega (arith, u .other, u .taxon)))
+      ap₂ (difference weights) (taxon-row v (omega (arith, u .other)) (u .taxon))
+      (taxon-row 1 (omega arith) (omega (arith, u .other, u .taxon)))
 
   -- or the length that its placement adds
-  closest-key : (v : ℕ) → Unplaced n tree v → keyBy Closest now n m tree v ≡ adds difference n tree rows v
+  closest-key : (v : ℕ) → Unplaced n tree v → keyBy Closest now weights n m tree v ≡ adds (difference weights) n tree rows v
   unfolding keyBy placeIn
   closest-key v u =
       let most = stands .matrix .taxa in
       let narrow = stands .matrix .characters in
-      ap (λ (after : AfterUnasked). after .placement .added) (sym (unasked-plain now n m tree v most narrow))
+      ap (λ (after : AfterUnasked). after .placement .added) (sym (unasked-plain now weights n m tree v most narrow))
       ∙ ap (λ (p : Placement). p .added)
-      (unasked-placed now n m most narrow tree v u (standing-test now n m placed tree stands) .placement)
+      (unasked-placed now weights n m most narrow tree v u (standing-test now weights n m placed tree stands) .placement)
 
   -- by what is kept of the taxa, the taxon to place next is that of the order of placing
-  pub next-right : (order : Order) (keys : List ℕ) → Keys order now n m tree keys
-      → leastOf (keyOf keys) (nodesOut tree (numbers 1 n)) ≡ nextBy difference order n tree rows
+  pub next-right : (order : Order) (keys : List ℕ) → Keys order now weights n m tree keys
+      → leastOf (keyOf keys) (nodesOut tree (numbers 1 n)) ≡ nextBy (difference weights) order n tree rows
   unfolding nextBy byAdvancement keyOf
   next-right Advance keys known =
-      leastOf-congr (keyOf keys) (advancement difference rows) (nodesOut tree (numbers 1 n)) λ v mem.
+      leastOf-congr (keyOf keys) (advancement (difference weights) rows) (nodesOut tree (numbers 1 n)) λ v mem.
       let u = unplaced-taxon n tree v mem in
       known .each v u ∙ advance-key v u
   next-right Closest keys known =
-      leastOf-congr (keyOf keys) (adds difference n tree rows) (nodesOut tree (numbers 1 n)) (λ v mem.
+      leastOf-congr (keyOf keys) (adds (difference weights) n tree rows) (nodesOut tree (numbers 1 n)) (λ v mem.
       let u = unplaced-taxon n tree v mem in
       known .each v u ∙ closest-key v u)
-      ∙ sym (closeness-least difference n tree rows)
+      ∙ sym (closeness-least (difference weights) n tree rows)
 
 -- all nodes gone through, what is kept of the one chosen is the least
 pub kept-end : (table : List ℕ) (n : ℕ) (tree : List ℕ) (v c best : ℕ) → 2 ≤ n → c ≡ 2 * n - 1

@@ -15,16 +15,19 @@ use Rattle.branching.proofs.Rival.{difference-laws}
 use Rattle.wagner.proofs.BuildLength.{Sound, build-sound, build-length}
 
 -- n rows of m codes, n from 1 to 64
-module _ (order : Order) (n m : ℕ) (taxa : 1 ≤ n) (most : n ≤ 64) (rows : List (List ℤ)) (all : length rows ≡ n)
+module _ (order : Order) (weights : List ℕ) (n m : ℕ) (taxa : 1 ≤ n) (most : n ≤ 64) (rows : List (List ℤ)) (all : length rows ≡ n)
     (each : OfLength m rows) where
   -- the Wagner tree: its tree, its rows and its length
-  pub wagner-sound : Sound difference n m n noBranches rows (wagner difference order n rows)
+  pub wagner-sound : Sound (difference weights) n m n noBranches rows (wagner (difference weights) order n rows)
   unfolding wagner
   wagner-sound =
-      build-sound difference (nextBy difference order) n m taxa (order-chooses difference order n) (difference-laws m) most rows all each
+      build-sound (difference weights) (nextBy (difference weights) order) n m taxa (order-chooses (difference weights) order n)
+      (difference-laws weights m) most rows all each
 
   -- its length is the sum of the lengths added
-  pub wagner-length : wagnerLength difference n (wagner difference order n rows) ≡ addedLength (wagner difference order n rows .placements)
+  pub wagner-length : wagnerLength (difference weights) n (wagner (difference weights) order n rows)
+      ≡ addedLength (wagner (difference weights) order n rows .placements)
   unfolding wagner wagnerLength
   wagner-length =
-      build-length difference (nextBy difference order) n m taxa (order-chooses difference order n) (difference-laws m) most rows all each
+      build-length (difference weights) (nextBy (difference weights) order) n m taxa (order-chooses (difference weights) order n)
+      (difference-laws weights m) most rows all each

@@ -7,11 +7,11 @@ use Prim.Native.Nat.{ℕ, _*_, _-_}
 use lib.IntN.{ℤ, pos, negsuc}
 use lib.ListN.{take}
 use Rattle.matrix.specs.NodeRows.{rowOf}
-use Rattle.difference.specs.Rows.{intervalBy, apart, lower, higher, median, medians, difference, nodeDifference}
+use Rattle.difference.specs.Rows.{intervalBy, apart, part, lower, higher, median, medians, difference, nodeDifference}
 use Rattle.lists.specs.Numbers.{numbers}
 use Rattle.lists.specs.Least.{firstLeast, leastOf}
 use Rattle.lists.specs.Pairs.{pairs}
-use Rattle.matrix.specs.Shape.{lastNode}
+use Rattle.matrix.specs.Shape.{lastNode, weightAt}
 use Rattle.lists.specs.Tests.{every, sameNumbers}
 use Rattle.branching.specs.declared.placement.Placement.{Placement}
 use Rattle.branching.specs.declared.branch.Branch.{Branch}
@@ -41,28 +41,32 @@ record Shown : Type 0 where
   total : ℕ
   isBranching : Bool
 
--- the Wagner tree of n rows in an order of placing, as such a listing shows it
-shownBy : Order → ℕ → List (List ℤ) → Shown
-unfolding flatMap pairs hangings taxonOf byCloseness nextBy apart lower higher median medians difference
+-- the Wagner tree of n rows by the weights of their characters, in an order of placing, as such a listing shows it
+shownBy : List ℕ → Order → ℕ → List (List ℤ) → Shown
+unfolding flatMap pairs hangings taxonOf byCloseness nextBy apart lower higher median medians weightAt part difference
     numbers firstLeast lastNode ancestor descendants hasAncestor inTree keep
     nodesIn nodesOut otherNodes taxaPlaced every descendantCount descendantsWanted climbs rowOneAlone nodesOnly htusIn ancestorsIn
     descendantsRight allClimb grown growingTree branching noBranches linked hung nextHtu sumOver treeLength branchOf branchRecords
     branchesRead ancestorsOf sameNumbers namedInOrder lentBranching rowOf leastOf nodeDifference intervalBy nodeInterval advancement
     lengthUnder medianRow fromInterval nearestInterval linkFirst hang placeOn place byAdvancement buildOn build wagner wagnerLength
     wagnerBranches
-shownBy order n rows =
-    let built : Built = wagner difference order n rows in
+shownBy weights order n rows =
+    let built : Built = wagner (difference weights) order n rows in
     record {
       placements = built .placements;
       ancestors = take (2 * n - 1) (built .tree);
-      total = wagnerLength difference n built;
+      total = wagnerLength (difference weights) n built;
       isBranching = branching n (built .tree);
     }
 
--- by advancement
+-- characters that count alike
+abbrev alike : List ℕ
+alike = 1 ∷ 1 ∷ 1 ∷ []
+
+-- by advancement, the characters alike
 shown : ℕ → List (List ℤ) → Shown
 unfolding shownBy
-shown n rows = shownBy Advance n rows
+shown n rows = shownBy alike Advance n rows
 
 -- the matrix of document 01: A, B, C, D
 abbrev fourTaxa : List (List ℤ)
@@ -82,7 +86,7 @@ fourTaxa-built = refl
 
 -- by closeness C and D are equally near to the interval of B, and the lower row comes first: W B - A - 3; W C B A #1 3; W D #1 A #2 3;
 -- w 9
-fourTaxa-closest : shownBy Closest 4 fourTaxa
+fourTaxa-closest : shownBy alike Closest 4 fourTaxa
     ≡ record {
       placements = line 2 0 1 0 3 ∷ line 3 2 1 5 3 ∷ line 4 5 1 6 3 ∷ [];
       ancestors = 0 ∷ 0 ∷ 5 ∷ 5 ∷ 6 ∷ 6 ∷ 1 ∷ [];
@@ -92,11 +96,33 @@ fourTaxa-closest : shownBy Closest 4 fourTaxa
 unfolding shownBy
 fourTaxa-closest = refl
 
+-- with a third character that counts three times C is less advanced than D, and D goes to the interval of C
+fourTaxa-third : shownBy (1 ∷ 1 ∷ 3 ∷ []) Advance 4 fourTaxa
+    ≡ record {
+      placements = line 2 0 1 0 3 ∷ line 3 2 1 5 5 ∷ line 4 3 5 6 6 ∷ [];
+      ancestors = 0 ∷ 0 ∷ 5 ∷ 6 ∷ 6 ∷ 1 ∷ 5 ∷ [];
+      total = 14;
+      isBranching = true;
+    }
+unfolding shownBy
+fourTaxa-third = refl
+
+-- with a second character that counts twice D is nearer to the interval of B than C
+fourTaxa-second : shownBy (1 ∷ 2 ∷ 1 ∷ []) Closest 4 fourTaxa
+    ≡ record {
+      placements = line 2 0 1 0 4 ∷ line 4 2 1 5 3 ∷ line 3 2 5 6 5 ∷ [];
+      ancestors = 0 ∷ 0 ∷ 6 ∷ 6 ∷ 5 ∷ 1 ∷ 5 ∷ [];
+      total = 12;
+      isBranching = true;
+    }
+unfolding shownBy
+fourTaxa-second = refl
+
 -- taxon 5 is least advanced; then by closeness taxa 4, 3 and 2, each next to the one before it, while taxon 2 is less advanced than 3
 abbrev stairs : List (List ℤ)
 stairs = (pos 0 ∷ pos 0 ∷ []) ∷ (pos 2 ∷ pos 3 ∷ []) ∷ (pos 3 ∷ pos 3 ∷ []) ∷ (pos 3 ∷ pos 2 ∷ []) ∷ (pos 3 ∷ pos 1 ∷ []) ∷ []
 
-stairs-closest : shownBy Closest 5 stairs
+stairs-closest : shownBy alike Closest 5 stairs
     ≡ record {
       placements = line 5 0 1 0 4 ∷ line 4 5 1 6 1 ∷ line 3 4 6 7 1 ∷ line 2 3 7 8 1 ∷ [];
       ancestors = 0 ∷ 0 ∷ 8 ∷ 8 ∷ 7 ∷ 6 ∷ 1 ∷ 6 ∷ 7 ∷ [];
@@ -107,7 +133,7 @@ unfolding shownBy
 stairs-closest = refl
 
 -- by advancement that tree is longer
-stairs-advanced : shownBy Advance 5 stairs .total ≡ 8
+stairs-advanced : shownBy alike Advance 5 stairs .total ≡ 8
 unfolding shownBy
 stairs-advanced = refl
 
@@ -150,7 +176,7 @@ unfolding shown
 equally-near = refl
 
 -- by closeness too: taxon 3 is nearer than taxon 4, which then goes to the least number
-equally-near-closest : shownBy Closest 4 threeArms
+equally-near-closest : shownBy alike Closest 4 threeArms
     ≡ record {
       placements = line 2 0 1 0 1 ∷ line 3 2 1 5 1 ∷ line 4 2 5 6 2 ∷ [];
       ancestors = 0 ∷ 0 ∷ 6 ∷ 5 ∷ 6 ∷ 1 ∷ 5 ∷ [];
@@ -164,7 +190,7 @@ equally-near-closest = refl
 handed : ℕ → AfterPlacing
 unfolding shownBy
 handed b =
-    place difference 4 (0 ∷ 0 ∷ 5 ∷ 0 ∷ 5 ∷ 1 ∷ 0 ∷ []) (take 4 fourTaxa ++ (pos 1 ∷ pos 1 ∷ pos 1 ∷ []) ∷ []) b
+    place (difference alike) 4 (0 ∷ 0 ∷ 5 ∷ 0 ∷ 5 ∷ 1 ∷ 0 ∷ []) (take 4 fourTaxa ++ (pos 1 ∷ pos 1 ∷ pos 1 ∷ []) ∷ []) b
 
 handed-tree : handed 3 .tree ≡ 0 ∷ 0 ∷ 6 ∷ 6 ∷ 5 ∷ 1 ∷ 5 ∷ []
 unfolding handed
@@ -182,7 +208,7 @@ handed-row = refl
 -- the branches of document 01's tree, with their lengths under the median codes; handed back, they are a branching
 branches : List Branch
 unfolding shownBy
-branches = wagnerBranches difference 4 (wagner difference Advance 4 fourTaxa)
+branches = wagnerBranches (difference alike) 4 (wagner (difference alike) Advance 4 fourTaxa)
 
 abbrev branch : ℕ → ℕ → ℕ → Branch
 branch v a l = record { node = v; ancestor = a; length = l }

@@ -17,7 +17,7 @@ use Rattle.lists.proofs.Every.{every-at, every-from, every-cons, every-append, 
 use Rattle.lists.proofs.Numbers.{numbers-within}
 use Rattle.matrix.specs.Shape.{row}
 use Rattle.matrix.specs.NodeRows.{rowOf, rowsOf}
-use Rattle.matrix.specs.Questions.{LentMatrix, allInRange, htuInRange, htusInRange}
+use Rattle.matrix.specs.Questions.{LentMatrix, LentWeights, allInRange, htuInRange, htusInRange}
 use Rattle.matrix.specs.declared.refusal.Asked.the-variants.{Passed}
 use Rattle.matrix.proofs.Passing.{matrix-passes}
 use Rattle.matrix.proofs.NodeRows.{length-rowsOf, rowOf-next, rowOf-rowsOf}
@@ -67,10 +67,10 @@ module _ (d : List ℤ → List ℤ → ℕ) (n : ℕ) where
       (placed-known tree rows (next n tree rows) (nearestInterval d n tree rows (next n tree rows)) known)
 
 -- the Wagner tree of a lent matrix
-module _ (order : Order) (codes : List ℤ) (n m : ℕ) (lent : LentMatrix codes n m) where
+module _ (order : Order) (codes : List ℤ) (weights : List ℕ) (n m : ℕ) (lent : LentMatrix codes n m) where
   -- the build, and the matrix after it
   abbrev ours : Built
-  ours = wagnerIn order codes n m
+  ours = wagnerIn order codes weights n m
 
   abbrev after : List ℤ
   after = matrixAfter codes n ours
@@ -79,7 +79,8 @@ module _ (order : Order) (codes : List ℤ) (n m : ℕ) (lent : LentMatrix codes
   ours-known : every allInRange (ours .rows) ≡ true
   unfolding wagnerIn wagner build
   ours-known =
-      built-known difference n (nextBy difference order) (n - 1) _ (rowsOf codes m n) (every-from allInRange [] (rowsOf codes m n) each)
+      built-known (difference weights) n (nextBy (difference weights) order) (n - 1) _ (rowsOf codes m n)
+      (every-from allInRange [] (rowsOf codes m n) each)
     where
       each : (i : ℕ) → i < length (rowsOf codes m n) → allInRange (getD (rowsOf codes m n) i []) ≡ true
       each i h =
@@ -93,13 +94,15 @@ module _ (order : Order) (codes : List ℤ) (n m : ℕ) (lent : LentMatrix codes
       rw
       (sym (rowOf-rowsOf after m (n + (n - 2)) v low high)
       ∙ ap (λ (rows : List (List ℤ)). rowOf rows v)
-      (after-rows difference codes n m (lent .characters) (ours-room order codes n m lent) ours (ours-sound order codes n m lent)))
+      (after-rows (difference weights) codes n m (lent .characters) (ours-room order codes weights n m lent) ours
+      (ours-sound order codes weights n m lent)))
       (row-known (ours .rows) ours-known v)
 
   -- the matrix after the build is a lent matrix
   pub after-lent : LentMatrix after n m
   after-lent = record {
-    full = after-size difference codes n m (lent .characters) (ours-room order codes n m lent) ours (ours-sound order codes n m lent)
+    full = after-size (difference weights) codes n m (lent .characters) (ours-room order codes weights n m lent) ours
+        (ours-sound order codes weights n m lent)
         ∙ lent .full;
     taxon = lent .taxon;
     taxa = lent .taxa;
@@ -109,14 +112,15 @@ module _ (order : Order) (codes : List ℤ) (n m : ℕ) (lent : LentMatrix codes
   }
 
   -- the tree and the matrix that a build hands back are refused by no question of the call that writes its branch records
-  pub built-passes : askRecords after n m (ours .tree) branchesSize ≡ Passed
+  pub built-passes : LentWeights weights m → askRecords after weights n m (ours .tree) branchesSize ≡ Passed
   unfolding askRecords htusInRange htusOf htuInRange branching
-  built-passes =
-      let test : branching n (ours .tree) ≡ true = branching-iff (ours .tree) n (lent .taxon) .1 (ours-branching order codes n m lent) in
+  built-passes weighted =
+      let test : branching n (ours .tree) ≡ true = branching-iff (ours .tree) n (lent .taxon) .1
+      (ours-branching order codes weights n m lent) in
       let all : taxaPlaced n (ours .tree) ≡ n =
       eqb-true _ _ (and-eq-true-iff (growingTree n (ours .tree)) (eqb (taxaPlaced n (ours .tree)) n) .0 test .1) in
       let htus : every (htuInRange after n m) (numbers (n + 1) (taxaPlaced n (ours .tree) - 2)) ≡ true =
       every-iff (htuInRange after n m) (numbers (n + 1) (taxaPlaced n (ours .tree) - 2)) .1
       (λ v mem. let w = numbers-within (n + 1) (taxaPlaced n (ours .tree) - 2) v mem in
       or-right (leb v n) (allInRange (row after m v)) (after-known v (omega arith) (omega (arith, all)))) in
-      rw (matrix-passes after n m .1 after-lent, test, htus)
+      rw (matrix-passes after weights n m .1 (after-lent, weighted), test, htus)

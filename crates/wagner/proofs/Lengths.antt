@@ -44,10 +44,11 @@ abbrev noBranch : Branch
 noBranch = record { node = 0; ancestor = 0; length = 0 }
 
 -- one length more is kept
-pub length-next : (codes : List ℤ) (m : ℕ) (tree all : List ℕ) (v x : ℕ) → v < length all → x ≡ lengthIn codes m v (ancestor tree v)
-    → ((u : ℕ) → u < v → getD all u 0 ≡ lengthIn codes m u (ancestor tree u))
-    → (u : ℕ) → u < v + 1 → getD (set all v x) u 0 ≡ lengthIn codes m u (ancestor tree u)
-length-next codes m tree all v x room is before u high =
+pub length-next : (codes : List ℤ) (weights : List ℕ) (m : ℕ) (tree all : List ℕ) (v x : ℕ) → v < length all
+    → x ≡ lengthIn codes weights m v (ancestor tree v)
+    → ((u : ℕ) → u < v → getD all u 0 ≡ lengthIn codes weights m u (ancestor tree u))
+    → (u : ℕ) → u < v + 1 → getD (set all v x) u 0 ≡ lengthIn codes weights m u (ancestor tree u)
+length-next codes weights m tree all v x room is before u high =
     by-cases
     (ℕ-discrete u v)
     (λ e. rw e (getD-set-same all v x 0 room ∙ is))
@@ -87,17 +88,18 @@ records-agree d d′ n tree old size same =
             ap {B = Branch} (λ (l : ℕ). record { node = v; ancestor = ancestor tree v; length = l }) (same v low h high)
 
 -- the lengths by node number give the lengths under the codes
-pub lengths-records : (codes : List ℤ) (n m : ℕ) (tree lengths : List ℕ) (old : List Branch) → length old ≡ 125
-    → LengthsOf codes m tree lengths
-    → withRecords (lengthsBy lengths) n tree old ≡ withRecords (lengthIn codes m) n tree old
+pub lengths-records : (codes : List ℤ) (weights : List ℕ) (n m : ℕ) (tree lengths : List ℕ) (old : List Branch) → length old ≡ 125
+    → LengthsOf codes weights m tree lengths
+    → withRecords (lengthsBy lengths) n tree old ≡ withRecords (lengthIn codes weights m) n tree old
 unfolding lengthsBy
-lengths-records codes n m tree lengths old size of =
-    records-agree (lengthsBy lengths) (lengthIn codes m) n tree old size (λ v low h high. of .each v h)
+lengths-records codes weights n m tree lengths old size of =
+    records-agree (lengthsBy lengths) (lengthIn codes weights m) n tree old size (λ v low h high. of .each v h)
 
 -- of at most 128 characters it is the difference of the two rows
-pub lengthIn-plain : (codes : List ℤ) (m u v : ℕ) → m ≤ 128 → lengthIn codes m u v ≡ nodeDifference difference (row codes m) u v
+pub lengthIn-plain : (codes : List ℤ) (weights : List ℕ) (m u v : ℕ) → m ≤ 128
+    → lengthIn codes weights m u v ≡ nodeDifference (difference weights) (row codes m) u v
 unfolding lengthIn nodeDifference
-lengthIn-plain codes m u v narrow = ap₂ difference (row-128 codes m u narrow) (row-128 codes m v narrow)
+lengthIn-plain codes weights m u v narrow = ap₂ (difference weights) (row-128 codes m u narrow) (row-128 codes m v narrow)
 
 -- of a branching, the lengths of the branch records sum to the length of the tree
 pub records-sum : (d : ℕ → ℕ → ℕ) (n : ℕ) (tree : List ℕ) → Branching n tree
@@ -107,22 +109,22 @@ records-sum d n tree whole =
     sum-map (λ (branch : Branch). branch .length) (branchOf d tree) (otherNodes n) ∙ sym (records-length d n tree whole)
 
 -- the Wagner tree of a lent matrix
-module _ (order : Order) (codes : List ℤ) (n m : ℕ) (lent : LentMatrix codes n m) where
+module _ (order : Order) (codes : List ℤ) (weights : List ℕ) (n m : ℕ) (lent : LentMatrix codes n m) where
   -- the build
   abbrev ours : Built
-  ours = wagnerIn order codes n m
+  ours = wagnerIn order codes weights n m
 
   -- its tree, its rows and its length
-  pub ours-sound : Sound difference n m n noBranches (rowsOf codes m n) ours
+  pub ours-sound : Sound (difference weights) n m n noBranches (rowsOf codes m n) ours
   unfolding wagnerIn
   ours-sound =
-      wagner-sound order n m (lent .taxon) (lent .taxa) (rowsOf codes m n) (length-rowsOf codes m n)
+      wagner-sound order weights n m (lent .taxon) (lent .taxa) (rowsOf codes m n) (length-rowsOf codes m n)
       (rowsOf-each codes m n (lent .characters) (omega (arith, lent .full, lent .taxa)))
 
   -- it is a branching
   pub ours-branching : Branching n (ours .tree)
   unfolding wagnerIn
-  ours-branching = wagner-branching difference order n (lent .taxon) (lent .taxa) (rowsOf codes m n)
+  ours-branching = wagner-branching (difference weights) order n (lent .taxon) (lent .taxa) (rowsOf codes m n)
 
   -- there is room for all its rows
   pub ours-room : rowStart (suc (n + (n - 2))) ≤ length codes
@@ -131,34 +133,38 @@ module _ (order : Order) (codes : List ℤ) (n m : ℕ) (lent : LentMatrix codes
   -- the matrix after the build holds the row of each node
   ours-row : (v : ℕ) → 1 ≤ v → v ≤ n + (n - 2) → rowOf (ours .rows) v ≡ row (matrixAfter codes n ours) m v
   ours-row v low high =
-      ap (λ (rows : List (List ℤ)). rowOf rows v) (sym (after-rows difference codes n m (lent .characters) ours-room ours ours-sound))
+      ap (λ (rows : List (List ℤ)). rowOf rows v)
+      (sym (after-rows (difference weights) codes n m (lent .characters) ours-room ours ours-sound))
       ∙ rowOf-rowsOf (matrixAfter codes n ours) m (n + (n - 2)) v low high
 
   -- the records written from the tree and the matrix that a build leaves are those of the finished tree, over the first 2n-3
   pub built-branches : (old : List Branch) → length old ≡ 125
-      → withRecords (lengthIn (matrixAfter codes n ours) m) n (ours .tree) old ≡ over 0 (wagnerBranches difference n ours) old
+      → withRecords (lengthIn (matrixAfter codes n ours) weights m) n (ours .tree) old
+      ≡ over 0 (wagnerBranches (difference weights) n ours) old
   unfolding wagnerBranches
   built-branches old size =
-      records-agree (lengthIn (matrixAfter codes n ours) m) (nodeDifference difference (rowOf (ours .rows))) n (ours .tree) old size same
+      records-agree (lengthIn (matrixAfter codes n ours) weights m) (nodeDifference (difference weights) (rowOf (ours .rows))) n
+      (ours .tree) old size same
       ∙ unfold withRecords in refl
     where
       same : (v : ℕ) → 2 ≤ v → v < 127 → v ≤ 2 * n - 2
-          → lengthIn (matrixAfter codes n ours) m v (ancestor (ours .tree) v)
-          ≡ nodeDifference difference (rowOf (ours .rows)) v (ancestor (ours .tree) v)
+          → lengthIn (matrixAfter codes n ours) weights m v (ancestor (ours .tree) v)
+          ≡ nodeDifference (difference weights) (rowOf (ours .rows)) v (ancestor (ours .tree) v)
       same v low h high =
           let a : ℕ = ancestor (ours .tree) v in
           let inside : 1 ≤ a = branching-nodes n (ours .tree) ours-branching v low high in
           let reach : a ≤ 2 * n - 2 = growing-ancestor-le n (ours .tree) ours-branching v in
-          lengthIn-plain (matrixAfter codes n ours) m v a (lent .characters)
+          lengthIn-plain (matrixAfter codes n ours) weights m v a (lent .characters)
           ∙ unfold nodeDifference in
-          sym (ap₂ difference (ours-row v (omega arith) (omega arith)) (ours-row a inside (omega arith)))
+          sym (ap₂ (difference weights) (ours-row v (omega arith) (omega arith)) (ours-row a inside (omega arith)))
 
   -- their lengths sum to the length of the tree
-  pub built-sum : sumOver (λ (branch : Branch). branch .length) (wagnerBranches difference n ours) ≡ wagnerLength difference n ours
+  pub built-sum : sumOver (λ (branch : Branch). branch .length) (wagnerBranches (difference weights) n ours)
+      ≡ wagnerLength (difference weights) n ours
   unfolding wagnerBranches wagnerLength lengthUnder
-  built-sum = records-sum (nodeDifference difference (rowOf (ours .rows))) n (ours .tree) ours-branching
+  built-sum = records-sum (nodeDifference (difference weights) (rowOf (ours .rows))) n (ours .tree) ours-branching
 
   -- which codes differ after a build: of no row but those of nodes n+1 to 2n-2, and of these none past column m
   pub built-else : (v j : ℕ) → 1 ≤ v → j < columns → (n < v → v ≤ n + (n - 2) → j < m → ⊥)
       → getD (matrixAfter codes n ours) (rowStart v + j) (pos 0) ≡ getD codes (rowStart v + j) (pos 0)
-  built-else = after-else difference codes n m (lent .characters) ours-room ours ours-sound
+  built-else = after-else (difference weights) codes n m (lent .characters) ours-room ours ours-sound

@@ -83,39 +83,40 @@ one-less n tree new b inside same =
     and-true true = refl
     and-true false = refl
 
-module _ (n m : ℕ) (taxa : 1 ≤ n) (key : ℕ → ℕ) where
+module _ (weights : List ℕ) (n m : ℕ) (taxa : 1 ≤ n) (key : ℕ → ℕ) where
   -- so many placements in turn, from a growing tree whose rows give the keys
   order-on : (count k : ℕ) (tree : List ℕ) (rows : List (List ℤ)) → Growth n m k tree rows → count + k ≡ n
-      → ((v : ℕ) → 1 ≤ v → v ≤ n → advancement difference rows v ≡ key v)
-      → InOrder key (nodesOut tree (numbers 1 n)) (taxaOf (buildOn difference (byAdvancement difference) n count tree rows .placements))
+      → ((v : ℕ) → 1 ≤ v → v ≤ n → advancement (difference weights) rows v ≡ key v)
+      → InOrder key (nodesOut tree (numbers 1 n))
+      (taxaOf (buildOn (difference weights) (byAdvancement (difference weights)) n count tree rows .placements))
   unfolding buildOn
   order-on zero k tree rows g all keys =
       rw (none-left n tree (growing-placed tree n taxa (g .growing) ∙ sym (zero-add k) ∙ all)) allPlaced
   order-on (suc count) k tree rows g all keys =
-      let b : ℕ = byAdvancement difference n tree rows in
+      let b : ℕ = byAdvancement (difference weights) n tree rows in
       let less : taxaPlaced n tree < n = omega (arith, growing-placed tree n taxa (g .growing)) in
-      let u : Unplaced n tree b = unfold nextBy in order-chooses difference Advance n tree rows less in
-      let placed : AfterPlacing = place difference n tree rows b in
-      let after = place-growth difference n m k tree rows g (difference-laws m) b u in
-      let kept = place-rows difference n m k tree rows g (difference-laws m) b u in
+      let u : Unplaced n tree b = unfold nextBy in order-chooses (difference weights) Advance n tree rows less in
+      let placed : AfterPlacing = place (difference weights) n tree rows b in
+      let after = place-growth (difference weights) n m k tree rows g (difference-laws weights m) b u in
+      let kept = place-rows (difference weights) n m k tree rows g (difference-laws weights m) b u in
       let some = some-unplaced n tree less in
       let next : b ≡ leastOf key (nodesOut tree (numbers 1 n)) = chosen tree rows keys in
       let mem : List·Memᴰ b (nodesOut tree (numbers 1 n)) =
-      unfold byAdvancement in leastOf-mem (advancement difference rows) (nodesOut tree (numbers 1 n)) (some .0) (some .1) in
+      unfold byAdvancement in leastOf-mem (advancement (difference weights) rows) (nodesOut tree (numbers 1 n)) (some .0) (some .1) in
       let rest =
       order-on count (suc k) (placed .tree) (placed .rows) after (omega arith) (keys-kept rows (placed .rows) (g .full) kept keys) in
-      let left = one-less n tree (placed .tree) b (place-in difference n tree rows b (g .room) u (g .growing))
-      (place-only difference n tree rows b (g .room) u (g .growing)) in
+      let left = one-less n tree (placed .tree) b (place-in (difference weights) n tree rows b (g .room) u (g .growing))
+      (place-only (difference weights) n tree rows b (g .room) u (g .growing)) in
       let behind : InOrder key (without (b ∷ []) (nodesOut tree (numbers 1 n)))
-      (taxaOf (buildOn difference (byAdvancement difference) n count (placed .tree) (placed .rows) .placements)) =
+      (taxaOf (buildOn (difference weights) (byAdvancement (difference weights)) n count (placed .tree) (placed .rows) .placements)) =
       rw left rest in
-      rw (place-taxon difference n tree rows b) (placedNext b mem next behind)
+      rw (place-taxon (difference weights) n tree rows b) (placedNext b mem next behind)
     where
-      chosen : (tree : List ℕ) (rows : List (List ℤ)) → ((v : ℕ) → 1 ≤ v → v ≤ n → advancement difference rows v ≡ key v)
-          → byAdvancement difference n tree rows ≡ leastOf key (nodesOut tree (numbers 1 n))
+      chosen : (tree : List ℕ) (rows : List (List ℤ)) → ((v : ℕ) → 1 ≤ v → v ≤ n → advancement (difference weights) rows v ≡ key v)
+          → byAdvancement (difference weights) n tree rows ≡ leastOf key (nodesOut tree (numbers 1 n))
       chosen tree rows keys =
           unfold byAdvancement in
-          leastOf-congr (advancement difference rows) key (nodesOut tree (numbers 1 n)) λ v mem.
+          leastOf-congr (advancement (difference weights) rows) key (nodesOut tree (numbers 1 n)) λ v mem.
           let w = numbers-within 1 n v (left-mem tree v mem) in
           keys v (w .0) (omega arith)
         where
@@ -124,11 +125,11 @@ module _ (n m : ℕ) (taxa : 1 ≤ n) (key : ℕ → ℕ) where
 
       keys-kept : (rows later : List (List ℤ)) → length rows ≡ n + (k - 2)
           → ((v : ℕ) → 1 ≤ v → v ≤ length rows → rowOf later v ≡ rowOf rows v)
-          → ((v : ℕ) → 1 ≤ v → v ≤ n → advancement difference rows v ≡ key v)
-          → (v : ℕ) → 1 ≤ v → v ≤ n → advancement difference later v ≡ key v
+          → ((v : ℕ) → 1 ≤ v → v ≤ n → advancement (difference weights) rows v ≡ key v)
+          → (v : ℕ) → 1 ≤ v → v ≤ n → advancement (difference weights) later v ≡ key v
       keys-kept rows later full kept keys v low high =
           unfold advancement nodeDifference in
-          (ap₂ difference (kept v low (omega arith)) (kept 1 (omega arith) (omega arith)) ∙ keys v low high)
+          (ap₂ (difference weights) (kept v low (omega arith)) (kept 1 (omega arith) (omega arith)) ∙ keys v low high)
 
 -- at the start all taxa but row 1 are left
 all-left : (n : ℕ) → 1 ≤ n → nodesOut noBranches (numbers 1 n) ≡ numbers 2 (n - 1)
@@ -144,16 +145,18 @@ all-left (suc k) h =
     ∙ ap (numbers 2) (sym count)
 
 -- n rows of m codes, n from 1 to 64
-module _ (n m : ℕ) (taxa : 1 ≤ n) (most : n ≤ 64) (rows : List (List ℤ)) (all : length rows ≡ n) (each : OfLength m rows) where
+module _ (weights : List ℕ) (n m : ℕ) (taxa : 1 ≤ n) (most : n ≤ 64) (rows : List (List ℤ)) (all : length rows ≡ n)
+    (each : OfLength m rows) where
   -- of the taxa 2 to n each placed taxon is, of those not yet placed, by rising row, the first of least advancement
-  pub wagner-order : InOrder (advancement difference rows) (numbers 2 (n - 1)) (taxaOf (wagner difference Advance n rows .placements))
+  pub wagner-order : InOrder (advancement (difference weights) rows) (numbers 2 (n - 1))
+      (taxaOf (wagner (difference weights) Advance n rows .placements))
   unfolding wagner build nextBy
   wagner-order =
       let start : Growth n m 1 noBranches rows =
       record { growing = alone noBranches-none; room = rw noBranches-places (omega arith); full = omega arith; each = each } in
       rw (all-left n taxa) at
-      (order-on n m taxa (advancement difference rows) (n - 1) 1 noBranches rows start (omega arith) (λ v low high. refl))
+      (order-on weights n m taxa (advancement (difference weights) rows) (n - 1) 1 noBranches rows start (omega arith) (λ v low high. refl))
 
   -- so the advancements rise along the placements
-  pub wagner-rises : Rising (advancement difference rows) (taxaOf (wagner difference Advance n rows .placements))
-  wagner-rises = order-rises (advancement difference rows) wagner-order
+  pub wagner-rises : Rising (advancement (difference weights) rows) (taxaOf (wagner (difference weights) Advance n rows .placements))
+  wagner-rises = order-rises (advancement (difference weights) rows) wagner-order

@@ -24,27 +24,27 @@ use Rattle.wagner.specs.Closeness.{KeysNext}
 use Rattle.wagner.specs.Steps.{Begun, nextOf, nextPlacement, WithPlacement, OneMore, BuiltFrom}
 
 -- the unplaced taxon of least key placed
-module _ (now new : List ℤ) (n m : ℕ) (before : Building) (b : ℕ) (done : Unasked)
+module _ (now new : List ℤ) (weights : List ℕ) (n m : ℕ) (before : Building) (b : ℕ) (done : Unasked)
     (chosen : b ≡ leastOf (keyOf (before .keys)) (nodesOut (ancestors (before .tree)) (numbers 1 n)))
-    (placed : UnaskedDone now new n m (ancestors (before .tree)) b done) where
+    (placed : UnaskedDone now new weights n m (ancestors (before .tree)) b done) where
   -- what was done
-  pub next-done : done .placement ≡ nextPlacement now n m before .placement
+  pub next-done : done .placement ≡ nextPlacement now weights n m before .placement
   unfolding nextPlacement nextOf
-  next-done = placed .placement ∙ ap (λ (v : ℕ). unasked now n m (ancestors (before .tree)) v .placement) chosen
+  next-done = placed .placement ∙ ap (λ (v : ℕ). unasked now weights n m (ancestors (before .tree)) v .placement) chosen
 
   -- the build with it, and the keys that were found
   pub next-more : (order : Order) (keys old table : List ℕ)
-      → KeysNext order new n m (ancestors (done .tree)) (done .placement) (before .keys) old table keys
-      → (r : Building) → WithPlacement before done keys r → OneMore order now new n m before old table r
+      → KeysNext order new weights n m (ancestors (done .tree)) (done .placement) (before .keys) old table keys
+      → (r : Building) → WithPlacement before done keys r → OneMore order now new weights n m before old table r
   unfolding nextPlacement nextOf
   next-more order keys old table renewed r more =
       record {
         size = renewed .size;
-        tree = ap ancestors (more .tree) ∙ placed .tree ∙ ap (λ (v : ℕ). unasked now n m (ancestors (before .tree)) v .tree) chosen;
+        tree = ap ancestors (more .tree) ∙ placed .tree ∙ ap (λ (v : ℕ). unasked now weights n m (ancestors (before .tree)) v .tree) chosen;
         placements = more .placements ∙ ap (λ (p : Placement). set (before .placements) (before .count) p) next-done;
         count = more .count;
         more = more .more ∙ ap (λ (p : Placement). before .length + p .added) next-done;
-        matrix = placed .matrix ∙ ap (λ (v : ℕ). unasked now n m (ancestors (before .tree)) v .codes) chosen;
+        matrix = placed .matrix ∙ ap (λ (v : ℕ). unasked now weights n m (ancestors (before .tree)) v .codes) chosen;
         keys = λ changed known right.
             rw (more .tree, more .keys)
             (renewed .each now (ancestors (before .tree)) (rw (more .tree, ← next-done) at changed) known right);
@@ -60,10 +60,10 @@ handed building asked = record {
   length = building .length;
 }
 
-module _ (order : Order) (codes : List ℤ) (n m : ℕ) (building : Building) where
+module _ (order : Order) (codes : List ℤ) (weights : List ℕ) (n m : ℕ) (building : Building) where
   -- a refusal: row 1 alone, no placement, and the matrix as before
-  pub build-refused : (refusal : Refusal) → askMatrix codes n m ≡ Refused refusal → (keys : List ℕ) → Begun keys building
-      → BuildDone order codes codes n m (handed building (Refused refusal))
+  pub build-refused : (refusal : Refusal) → askMatrix codes weights n m ≡ Refused refusal → (keys : List ℕ) → Begun keys building
+      → BuildDone order codes codes weights n m (handed building (Refused refusal))
   unfolding buildSays placementsIn
   build-refused refusal told keys begun =
       record {
@@ -76,8 +76,8 @@ module _ (order : Order) (codes : List ℤ) (n m : ℕ) (building : Building) wh
       }
 
   -- where the questions pass: the Wagner tree
-  pub build-passed : (new : List ℤ) → askMatrix codes n m ≡ Passed → BuiltFrom order codes new n m building
-      → BuildDone order codes new n m (handed building Passed)
+  pub build-passed : (new : List ℤ) → askMatrix codes weights n m ≡ Passed → BuiltFrom order codes new weights n m building
+      → BuildDone order codes new weights n m (handed building Passed)
   unfolding buildSays placementsIn
   build-passed new told built =
       record {

@@ -19,20 +19,22 @@ use Rattle.wagner.proofs.Matrix.{after-size, after-taxon}
 use Rattle.wagner.proofs.Lengths.{ours-sound, ours-room}
 
 -- a lent matrix, and what it holds after the build
-module _ (order : Order) (codes : List ℤ) (n m : ℕ) (lent : LentMatrix codes n m) where
+module _ (order : Order) (codes : List ℤ) (weights : List ℕ) (n m : ℕ) (lent : LentMatrix codes n m) where
   abbrev after : List ℤ
-  after = matrixAfter codes n (wagnerIn order codes n m)
+  after = matrixAfter codes n (wagnerIn order codes weights n m)
 
   -- the row of a taxon
   taxon-same : (v : ℕ) → 1 ≤ v → v ≤ n → row after m v ≡ row codes m v
-  taxon-same = after-taxon difference codes n m (lent .characters) (ours-room order codes n m lent) (wagnerIn order codes n m)
-      (ours-sound order codes n m lent)
+  taxon-same = after-taxon (difference weights) codes n m (lent .characters) (ours-room order codes weights n m lent)
+      (wagnerIn order codes weights n m)
+      (ours-sound order codes weights n m lent)
 
   -- it is a lent matrix as before
   pub still-lent : LentMatrix after n m
   still-lent = record {
-    full = after-size difference codes n m (lent .characters) (ours-room order codes n m lent) (wagnerIn order codes n m)
-        (ours-sound order codes n m lent) ∙ lent .full;
+    full = after-size (difference weights) codes n m (lent .characters) (ours-room order codes weights n m lent)
+        (wagnerIn order codes weights n m)
+        (ours-sound order codes weights n m lent) ∙ lent .full;
     taxon = lent .taxon;
     taxa = lent .taxa;
     character = lent .character;

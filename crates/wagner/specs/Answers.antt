@@ -22,25 +22,26 @@ use Rattle.wagner.specs.Matrix.{matrixAfter}
 abbrev pub mostPlacements : ℕ
 mostPlacements = 63
 
--- the Wagner tree of the rows of a matrix, in an order of placing
-unfoldable pub wagnerIn : Order → List ℤ → ℕ → ℕ → Built
-wagnerIn order codes n m = wagner difference order n (rowsOf codes m n)
+-- the Wagner tree of the rows of a matrix by the weights of its characters, in an order of placing
+unfoldable pub wagnerIn : Order → List ℤ → List ℕ → ℕ → ℕ → Built
+wagnerIn order codes weights n m = wagner (difference weights) order n (rowsOf codes m n)
 
 -- what the questions of a build say
-unfoldable pub buildSays : List ℤ → ℕ → ℕ → Outcome (Unit {0})
-buildSays codes n m = askedSays (askMatrix codes n m)
+unfoldable pub buildSays : List ℤ → List ℕ → ℕ → ℕ → Outcome (Unit {0})
+buildSays codes weights n m = askedSays (askMatrix codes weights n m)
 
 -- its placements, none on a refusal
-unfoldable pub placementsIn : Order → List ℤ → ℕ → ℕ → List Placement
-placementsIn order codes n m = afterwards (buildSays codes n m) (wagnerIn order codes n m .placements) []
+unfoldable pub placementsIn : Order → List ℤ → List ℕ → ℕ → ℕ → List Placement
+placementsIn order codes weights n m = afterwards (buildSays codes weights n m) (wagnerIn order codes weights n m .placements) []
 
 -- the answer for a lent matrix of n taxa and m characters in an order of placing: what the questions say; the Wagner tree, or row 1 alone
 -- on a refusal; the placements, with zeros behind them, and their number; the matrix with the rows of the HTUs, or as before; the length
 -- under the median codes
-pub record BuildDone (order : Order) (codes new : List ℤ) (n m : ℕ) (r : WagnerTree) : Type 0 where
-  pub says : askedSays (r .asked) ≡ buildSays codes n m
-  pub tree : ancestors (r .tree) ≡ afterwards (buildSays codes n m) (wagnerIn order codes n m .tree) noBranches
-  pub placements : r .placements ≡ filled mostPlacements noPlacement (placementsIn order codes n m)
-  pub count : r .count ≡ length (placementsIn order codes n m)
-  pub matrix : new ≡ afterwards (buildSays codes n m) (matrixAfter codes n (wagnerIn order codes n m)) codes
-  pub whole : r .length ≡ afterwards (buildSays codes n m) (wagnerLength difference n (wagnerIn order codes n m)) 0
+pub record BuildDone (order : Order) (codes new : List ℤ) (weights : List ℕ) (n m : ℕ) (r : WagnerTree) : Type 0 where
+  pub says : askedSays (r .asked) ≡ buildSays codes weights n m
+  pub tree : ancestors (r .tree) ≡ afterwards (buildSays codes weights n m) (wagnerIn order codes weights n m .tree) noBranches
+  pub placements : r .placements ≡ filled mostPlacements noPlacement (placementsIn order codes weights n m)
+  pub count : r .count ≡ length (placementsIn order codes weights n m)
+  pub matrix : new ≡ afterwards (buildSays codes weights n m) (matrixAfter codes n (wagnerIn order codes weights n m)) codes
+  pub whole : r .length ≡ afterwards (buildSays codes weights n m)
+      (wagnerLength (difference weights) n (wagnerIn order codes weights n m)) 0

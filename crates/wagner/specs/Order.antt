@@ -28,19 +28,19 @@ unfoldable pub unplacedTest : List ℕ → ℕ → Bool
 unplacedTest tree v = not (inTree tree v)
 
 -- the key of taxon v of a tree: by advancement its difference from row 1, by closeness the length that its placement would add
-unfoldable pub keyBy : Order → List ℤ → ℕ → ℕ → List ℕ → ℕ → ℕ
-keyBy Advance codes n m tree v = nodeDifference difference (row codes m) v 1
-keyBy Closest codes n m tree v = placedAt codes m n tree v (nearestAt codes m n tree v) .placement .added
+unfoldable pub keyBy : Order → List ℤ → List ℕ → ℕ → ℕ → List ℕ → ℕ → ℕ
+keyBy Advance codes weights n m tree v = nodeDifference (difference weights) (row codes m) v 1
+keyBy Closest codes weights n m tree v = placedAt codes weights m n tree v (nearestAt codes weights m n tree v) .placement .added
 
 -- the keys of the taxa that are not placed
-pub record Keys (order : Order) (codes : List ℤ) (n m : ℕ) (tree keys : List ℕ) : Type 0 where
+pub record Keys (order : Order) (codes : List ℤ) (weights : List ℕ) (n m : ℕ) (tree keys : List ℕ) : Type 0 where
   pub size : length keys ≡ keyCount
-  pub each : (v : ℕ) → Unplaced n tree v → keyOf keys v ≡ keyBy order codes n m tree v
+  pub each : (v : ℕ) → Unplaced n tree v → keyOf keys v ≡ keyBy order codes weights n m tree v
 
 -- the keys of taxa 1 to n are their advancements
-pub record Advancements (codes : List ℤ) (n m : ℕ) (keys : List ℕ) : Type 0 where
+pub record Advancements (codes : List ℤ) (weights : List ℕ) (n m : ℕ) (keys : List ℕ) : Type 0 where
   pub size : length keys ≡ keyCount
-  pub each : (v : ℕ) → 1 ≤ v → v ≤ n → keyOf keys v ≡ nodeDifference difference (row codes m) v 1
+  pub each : (v : ℕ) → 1 ≤ v → v ≤ n → keyOf keys v ≡ nodeDifference (difference weights) (row codes m) v 1
 
 -- r is chosen of those up to v that pass a test, if `best` is chosen of those before v
 pub record Sooner (key : ℕ → ℕ) (test : ℕ → Bool) (best v r : ℕ) : Type 0 where

@@ -8,11 +8,11 @@ use Rattle.matrix.specs.Shape.{row, columns}
 use Rattle.difference.specs.Rows.{difference, nodeDifference}
 use Rattle.branching.specs.Ancestors.{places, ancestor}
 
--- the difference of two nodes by their rows in the matrix, over the first 128 characters
-unfoldable pub lengthIn : List ℤ → ℕ → ℕ → ℕ → ℕ
-lengthIn codes m = nodeDifference difference (λ v. take columns (row codes m v))
+-- the difference of two nodes by their rows in the matrix and the weights, over the first 128 characters
+unfoldable pub lengthIn : List ℤ → List ℕ → ℕ → ℕ → ℕ → ℕ
+lengthIn codes weights m = nodeDifference (difference weights) (λ v. take columns (row codes m v))
 
 -- the lengths of the branches by node number: that of node v stands at place v
-pub record LengthsOf (codes : List ℤ) (m : ℕ) (tree lengths : List ℕ) : Type 0 where
+pub record LengthsOf (codes : List ℤ) (weights : List ℕ) (m : ℕ) (tree lengths : List ℕ) : Type 0 where
   pub size : length lengths ≡ places
-  pub each : (v : ℕ) → v < places → getD lengths v 0 ≡ lengthIn codes m v (ancestor tree v)
+  pub each : (v : ℕ) → v < places → getD lengths v 0 ≡ lengthIn codes weights m v (ancestor tree v)

@@ -43,26 +43,29 @@ unfoldable pub nextOf : ℕ → Building → ℕ
 nextOf n before = leastOf (keyOf (before .keys)) (nodesOut (ancestors (before .tree)) (numbers 1 n))
 
 -- its placement
-unfoldable pub nextPlacement : List ℤ → ℕ → ℕ → Building → AfterUnasked
-nextPlacement codes n m before = unasked codes n m (ancestors (before .tree)) (nextOf n before)
+unfoldable pub nextPlacement : List ℤ → List ℕ → ℕ → ℕ → Building → AfterUnasked
+nextPlacement codes weights n m before = unasked codes weights n m (ancestors (before .tree)) (nextOf n before)
 
 -- a build with the next taxon placed: what was right to keep of the taxa is again so, where the placement is one that changes only what
 -- belongs to it
-pub record OneMore (order : Order) (codes new : List ℤ) (n m : ℕ) (before : Building) (old table : List ℕ) (r : Building) : Type 0 where
+pub record OneMore (order : Order) (codes new : List ℤ) (weights : List ℕ) (n m : ℕ) (before : Building) (old table : List ℕ)
+    (r : Building) : Type 0 where
   pub size : length table ≡ length old
-  pub tree : ancestors (r .tree) ≡ nextPlacement codes n m before .tree
-  pub placements : r .placements ≡ set (before .placements) (before .count) (nextPlacement codes n m before .placement)
+  pub tree : ancestors (r .tree) ≡ nextPlacement codes weights n m before .tree
+  pub placements : r .placements ≡ set (before .placements) (before .count) (nextPlacement codes weights n m before .placement)
   pub count : r .count ≡ before .count + 1
-  pub more : r .length ≡ before .length + nextPlacement codes n m before .placement .added
-  pub matrix : new ≡ nextPlacement codes n m before .codes
-  pub keys : AllChanged codes new n m (ancestors (before .tree)) (ancestors (r .tree)) (nextPlacement codes n m before .placement)
-      → Keys order codes n m (ancestors (before .tree)) (before .keys) → Table order codes n m (ancestors (before .tree)) old
-      → Keys order new n m (ancestors (r .tree)) (r .keys) × Table order new n m (ancestors (r .tree)) table
+  pub more : r .length ≡ before .length + nextPlacement codes weights n m before .placement .added
+  pub matrix : new ≡ nextPlacement codes weights n m before .codes
+  pub keys : AllChanged codes new weights n m (ancestors (before .tree)) (ancestors (r .tree))
+      (nextPlacement codes weights n m before .placement)
+      → Keys order codes weights n m (ancestors (before .tree)) (before .keys)
+      → Table order codes weights n m (ancestors (before .tree)) old
+      → Keys order new weights n m (ancestors (r .tree)) (r .keys) × Table order new weights n m (ancestors (r .tree)) table
 
 -- a finished build, and what the matrix then holds
-pub record BuiltFrom (order : Order) (codes new : List ℤ) (n m : ℕ) (r : Building) : Type 0 where
-  pub tree : ancestors (r .tree) ≡ wagnerIn order codes n m .tree
-  pub placements : r .placements ≡ filled mostPlacements noPlacement (wagnerIn order codes n m .placements)
-  pub count : r .count ≡ length (wagnerIn order codes n m .placements)
-  pub matrix : new ≡ matrixAfter codes n (wagnerIn order codes n m)
-  pub whole : r .length ≡ wagnerLength difference n (wagnerIn order codes n m)
+pub record BuiltFrom (order : Order) (codes new : List ℤ) (weights : List ℕ) (n m : ℕ) (r : Building) : Type 0 where
+  pub tree : ancestors (r .tree) ≡ wagnerIn order codes weights n m .tree
+  pub placements : r .placements ≡ filled mostPlacements noPlacement (wagnerIn order codes weights n m .placements)
+  pub count : r .count ≡ length (wagnerIn order codes weights n m .placements)
+  pub matrix : new ≡ matrixAfter codes n (wagnerIn order codes weights n m)
+  pub whole : r .length ≡ wagnerLength (difference weights) n (wagnerIn order codes weights n m)

@@ -15,7 +15,7 @@ ghost use mathlib.Core.Path.{_≡_};
 ghost use Prim.Native.Nat.{_+_, _≤_, _<_, _^_};
 ghost use lib.ListN.{length};
 ghost use Rattle.matrix.specs.Shape.{mostTaxa, mostCharacters};
-ghost use Rattle.matrix.specs.Questions.{LentMatrix, askMatrix};
+ghost use Rattle.matrix.specs.Questions.{LentMatrix, LentWeights, askMatrix};
 ghost use Rattle.wagner.specs.Steps.{Begun, nextPlacement, WithPlacement, OneMore, BuiltFrom};
 ghost use Rattle.wagner.specs.Closeness.{keptSize};
 ghost use Rattle.wagner.specs.Answers.{BuildDone};
@@ -78,42 +78,58 @@ fn place_next(
     order: Order,
     table: &mut [u64],
     matrix: &mut [i32],
+    weights: &[u8],
     n: usize,
     m: usize,
 ) -> Building
     requires { ⌜ (n ≤ mostTaxa) × (m ≤ mostCharacters) × (building .count < 63) × (length (now table) ≡ keptSize)
-        × (building .length + nextPlacement (now matrix) n m building .placement .added < 2 ^ 64) ⌝ }
-    ensures { λ r. ⌜ OneMore order (now (matrix .entry)) (now (matrix .exit)) n m building (now (table .entry)) (now (table .exit)) r ⌝ }
+        × (building .length + nextPlacement (now matrix) (now weights) n m building .placement .added < 2 ^ 64) ⌝ }
+    ensures { λ r. ⌜ OneMore order (now (matrix .entry)) (now (matrix .exit)) (now (weights .entry)) n m building
+        (now (table .entry)) (now (table .exit)) r ⌝ }
 {
     let tree = building.tree;
     let keys = building.keys;
     let b = next_taxon(tree, keys, n);
-    let done = tree.place_unasked(matrix, n, m, b);
+    let done = tree.place_unasked(matrix, weights, n, m, b);
     let larger = done.tree;
     let placement = done.placement;
-    let renewed = next_keys(order, keys, table, matrix, n, m, larger, placement);
+    let renewed = next_keys(order, keys, table, matrix, weights, n, m, larger, placement);
     with_placement(building, done, renewed)
 }
 
 // The Wagner tree of a matrix that no question refuses, with room to keep what is computed of taxa and intervals.
-fn grow(table: &mut [u64], matrix: &mut [i32], n: usize, m: usize, order: Order) -> Building
-    requires { ⌜ LentMatrix (now matrix) n m × (length (now table) ≡ keptSize) ⌝ }
-    ensures { λ r. ⌜ BuiltFrom order (now (matrix .entry)) (now (matrix .exit)) n m r ⌝ }
+fn grow(
+    table: &mut [u64],
+    matrix: &mut [i32],
+    weights: &[u8],
+    n: usize,
+    m: usize,
+    order: Order,
+) -> Building
+    requires { ⌜ LentMatrix (now matrix) n m × LentWeights (now weights) m × (length (now table) ≡ keptSize) ⌝ }
+    ensures { λ r. ⌜ BuiltFrom order (now (matrix .entry)) (now (matrix .exit)) (now (weights .entry)) n m r ⌝ }
 {
-    let keys = advancements(matrix, n, m);
+    let keys = advancements(matrix, weights, n, m);
     let mut building = begun(keys);
     let mut placed = 1;
     while placed < n {
-        building = place_next(building, order, table, matrix, n, m);
+        building = place_next(building, order, table, matrix, weights, n, m);
         placed += 1;
     }
     building
 }
 
 // The Wagner tree after the questions on the matrix: built where they passed; a refusal gives row 1 alone, and writes nothing.
-fn build_asked(asked: Asked, matrix: &mut [i32], n: usize, m: usize, order: Order) -> WagnerTree
-    requires { ⌜ asked ≡ askMatrix (now matrix) n m ⌝ }
-    ensures { λ r. ⌜ BuildDone order (now (matrix .entry)) (now (matrix .exit)) n m r ⌝ }
+fn build_asked(
+    asked: Asked,
+    matrix: &mut [i32],
+    weights: &[u8],
+    n: usize,
+    m: usize,
+    order: Order,
+) -> WagnerTree
+    requires { ⌜ asked ≡ askMatrix (now matrix) (now weights) n m ⌝ }
+    ensures { λ r. ⌜ BuildDone order (now (matrix .entry)) (now (matrix .exit)) (now (weights .entry)) n m r ⌝ }
 {
     match asked {
         Asked::Refused(refusal) => {
@@ -130,7 +146,7 @@ fn build_asked(asked: Asked, matrix: &mut [i32], n: usize, m: usize, order: Orde
         }
         Asked::Passed => {
             let mut table = [0u64; KEPT];
-            let built = grow(&mut table, matrix, n, m, order);
+            let built = grow(&mut table, matrix, weights, n, m, order);
             let tree = built.tree;
             let placements = built.placements;
             WagnerTree {
@@ -144,11 +160,11 @@ fn build_asked(asked: Asked, matrix: &mut [i32], n: usize, m: usize, order: Orde
     }
 }
 
-// The Wagner tree of a lent matrix of n taxa and m characters, in an order of placing. The codes of the HTUs are written into their rows of
-// the matrix; a refusal writes nothing.
-pub fn build(matrix: &mut [i32], n: usize, m: usize, order: Order) -> WagnerTree
-    ensures { λ r. ⌜ BuildDone order (now (matrix .entry)) (now (matrix .exit)) n m r ⌝ }
+// The Wagner tree of a lent matrix of n taxa and m characters, by their weights, in an order of placing. The codes of the HTUs
+// are written into their rows of the matrix; a refusal writes nothing.
+pub fn build(matrix: &mut [i32], weights: &[u8], n: usize, m: usize, order: Order) -> WagnerTree
+    ensures { λ r. ⌜ BuildDone order (now (matrix .entry)) (now (matrix .exit)) (now (weights .entry)) n m r ⌝ }
 {
-    let asked = ask_matrix(matrix, n, m);
-    build_asked(asked, matrix, n, m, order)
+    let asked = ask_matrix(matrix, weights, n, m);
+    build_asked(asked, matrix, weights, n, m, order)
 }

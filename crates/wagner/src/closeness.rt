@@ -24,15 +24,24 @@ const STRIPE: usize = 128;
 pub(crate) const KEPT: usize = KEYS * STRIPE;
 
 // Keeps the interval difference of taxon v from the interval of node c, whose immediate ancestor is the node above.
-fn keep(table: &mut [u64], matrix: &[i32], m: usize, v: usize, c: usize, above: usize)
+fn keep(
+    table: &mut [u64],
+    matrix: &[i32],
+    weights: &[u8],
+    m: usize,
+    v: usize,
+    c: usize,
+    above: usize,
+)
     requires { ⌜ (m ≤ mostCharacters) × (v ≤ mostTaxa) × (length (now table) ≡ keptSize) ⌝ }
     ensures { λ _. ⌜ ((tree : List ℕ) → above ≡ ancestor tree c
-        → KeptOne (now (matrix .entry)) m tree v c (now (table .entry)) (now (table .exit))) ⌝ }
+        → KeptOne (now (matrix .entry)) (now (weights .entry)) m tree v c (now (table .entry)) (now (table .exit))) ⌝ }
 {
     if STRIPE <= c {
         return;
     }
     table[v * STRIPE + c] = interval_difference(
+        weights,
         row(matrix, m, v),
         row(matrix, m, c),
         row(matrix, m, above),
@@ -40,16 +49,25 @@ fn keep(table: &mut [u64], matrix: &[i32], m: usize, v: usize, c: usize, above: 
 }
 
 // Keeps those of taxon v from the three intervals that belong to a placement.
-fn keep_three(table: &mut [u64], matrix: &[i32], m: usize, tree: Tree, v: usize, done: Placement)
+fn keep_three(
+    table: &mut [u64],
+    matrix: &[i32],
+    weights: &[u8],
+    m: usize,
+    tree: Tree,
+    v: usize,
+    done: Placement,
+)
     requires { ⌜ (m ≤ mostCharacters) × (v ≤ mostTaxa) × (length (now table) ≡ keptSize) ⌝ }
-    ensures { λ _. ⌜ KeptThree (now (matrix .entry)) m (ancestors tree) v done (now (table .entry)) (now (table .exit)) ⌝ }
+    ensures { λ _. ⌜ KeptThree (now (matrix .entry)) (now (weights .entry)) m (ancestors tree) v done
+        (now (table .entry)) (now (table .exit)) ⌝ }
 {
     let c = done.lower;
     let y = done.htu;
     let b = done.taxon;
-    keep(table, matrix, m, v, c, tree.ancestor(c));
-    keep(table, matrix, m, v, y, tree.ancestor(y));
-    keep(table, matrix, m, v, b, tree.ancestor(b));
+    keep(table, matrix, weights, m, v, c, tree.ancestor(c));
+    keep(table, matrix, weights, m, v, y, tree.ancestor(y));
+    keep(table, matrix, weights, m, v, b, tree.ancestor(b));
 }
 
 // The least of what is kept of taxon v and the intervals of a tree.
@@ -73,6 +91,7 @@ fn least_kept(table: &[u64], n: usize, tree: Tree, v: usize) -> u64
 fn renewed(
     table: &mut [u64],
     matrix: &[i32],
+    weights: &[u8],
     n: usize,
     m: usize,
     tree: Tree,
@@ -80,12 +99,13 @@ fn renewed(
     done: Placement,
 ) -> u64
     requires { ⌜ (1 ≤ v) × (v ≤ n) × (n ≤ mostTaxa) × (m ≤ mostCharacters) × (length (now table) ≡ keptSize) ⌝ }
-    ensures { λ r. ⌜ RowRenewed (now (matrix .entry)) n m (ancestors tree) v done (now (table .entry)) (now (table .exit)) r ⌝ }
+    ensures { λ r. ⌜ RowRenewed (now (matrix .entry)) (now (weights .entry)) n m (ancestors tree) v done
+        (now (table .entry)) (now (table .exit)) r ⌝ }
 {
     if is_placed(v, tree.ancestor(v)) {
         return 0;
     }
-    keep_three(table, matrix, m, tree, v, done);
+    keep_three(table, matrix, weights, m, tree, v, done);
     least_kept(table, n, tree, v)
 }
 
@@ -94,18 +114,20 @@ fn renew(
     keys: [u64; 65],
     table: &mut [u64],
     matrix: &[i32],
+    weights: &[u8],
     n: usize,
     m: usize,
     tree: Tree,
     done: Placement,
 ) -> [u64; 65]
     requires { ⌜ (n ≤ mostTaxa) × (m ≤ mostCharacters) × (length (now table) ≡ keptSize) ⌝ }
-    ensures { λ r. ⌜ KeysNext Closest (now (matrix .entry)) n m (ancestors tree) done keys (now (table .entry)) (now (table .exit)) r ⌝ }
+    ensures { λ r. ⌜ KeysNext Closest (now (matrix .entry)) (now (weights .entry)) n m (ancestors tree) done keys
+        (now (table .entry)) (now (table .exit)) r ⌝ }
 {
     let mut all = keys;
     let mut v = 1;
     while v <= n {
-        let key = renewed(table, matrix, n, m, tree, v, done);
+        let key = renewed(table, matrix, weights, n, m, tree, v, done);
         all[v] = key;
         v += 1;
     }
@@ -118,16 +140,18 @@ pub(crate) fn next_keys(
     keys: [u64; 65],
     table: &mut [u64],
     matrix: &[i32],
+    weights: &[u8],
     n: usize,
     m: usize,
     tree: Tree,
     done: Placement,
 ) -> [u64; 65]
     requires { ⌜ (n ≤ mostTaxa) × (m ≤ mostCharacters) × (length (now table) ≡ keptSize) ⌝ }
-    ensures { λ r. ⌜ KeysNext order (now (matrix .entry)) n m (ancestors tree) done keys (now (table .entry)) (now (table .exit)) r ⌝ }
+    ensures { λ r. ⌜ KeysNext order (now (matrix .entry)) (now (weights .entry)) n m (ancestors tree) done keys
+        (now (table .entry)) (now (table .exit)) r ⌝ }
 {
     match order {
         Order::Advance => keys,
-        Order::Closest => renew(keys, table, matrix, n, m, tree, done),
+        Order::Closest => renew(keys, table, matrix, weights, n, m, tree, done),
     }
 }

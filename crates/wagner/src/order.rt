@@ -22,14 +22,14 @@ pub enum Order {
 }
 
 // The advancement of each of the taxa 1 to n: its difference from row 1.
-pub(crate) fn advancements(matrix: &[i32], n: usize, m: usize) -> [u64; 65]
+pub(crate) fn advancements(matrix: &[i32], weights: &[u8], n: usize, m: usize) -> [u64; 65]
     requires { ⌜ (n ≤ mostTaxa) × (m ≤ mostCharacters) ⌝ }
-    ensures { λ r. ⌜ Advancements (now (matrix .entry)) n m r ⌝ }
+    ensures { λ r. ⌜ Advancements (now (matrix .entry)) (now (weights .entry)) n m r ⌝ }
 {
     let mut keys = [0; KEYS];
     let mut v = 1;
     while v <= n {
-        keys[v] = difference(row(matrix, m, v), row(matrix, m, 1));
+        keys[v] = difference(weights, row(matrix, m, v), row(matrix, m, 1));
         v += 1;
     }
     keys

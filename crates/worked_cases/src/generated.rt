@@ -1,7 +1,7 @@
 // Matrices of generated codes.
 
 // The next number of a sequence of pseudo-random numbers below 2 ^ 31.
-fn following(number: u64) -> u64 {
+pub(crate) fn following(number: u64) -> u64 {
     ((number % 2147483648) * 1103515245 + 12345) % 2147483648
 }
 

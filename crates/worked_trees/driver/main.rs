@@ -1,6 +1,6 @@
 //! The cases of `src/main.rt`, answered by the reference.
 mod cases;
-use cases::{digest, fill, put};
+use cases::{digest, fill, put, weigh, weigh_by};
 use wagner_reference::data::{Branch, Data};
 use wagner_reference::tree::{build, place, Order, Placement, Tree};
 
@@ -184,6 +184,19 @@ impl Work {
         self.rows(&[&[0, 0], &[4, 4], &[0, 9], &[4, -6], &[-8, 2]]);
         self.show(5, 2, order);
     }
+    fn weights_refused(&mut self, order: Order) {
+        for (weights, n, m) in [([1, 0, 1], 4, 3), ([1, 1, 10], 4, 3), ([255, 1, 1], 4, 3), ([9, 1, 0], 4, 2), ([0, 1, 1], 65, 3)] {
+            weigh(&mut self.data, &weights);
+            self.show(n, m, order);
+        }
+        weigh(&mut self.data, &[1, 1, 0]);
+        self.hand(4, 3, Pairs::alone(), 3);
+        self.hand(4, 3, Pairs::alone().link(2).link(4), 9);
+        weigh(&mut self.data, &[0, 1, 1]);
+        self.hand(4, 129, Pairs::alone(), 3);
+        weigh(&mut self.data, &[1, 1, 0]);
+        self.hand(4, 2, Pairs::alone().link(2), 3);
+    }
     fn builds(&mut self, order: Order) {
         self.refusals(order);
         short(order);
@@ -192,11 +205,24 @@ impl Work {
         self.nearness(order);
         self.renewals(order);
     }
+    fn weighed(&mut self, order: Order) {
+        for weights in [[3, 1, 1], [1, 2, 1], [1, 1, 9]] {
+            weigh(&mut self.data, &weights);
+            self.example(order);
+        }
+        self.weights_refused(order);
+        weigh(&mut self.data, &[9; 128]);
+        self.ends(order);
+        weigh_by(&mut self.data, 4);
+        self.generated(order);
+        weigh(&mut self.data, &[2, 1, 1]);
+        self.nearness(order);
+        weigh(&mut self.data, &[1, 7, 1]);
+        self.renewals(order);
+    }
 }
 
-fn short(order: Order) {
-    let mut data = Data::blank(0, 0);
-    data.matrix.pop();
+fn sizes(mut data: Data, order: Order) {
     line("R", &[build(&mut data, order).unwrap_err().number as u64, 0]);
     data.n = 3;
     data.m = 1;
@@ -208,6 +234,18 @@ fn short(order: Order) {
     }
 }
 
+fn short(order: Order) {
+    let mut codes = Data::blank(0, 0);
+    codes.matrix.pop();
+    sizes(codes, order);
+    let mut fewer = Data::blank(0, 0);
+    fewer.weights.pop();
+    sizes(fewer, order);
+    let mut more = Data::blank(0, 0);
+    more.weights.push(1);
+    sizes(more, order);
+}
+
 fn main() {
     let mut work = Work { data: Data::blank(4, 3) };
     work.example(Order::Advance);
@@ -217,4 +255,10 @@ fn main() {
     work.builds(Order::Advance);
     work.example(Order::Closest);
     work.builds(Order::Closest);
+    work.weighed(Order::Advance);
+    work.weighed(Order::Closest);
+    weigh(&mut work.data, &[2, 5, 3]);
+    work.example(Order::Closest);
+    work.one_by_one();
+    work.handed_in();
 }

@@ -22,12 +22,13 @@ slice-aggregate-grow c = search needs
 grow-requires : tie.Need-grow-requires
 grow-requires c κs =
     let told = c .before .before in
-    (matrix-passes _ _ _ .0 (sym (told .before .before .pre) ∙ told .enum-told .given .1), refl)
+    let passed = matrix-passes _ _ _ _ .0 (sym (told .before .before .before .pre) ∙ told .enum-told .given .1) in
+    (passed .0, passed .1, refl)
 
 returns : tie.Need-returns
 returns c =
     let told = c .before .before .before .before in
-    build-refused _ _ _ _ _ _ (sym (told .before .before .pre) ∙ told .asked .given .1) _ (c .before .before .begun .ensures)
+    build-refused _ _ _ _ _ _ _ (sym (told .before .before .before .pre) ∙ told .asked .given .1) _ (c .before .before .begun .ensures)
 
 same-length : tie.Need-same-length
 same-length c = search needs
@@ -36,7 +37,7 @@ returns-2 : tie.Need-returns-2
 returns-2 c =
     let grown = c .before .before .before .before in
     let told = grown .before .before .before in
-    build-passed _ _ _ _ _ _ (sym (told .before .before .pre) ∙ told .enum-told .given .1) (grown .grow .ensures)
+    build-passed _ _ _ _ _ _ _ (sym (told .before .before .before .pre) ∙ told .enum-told .given .1) (grown .grow .ensures)
 
 pub build-asked-spec : {M : Type 1} → statement M
 build-asked-spec =

@@ -17,8 +17,8 @@ with-placement-requires : tie.Need-with-placement-requires
 with-placement-requires c κs =
     let place = c .before .before .before .before .before .before .before .before in
     let next = place .before .before in
-    let start = next .before .before .before .before in
-    let same = next-done _ _ _ _ (start .args .building) _ _ (next .next-taxon .ensures .is) (place .place-unasked .ensures) in
+    let start = next .before .before .before .before .before in
+    let same = next-done _ _ _ _ _ (start .args .building) _ _ (next .next-taxon .ensures .is) (place .place-unasked .ensures) in
     (start .pre .2, rw same (start .pre .4))
 
 same-length : tie.Need-same-length
@@ -31,7 +31,7 @@ returns : tie.Need-returns
 returns c =
     let place = c .before .before .before .before .before .before .before .before .before in
     let next = place .before .before in
-    next-more _ _ _ _ _ _ _ (next .next-taxon .ensures .is) (place .place-unasked .ensures)
+    next-more _ _ _ _ _ _ _ _ (next .next-taxon .ensures .is) (place .place-unasked .ensures)
     _ _ _ _ (c .before .before .before .next-keys .ensures) _
     (c .with-placement .ensures)
 

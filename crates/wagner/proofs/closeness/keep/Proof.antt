@@ -9,7 +9,7 @@ use Rattle.wagner.proofs.closeness.keep.Statement.{statement}
 use Rattle.wagner.proofs.closeness.keep.Tie as tie
 
 returns : tie.Need-returns
-returns c tree above = none-kept _ _ tree _ _ _ (c .if1 .taken)
+returns c tree above = none-kept _ _ _ tree _ _ _ (c .if1 .taken)
 
 row-requires : tie.Need-row-requires
 row-requires c κs = search needs
@@ -40,10 +40,11 @@ same-length c = search needs
 
 returns-2 : tie.Need-returns-2
 returns-2 c tree above =
-    let start = c .before .before .before .before .before .before in
+    let start = c .before .before .before .before .before .before .before in
     let low : start .args .c < stripe = omega (arith, c .before .before .before .before .if1 .left) in
-    one-kept _ _ tree _ _ _ _ low (start .pre .1) (start .pre .2)
-    (interval-rows _ _ _ _ _ _ tree _ _ _ (start .pre .0) above (c .before .before .before .row .ensures) (c .before .before .row2 .ensures)
+    one-kept _ _ _ tree _ _ _ _ low (start .pre .1) (start .pre .2)
+    (interval-rows _ _ _ _ _ _ _ tree _ _ _ (start .pre .0) above (c .before .before .before .row .ensures)
+    (c .before .before .row2 .ensures)
     (c .before .row3 .ensures) (c .interval-difference .ensures))
 
 pub keep-spec : {M : Type 1} → statement M

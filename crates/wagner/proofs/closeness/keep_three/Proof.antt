@@ -30,7 +30,7 @@ returns c =
     let taxon = c .before .before in
     let htu = taxon .before .before .before .before .before in
     let lower = htu .before .before .before .before .before in
-    three-kept _ _ _ _ _ _ _ _ _ (lower .keep .ensures _ (lower .before .ancestor .ensures))
+    three-kept _ _ _ _ _ _ _ _ _ _ (lower .keep .ensures _ (lower .before .ancestor .ensures))
     (htu .keep2 .ensures _ (htu .before .ancestor2 .ensures)) (taxon .keep3 .ensures _ (taxon .before .ancestor3 .ensures))
 
 pub keep-three-spec : {M : Type 1} → statement M

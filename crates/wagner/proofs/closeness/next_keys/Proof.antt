@@ -14,13 +14,13 @@ renew-requires : tie.Need-renew-requires
 renew-requires c κs = search needs
 
 returns : tie.Need-returns
-returns c = advance-stays _ _ _ _ _ _ _ _ (c .enum-told .given .1)
+returns c = advance-stays _ _ _ _ _ _ _ _ _ (c .enum-told .given .1)
 
 same-length : tie.Need-same-length
 same-length c = search needs
 
 returns-2 : tie.Need-returns-2
-returns-2 c = closest-renewed _ _ _ _ _ _ _ _ (c .before .before .before .before .enum-told2 .given .1)
+returns-2 c = closest-renewed _ _ _ _ _ _ _ _ _ (c .before .before .before .before .enum-told2 .given .1)
     _ _ (c .before .before .renew .ensures)
 
 pub next-keys-spec : {M : Type 1} → statement M

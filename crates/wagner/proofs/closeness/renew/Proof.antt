@@ -12,23 +12,23 @@ use Rattle.wagner.proofs.closeness.renew.Statement.{statement}
 use Rattle.wagner.proofs.closeness.renew.Tie as tie
 
 abbrev Inv-loop : tie.InvT-loop
-Inv-loop table₀ matrix n m tree done all₀ v₀ table all v =
+Inv-loop table₀ matrix weights n m tree done all₀ v₀ table all v =
     (1 ≤ v)
     × (v ≤ n + 1)
     × (n ≤ 64)
     × (m ≤ 128)
     × (length table ≡ length table₀)
     × (length table₀ ≡ keptSize)
-    × RenewedUpTo matrix n m (ancestors tree) done table₀ v table all
+    × RenewedUpTo matrix weights n m (ancestors tree) done table₀ v table all
 
 abbrev μ-loop : tie.MeasureT-loop
-μ-loop table₀ matrix n m tree done all₀ v₀ table all v = n + 1 - v
+μ-loop table₀ matrix weights n m tree done all₀ v₀ table all v = n + 1 - v
 
 loop-holds : tie.Need-loop-holds Inv-loop μ-loop
 loop-holds c =
-    let size : length (c .before .args .keys) ≡ 65 = search needs in
-    let pre = c .before .pre in
-    (omega arith, omega arith, pre .0, pre .1, refl, pre .2, renewed-start _ _ _ (pre .0) _ _ _ _ size)
+    let size : length (c .before .before .args .keys) ≡ 65 = search needs in
+    let pre = c .before .before .pre in
+    (omega arith, omega arith, pre .0, pre .1, refl, pre .2, renewed-start _ _ _ _ (pre .0) _ _ _ _ size)
 
 renewed-requires : tie.Need-renewed-requires Inv-loop μ-loop
 renewed-requires c κs = search needs
@@ -55,7 +55,7 @@ loop-again c =
       inv .3,
       row .renewed .ensures .size ∙ inv .4,
       inv .5,
-      renewed-next _ _ _ (inv .2) _ _ _ _ _ _ _ _ (omega arith) (inv .6) (row .renewed .ensures),
+      renewed-next _ _ _ _ (inv .2) _ _ _ _ _ _ _ _ (omega arith) (inv .6) (row .renewed .ensures),
     )
 
 same-length : tie.Need-same-length Inv-loop μ-loop
@@ -64,7 +64,7 @@ same-length c = c .before .loop .inv .4
 returns : tie.Need-returns Inv-loop μ-loop
 returns c =
     let loop = c .before .loop in
-    renewed-all _ _ _ (loop .inv .2) _ _ _ _ (loop .v) _ _ (omega (arith, c .loop-test .left, loop .inv .1)) (loop .inv .6)
+    renewed-all _ _ _ _ (loop .inv .2) _ _ _ _ (loop .v) _ _ (omega (arith, c .loop-test .left, loop .inv .1)) (loop .inv .6)
 
 pub renew-spec : {M : Type 1} → statement M
 renew-spec =

@@ -19,8 +19,8 @@ is-placed-requires c κs = search needs
 
 returns : tie.Need-returns
 returns c =
-    let tree = ancestors (c .before .before .before .before .args .tree) in
-    placed-renewed _ _ _ tree _ _ _ _
+    let tree = ancestors (c .before .before .before .before .before .args .tree) in
+    placed-renewed _ _ _ _ tree _ _ _ _
     (λ u. true≢false
     (sym (c .if1 .taken)
     ∙ c .before .is-placed .ensures tree (c .before .before .ancestor .ensures)
@@ -33,7 +33,7 @@ least-kept-requires : tie.Need-least-kept-requires
 least-kept-requires c κs =
     let kept = c .before .before .before in
     let test = kept .before .before in
-    let start = test .before .before .before .before in
+    let start = test .before .before .before .before .before in
     let tree = ancestors (start .args .tree) in
     let other =
     not-row-one tree _ (sym (test .before .is-placed .ensures tree (test .before .before .ancestor .ensures)) ∙ test .if1 .left) in
@@ -46,8 +46,8 @@ same-length c = search needs
 returns-2 : tie.Need-returns-2
 returns-2 c =
     let kept = c .before .before .before .before in
-    let start = kept .before .before .before .before .before .before in
-    row-renewed _ _ _ (start .pre .2) _ _ _ _ _ (kept .keep-three .ensures) _ (c .least-kept .ensures)
+    let start = kept .before .before .before .before .before .before .before in
+    row-renewed _ _ _ _ (start .pre .2) _ _ _ _ _ (kept .keep-three .ensures) _ (c .least-kept .ensures)
 
 pub renewed-spec : {M : Type 1} → statement M
 renewed-spec =

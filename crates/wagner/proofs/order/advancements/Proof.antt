@@ -13,19 +13,19 @@ use Rattle.wagner.proofs.order.advancements.Statement.{statement}
 use Rattle.wagner.proofs.order.advancements.Tie as tie
 
 abbrev Inv-loop : tie.InvT-loop
-Inv-loop matrix n m keys₀ v₀ keys v =
+Inv-loop matrix weights n m keys₀ v₀ keys v =
     (1 ≤ v)
     × (v ≤ n + 1)
     × (n ≤ 64)
     × (m ≤ 128)
     × (length keys ≡ 65)
-    × ((u : ℕ) → 1 ≤ u → u < v → keyOf keys u ≡ nodeDifference difference (row matrix m) u 1)
+    × ((u : ℕ) → 1 ≤ u → u < v → keyOf keys u ≡ nodeDifference (difference weights) (row matrix m) u 1)
 
 abbrev μ-loop : tie.MeasureT-loop
-μ-loop matrix n m keys₀ v₀ keys v = n + 1 - v
+μ-loop matrix weights n m keys₀ v₀ keys v = n + 1 - v
 
 loop-holds : tie.Need-loop-holds Inv-loop μ-loop
-loop-holds c = (omega arith, omega arith, c .pre .0, c .pre .1, refl, λ u low high. absurd (omega arith))
+loop-holds c = (omega arith, omega arith, c .before .pre .0, c .before .pre .1, refl, λ u low high. absurd (omega arith))
 
 row-requires : tie.Need-row-requires Inv-loop μ-loop
 row-requires c κs = search needs
@@ -52,12 +52,12 @@ loop-again : tie.Need-loop-again Inv-loop μ-loop
 loop-again c =
     let at = c .before .before .before .before in
     let inv = at .loop .inv in
-    let a = at .before .args in
+    let a = at .before .before .args in
     let codes = a .matrix .now in
     let v = at .loop .v in
     let is =
     c .difference .ensures .is
-    ∙ ap₂ difference
+    ∙ ap₂ (difference (a .weights .now))
     (ap (take 128) (c .before .before .row .ensures) ∙ row-128 codes (a .m) v (inv .3))
     (ap (take 128) (c .before .row2 .ensures) ∙ row-128 codes (a .m) 1 (inv .3)) in (
       omega arith,
@@ -65,7 +65,7 @@ loop-again c =
       inv .2,
       inv .3,
       simp length-set (inv .4),
-      key-next codes (a .m) (at .loop .keys) v _ (omega arith) is (inv .5),
+      key-next codes (a .weights .now) (a .m) (at .loop .keys) v _ (omega arith) is (inv .5),
     )
 
 returns : tie.Need-returns Inv-loop μ-loop

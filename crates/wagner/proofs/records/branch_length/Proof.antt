@@ -24,7 +24,7 @@ returns : tie.Need-returns
 unfolding lengthIn nodeDifference
 returns c =
     c .difference .ensures .is
-    ∙ ap₂ difference
+    ∙ ap₂ (difference _)
     (ap (take 128) (c .before .before .row .ensures))
     (ap (take 128) (c .before .row2 .ensures ∙ ap (row _ _) (c .before .before .before .ancestor .ensures)))
 

@@ -14,8 +14,8 @@ with-records-requires c κs = search needs
 
 returns : tie.Need-returns
 returns c =
-    let size : length (c .before .before .args .records) ≡ 125 = search needs in
-    c .with-records .ensures ∙ lengths-records _ _ _ _ _ _ size (c .before .lengths .ensures)
+    let size : length (c .before .before .before .args .records) ≡ 125 = search needs in
+    c .with-records .ensures ∙ lengths-records _ _ _ _ _ _ _ size (c .before .lengths .ensures)
 
 pub branches-spec : {M : Type 1} → statement M
 branches-spec = tie.close (tie.spec lengths-requires with-records-requires returns)

@@ -12,11 +12,11 @@ use Rattle.wagner.proofs.records.lengths.Statement.{statement}
 use Rattle.wagner.proofs.records.lengths.Tie as tie
 
 abbrev Inv-loop : tie.InvT-loop
-Inv-loop matrix m tree all₀ v₀ all v =
-    (v ≤ 127) × (length all ≡ 127) × ((u : ℕ) → u < v → getD all u 0 ≡ lengthIn matrix m u (ancestor (ancestors tree) u))
+Inv-loop matrix weights m tree all₀ v₀ all v =
+    (v ≤ 127) × (length all ≡ 127) × ((u : ℕ) → u < v → getD all u 0 ≡ lengthIn matrix weights m u (ancestor (ancestors tree) u))
 
 abbrev μ-loop : tie.MeasureT-loop
-μ-loop matrix m tree all₀ v₀ all v = 127 - v
+μ-loop matrix weights m tree all₀ v₀ all v = 127 - v
 
 loop-holds : tie.Need-loop-holds Inv-loop μ-loop
 loop-holds c = (omega arith, refl, λ u h. absurd (omega arith))
@@ -40,7 +40,7 @@ loop-again : tie.Need-loop-again Inv-loop μ-loop
 loop-again c =
     let loop = c .before .before .loop in
     let inv = loop .inv in
-    (omega arith, simp length-set (inv .1), length-next _ _ _ (loop .all) (loop .v) _ (omega arith) (c .branch-length .ensures) (inv .2))
+    (omega arith, simp length-set (inv .1), length-next _ _ _ _ (loop .all) (loop .v) _ (omega arith) (c .branch-length .ensures) (inv .2))
 
 returns : tie.Need-returns Inv-loop μ-loop
 returns c =
