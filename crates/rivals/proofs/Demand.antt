@@ -1,15 +1,18 @@
 -- Demand 3 holds for every accepted matrix.
-use mathlib.Core.Path.{_≡_}
+use mathlib.Core.Path.{_≡_, subst, subst⁻¹}
+use mathlib.Core.Logic.{_↔_}
 use mathlib.Core.Bool.{true}
 use mathlib.Core.List.{List}
 use Prim.Native.Nat.{ℕ, _≤_}
 use lib.IntN.{ℤ}
+use Rattle.matrix.specs.Shape.{weightAt}
 use Rattle.matrix.specs.NodeRows.{rowOf}
-use Rattle.matrix.specs.Questions.{withinLimits, oneTo}
+use Rattle.matrix.specs.Questions.{withinLimits, oneTo, areWeights}
 use Rattle.lists.proofs.Both.{and-left, and-right}
 use Rattle.matrix.proofs.Passing.{oneTo-true}
-use Rattle.difference.specs.Rows.{difference, plain, nodeDifference}
+use Rattle.difference.specs.Rows.{difference, weighing, plain, nodeDifference}
 use Rattle.difference.proofs.Laws.Rows.{difference-sym}
+use Rattle.difference.proofs.Laws.Measure.{measure-alike}
 use Rattle.prim.specs.Rival.{Shortest}
 use Rattle.prim.proofs.Shortest.{shortest}
 use Rattle.branching.specs.Growing.{branching}
@@ -30,29 +33,41 @@ unfolding withinLimits
 taxa-limits n m e = oneTo-true 64 n (and-left (oneTo 64 n) (oneTo 128 m) e)
 
 -- the network
-network-shortest : (rows : List (List ℤ)) (n : ℕ) → Shortest (nodeDifference difference (rowOf rows)) n
+network-shortest : (weights : List ℕ) (rows : List (List ℤ)) (n : ℕ) → Shortest (nodeDifference (difference weights) (rowOf rows)) n
 unfolding nodeDifference
-network-shortest rows n = shortest (nodeDifference difference (rowOf rows)) (λ x y. difference-sym (rowOf rows x) (rowOf rows y)) n
+network-shortest weights rows n =
+    shortest (nodeDifference (difference weights) (rowOf rows)) (λ x y. difference-sym weights (rowOf rows x) (rowOf rows y)) n
 
 -- the fit
-fit-least : (n m : ℕ) (tree : List ℕ) (rows : List (List ℤ)) → 1 ≤ n → branching n tree ≡ true → FitIsLeast (plain .step) tree rows n m
-fit-least n m tree rows taxa b = third-rival n m tree rows taxa (branching-iff tree n taxa .0 b)
+fit-least : (weights : List ℕ) (n m : ℕ) (tree : List ℕ) (rows : List (List ℤ)) → 1 ≤ n → areWeights weights m ≡ true
+    → branching n tree ≡ true → FitIsLeast (weighing weights .step) tree rows n m
+fit-least weights n m tree rows taxa known b = third-rival weights n m tree rows taxa known (branching-iff tree n taxa .0 b)
 
 -- for every accepted matrix
-pub no-rival : (n m : ℕ) (rows : List (List ℤ)) → Accepted n m rows → NoRivalDoesBetter plain n m rows
+pub no-rival : (n m : ℕ) (weights : List ℕ) (rows : List (List ℤ)) → Accepted n m weights rows
+    → NoRivalDoesBetter (weighing weights) n m rows
 unfolding lentBranching
-no-rival n m rows a =
+no-rival n m weights rows a =
     let matrix = accepted-rows a in
     let limits = taxa-limits n m (matrix .limits) in
     record {
-      network = network-shortest rows n;
-      placement = handed-least n m (limits .0) (limits .1) rows matrix;
-      build = λ order. wagner-least n m (limits .0) (limits .1) order rows matrix;
+      network = network-shortest weights rows n;
+      placement = handed-least weights n m (limits .0) (limits .1) rows matrix;
+      build = λ order. wagner-least weights n m (limits .0) (limits .1) order rows matrix;
       whole = λ order.
-          branching-iff (wagner difference order n rows .tree) n (limits .0) .1
-          (wagner-branching difference order n (limits .0) (limits .1) rows);
-      fit = λ tree b. fit-least n m tree rows (limits .0) b;
+          branching-iff (wagner (difference weights) order n rows .tree) n (limits .0) .1
+          (wagner-branching (difference weights) order n (limits .0) (limits .1) rows);
+      fit = λ tree b. fit-least weights n m tree rows (limits .0) (matrix .weighed) b;
       lentFit = λ records b.
-          fit-least n m (ancestorsOf n records) rows (limits .0) (and-right (namedInOrder n records) (branching n
+          fit-least weights n m (ancestorsOf n records) rows (limits .0) (matrix .weighed) (and-right (namedInOrder n records) (branching n
           (ancestorsOf n records)) b);
     }
+
+-- where every character weighs 1 the claim is document 01's
+pub no-rival-alike : (n m : ℕ) (weights : List ℕ) (rows : List (List ℤ)) → ((i : ℕ) → weightAt weights i ≡ 1)
+    → NoRivalDoesBetter (weighing weights) n m rows ↔ NoRivalDoesBetter plain n m rows
+no-rival-alike n m weights rows alike =
+    let same = measure-alike weights alike in (
+      λ claim. subst (λ measure. NoRivalDoesBetter measure n m rows) same claim,
+      λ claim. subst⁻¹ (λ measure. NoRivalDoesBetter measure n m rows) same claim,
+    )

@@ -10,10 +10,10 @@ use Rattle.lists.specs.Numbers.{numbers}
 use Rattle.lists.specs.Sums.{sumOver}
 use Rattle.lists.specs.Tests.{every}
 use Rattle.matrix.specs.NodeRows.{rowOf}
-use Rattle.matrix.specs.Shape.{inRange, lastNode}
+use Rattle.matrix.specs.Shape.{inRange, weightAt, lastNode}
 use Rattle.matrix.specs.Questions.{allInRange}
 use Rattle.matrix_file.specs.Job.{hasCodes}
-use Rattle.difference.specs.Rows.{apart, lower, higher, median, medians, difference, intervalBy, nodeDifference}
+use Rattle.difference.specs.Rows.{apart, part, lower, higher, median, medians, difference, intervalBy, nodeDifference}
 use Rattle.branching.specs.declared.placement.Placement.{Placement}
 use Rattle.branching.specs.Ancestors.{ancestor, descendants}
 use Rattle.branching.specs.Nodes.{hasAncestor, inTree, nodesIn, otherNodes, taxaPlaced}
@@ -72,18 +72,22 @@ unfolding noBranches numbers keep every lastNode ancestor descendants hasAncesto
 handed-four =
     record { places = refl; growing = refl; count = refl; codes = record { full = refl; known = refl }; intervals = refl }
 
+-- all characters weigh 1
+abbrev alike : List ℕ
+alike = 1 ∷ 1 ∷ 1 ∷ []
+
 -- our placement of a taxon on a tree, with the rows of its HTUs
 unfoldable pub placement : List ℕ → List (List ℤ) → ℕ → Placement
 unfolding noBranches numbers keep lastNode ancestor hasAncestor inTree nodesIn otherNodes taxaPlaced apart lower higher median medians
-    difference intervalBy nodeDifference nodeInterval medianRow fromInterval firstLeast leastOf nearestInterval linkFirst hang placeOn place
+    part weightAt difference intervalBy nodeDifference nodeInterval medianRow fromInterval firstLeast leastOf nearestInterval linkFirst hang placeOn place
     linked hung nextHtu rowOf
-placement tree htus b = place difference 5 tree (rows ++ htus) b .placement
+placement tree htus b = place (difference alike) 5 tree (rows ++ htus) b .placement
 
 -- the length with E hung on the interval of a node through an HTU with some codes
 unfoldable pub lengthWith : ℕ → List ℤ → ℕ
-unfolding noBranches numbers keep ancestor hasAncestor inTree nodesIn otherNodes taxaPlaced apart difference nodeDifference treeLength
+unfolding noBranches numbers keep ancestor hasAncestor inTree nodesIn otherNodes taxaPlaced apart part weightAt difference nodeDifference treeLength
     lengthUnder hung nextHtu hungLength sumOver rowOf
-lengthWith c r = hungLength difference 5 four (rows ++ (first ∷ second ∷ [])) 5 c r
+lengthWith c r = hungLength (difference alike) 5 four (rows ++ (first ∷ second ∷ [])) 5 c r
 
 -- placements and hangings on these trees
 pub record Examples : Type 0 where

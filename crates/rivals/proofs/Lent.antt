@@ -16,8 +16,8 @@ use Rattle.matrix.specs.Shape.{row}
 use Rattle.matrix.specs.Questions.{allInRange, htuInRange, htusInRange, askMatrix}
 use Rattle.matrix.specs.declared.refusal.Asked.the-variants.{Passed}
 use Rattle.matrix.specs.declared.refusal.Refusal.the-variants.{NotBranching, ListSize}
-use Rattle.matrix.proofs.Passing.{ask-passed, andThen-passed, matrix-passes}
-use Rattle.difference.specs.Rows.{difference, nodeDifference, plain}
+use Rattle.matrix.proofs.Passing.{ask-passed, andThen-passed, matrix-passed}
+use Rattle.difference.specs.Rows.{difference, nodeDifference, weighing}
 use Rattle.prim.specs.Network.{network}
 use Rattle.prim.proofs.Agreement.{network-agrees}
 use Rattle.branching.specs.Nodes.{taxaPlaced}
@@ -39,12 +39,12 @@ use Rattle.branching.specs.Asking.{htusOf, askBranching, branchesSize}
 use Rattle.matrix.proofs.NodeRows.{rowOf-rowsOf}
 
 -- the network that the call answers is the one that the claim and the listing speak of
-pub same-network : (codes : List ℤ) (n m : ℕ)
-    → network (nodeDifference difference (rowOf (rowsOf codes m n))) n ≡ network (nodeDifference difference (row codes m)) n
+pub same-network : (codes : List ℤ) (weights : List ℕ) (n m : ℕ)
+    → network (nodeDifference (difference weights) (rowOf (rowsOf codes m n))) n ≡ network (nodeDifference (difference weights) (row codes m)) n
 unfolding nodeDifference
-same-network codes n m =
-    network-agrees (nodeDifference difference (rowOf (rowsOf codes m n))) (nodeDifference difference (row codes m)) n
-    (λ x y tx ty. ap₂ difference (rowOf-rowsOf codes m n x (tx .0) (tx .1)) (rowOf-rowsOf codes m n y (ty .0) (ty .1)))
+same-network codes weights n m =
+    network-agrees (nodeDifference (difference weights) (rowOf (rowsOf codes m n))) (nodeDifference (difference weights) (row codes m)) n
+    (λ x y tx ty. ap₂ (difference weights) (rowOf-rowsOf codes m n x (tx .0) (tx .1)) (rowOf-rowsOf codes m n y (ty .0) (ty .1)))
 
 -- a test of the rows of some nodes, row by row
 rows-every : (test : List ℤ → Bool) (codes : List ℤ) (m first count : ℕ)
@@ -59,7 +59,7 @@ rows-every test codes m first count h = every-from test [] (map (row codes m) (n
         rw (map-numbers (row codes m) [] first count i small) (h (first + i) (omega arith) (omega arith))
 
 -- a tree and a taxon that the questions of a placement let pass
-module _ (codes : List ℤ) (n m : ℕ) (tree : List ℕ) (b : ℕ) (asked : PlacementAsked codes n m tree b) where
+module _ (codes : List ℤ) (weights : List ℕ) (n m : ℕ) (tree : List ℕ) (b : ℕ) (asked : PlacementAsked codes weights n m tree b) where
   -- behind the rows of the taxa, those of the HTUs make the rows of all nodes of the tree
   rows-behind : rowsOf codes m n ++ map (row codes m) (htusOf n tree) ≡ rowsOf codes m (n + (taxaPlaced n tree - 2))
   unfolding rowsOf htusOf
@@ -72,7 +72,7 @@ module _ (codes : List ℤ) (n m : ℕ) (tree : List ℕ) (b : ℕ) (asked : Pla
   htu-rows : CodeRows m (map (row codes m) (htusOf n tree))
   unfolding htusOf htusInRange htuInRange hasCodes
   htu-rows =
-      let lent = matrix-passes codes n m .0 (asked .matrix) in
+      let lent = matrix-passed codes weights n m (asked .matrix) in
       record {
         full = rows-every (hasCodes m) codes m (n + 1) (taxaPlaced n tree - 2) (λ v low high.
             eq-eqb _ _
@@ -103,19 +103,19 @@ module _ (codes : List ℤ) (n m : ℕ) (tree : List ℕ) (b : ℕ) (asked : Pla
 
   -- on a tree that is not row 1 alone our placement is least
   pub placement-lent : length tree ≡ 127 → rowOneAlone tree ≡ false
-      → PlacementIsLeast difference n m tree (rowsOf codes m (n + (taxaPlaced n tree - 2))) b
-      (place difference n tree (rowsOf codes m (n + (taxaPlaced n tree - 2))) b)
+      → PlacementIsLeast (difference weights) n m tree (rowsOf codes m (n + (taxaPlaced n tree - 2))) b
+      (place (difference weights) n tree (rowsOf codes m (n + (taxaPlaced n tree - 2))) b)
   placement-lent places several =
       rw (← rows-behind)
-      (no-rival n m (rowsOf codes m n) (matrixLent codes n m (asked .matrix)) .placement tree _ (handed-in places several) b
+      (no-rival n m weights (rowsOf codes m n) (matrixLent codes weights n m (asked .matrix)) .placement tree _ (handed-in places several) b
       (asked .unplaced))
 
 -- a lent branching that no question refuses: the fit on it is least
-pub fit-lent : (codes : List ℤ) (n m : ℕ) (records : List Branch) → askBranching codes n m records ≡ Passed
-    → FitIsLeast (plain .step) (ancestorsOf n records) (rowsOf codes m n) n m
+pub fit-lent : (codes : List ℤ) (weights : List ℕ) (n m : ℕ) (records : List Branch) → askBranching codes weights n m records ≡ Passed
+    → FitIsLeast (weighing weights .step) (ancestorsOf n records) (rowsOf codes m n) n m
 unfolding askBranching
-fit-lent codes n m records e =
+fit-lent codes weights n m records e =
     let size = ask-passed (eqb (length records) branchesSize) ListSize _ e in
-    let matrix = andThen-passed (askMatrix codes n m) _ (size .1) in
+    let matrix = andThen-passed (askMatrix codes weights n m) _ (size .1) in
     let whole = ask-passed (lentBranching n records) NotBranching Passed (matrix .1) in
-    no-rival n m (rowsOf codes m n) (matrixLent codes n m (matrix .0)) .lentFit records (whole .0)
+    no-rival n m weights (rowsOf codes m n) (matrixLent codes weights n m (matrix .0)) .lentFit records (whole .0)

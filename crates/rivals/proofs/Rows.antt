@@ -6,17 +6,18 @@ use Prim.Native.Nat.{ℕ, _+_, _-_, _≤_, _<_}
 use native.Mathlib.Omega.{arith}
 use borrow.Author.Tests.{eqb-true, eq-eqb}
 use lib.IntN.{ℤ}
-use lib.ListN.{length, getD}
+use lib.ListN.{length, getD, take}
+use lib.Seq.{take-all}
 use Rattle.matrix.proofs.NodeRows.{rowOf-rowsOf, length-rowsOf}
 use Rattle.branching.proofs.RowLengths.{OfLength}
 use Rattle.matrix.specs.NodeRows.{rowOf, rowsOf}
 use Rattle.lists.specs.Tests.{every}
-use Rattle.matrix.specs.Shape.{row}
-use Rattle.matrix.specs.Questions.{withinLimits, allInRange, askMatrix, LentMatrix}
+use Rattle.matrix.specs.Shape.{row, isWeight}
+use Rattle.matrix.specs.Questions.{withinLimits, allInRange, areWeights, askMatrix, LentMatrix}
 use Rattle.matrix.specs.declared.refusal.Asked.the-variants.{Passed}
 use Rattle.lists.proofs.Both.{and-both}
 use Rattle.lists.proofs.Every.{every-at, every-from, every-append}
-use Rattle.matrix.proofs.Passing.{matrix-passes, true-oneTo}
+use Rattle.matrix.proofs.Passing.{matrix-passed, weights-passed, true-oneTo}
 use Rattle.matrix.proofs.Row.{row-length}
 use Rattle.matrix_file.specs.Job.{Job, hasCodes}
 use Rattle.matrix.specs.Outcomes.{value}
@@ -37,18 +38,24 @@ rows-append m rows more p q =
       known = every-append allInRange rows more (p .known) (q .known);
     }
 
--- n rows of m codes within the limits
-pub record MatrixRows (n m : ℕ) (rows : List (List ℤ)) : Type 0 where
+-- n rows of m codes within the limits, and m weights from 1 to 9
+pub record MatrixRows (n m : ℕ) (weights : List ℕ) (rows : List (List ℤ)) : Type 0 where
   pub limits : withinLimits n m ≡ true
+  pub weighed : areWeights weights m ≡ true
   pub count : length rows ≡ n
   pub codes : CodeRows m rows
 
+-- the first m of m numbers are all of them
+take-whole : (m : ℕ) (xs : List ℕ) → length xs ≡ m → take m xs ≡ xs
+take-whole m xs e = take-all m xs (omega arith)
+
 -- such are the rows of a file that a read accepts
-rows-read : (file : List ℕ) (job : Job) → readAnswer file ≡ value job → MatrixRows (job .n) (job .m) (job .rows)
+rows-read : (file : List ℕ) (job : Job) → readAnswer file ≡ value job → MatrixRows (job .n) (job .m) (job .weights) (job .rows)
 rows-read file job e =
     let within = file-of-read file job e .0 in
     record {
       limits = within .limits;
+      weighed = unfold areWeights in ap (every isWeight) (take-whole (job .m) (job .weights) (within .weight-count)) ∙ within .weights-known;
       count = within .row-count;
       codes = record { full = within .rows-full; known = within .codes-in-range };
     }
@@ -71,11 +78,13 @@ rows-from test codes m n h = every-from test [] (rowsOf codes m n) at-place
         rw (row-at codes m n i small) (h (i + 1) (omega arith) (omega arith))
 
 -- and those of a lent matrix that passes its questions
-rows-lent : (codes : List ℤ) (n m : ℕ) → askMatrix codes n m ≡ Passed → MatrixRows n m (rowsOf codes m n)
+rows-lent : (codes : List ℤ) (weights : List ℕ) (n m : ℕ) → askMatrix codes weights n m ≡ Passed
+    → MatrixRows n m weights (rowsOf codes m n)
 unfolding withinLimits hasCodes
-rows-lent codes n m e =
-    let lent = matrix-passes codes n m .0 e in
+rows-lent codes weights n m e =
+    let lent = matrix-passed codes weights n m e in
     record {
+      weighed = weights-passed codes weights n m e .known;
       limits = and-both (true-oneTo 64 n (lent .taxon) (lent .taxa)) (true-oneTo 128 m (lent .character) (lent .characters));
       count = length-rowsOf codes m n;
       codes = record {
@@ -88,7 +97,7 @@ rows-lent codes n m e =
     full lent v low high =
         eq-eqb _ _ (row-length codes m v (lent .full) (lent .characters) low (omega (arith, lent .taxa)))
 
--- an accepted matrix has n rows of m codes within the limits
-pub accepted-rows : {n m : ℕ} {rows : List (List ℤ)} → Accepted n m rows → MatrixRows n m rows
+-- an accepted matrix has n rows of m codes within the limits, and m weights
+pub accepted-rows : {n m : ℕ} {weights : List ℕ} {rows : List (List ℤ)} → Accepted n m weights rows → MatrixRows n m weights rows
 accepted-rows (fileRead file job e) = rows-read file job e
-accepted-rows (matrixLent codes n m e) = rows-lent codes n m e
+accepted-rows (matrixLent codes weights n m e) = rows-lent codes weights n m e

@@ -15,10 +15,11 @@ use Rattle.matrix_file.specs.Reading.{readAnswer}
 use Rattle.branching.specs.Nodes.{taxaPlaced}
 use Rattle.branching.specs.Growing.{growingTree, rowOneAlone}
 
--- an accepted matrix of n taxa and m characters, by its rows: a read accepts it, or, lent, it passes the questions 12, 4 and 10
-pub data Accepted : ℕ → ℕ → List (List ℤ) → Type 0 where
-  fileRead : (file : List ℕ) (job : Job) → readAnswer file ≡ value job → Accepted (job .n) (job .m) (job .rows)
-  matrixLent : (codes : List ℤ) (n m : ℕ) → askMatrix codes n m ≡ Passed → Accepted n m (rowsOf codes m n)
+-- an accepted matrix of n taxa and m characters, by the weights of its characters and its rows: a read accepts it, or, lent, it passes the
+-- questions 12, 4, 16 and 10
+pub data Accepted : ℕ → ℕ → List ℕ → List (List ℤ) → Type 0 where
+  fileRead : (file : List ℕ) (job : Job) → readAnswer file ≡ value job → Accepted (job .n) (job .m) (job .weights) (job .rows)
+  matrixLent : (codes : List ℤ) (weights : List ℕ) (n m : ℕ) → askMatrix codes weights n m ≡ Passed → Accepted n m weights (rowsOf codes m n)
 
 -- rows of m codes from -999 to 999
 pub record CodeRows (m : ℕ) (rows : List (List ℤ)) : Type 0 where

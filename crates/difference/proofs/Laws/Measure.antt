@@ -1,6 +1,6 @@
 -- The measure by weights is one measure: the difference of two rows is what the steps between their codes cost, added up over the
 -- characters. Where all characters weigh 1 it is document 01's.
-use mathlib.Core.Path.{_≡_, refl, sym, _∙_, ap, ap₂}
+use mathlib.Core.Path.{_≡_, refl, sym, _∙_, ap, ap₂, fun-ext}
 use mathlib.Core.List.{List, [], _∷_}
 use Prim.Native.Nat.{ℕ, suc, _+_, _-_, _≤_, _<_}
 use native.Mathlib.Omega.{arith}
@@ -11,8 +11,8 @@ use Rattle.lists.specs.Sums.{sumOver}
 use Rattle.lists.proofs.Numbers.{numbers-within}
 use Rattle.lists.proofs.Sums.{sum-same}
 use Rattle.matrix.specs.Shape.{weightAt, weightOf}
-use Rattle.difference.specs.Rows.{part, difference, weighing, plain}
-use Rattle.difference.proofs.Laws.Weights.{weightAt-drop, part-alone, difference-alike}
+use Rattle.difference.specs.Rows.{part, difference, Measure, weighing, plain}
+use Rattle.difference.proofs.Laws.Weights.{weightAt-drop, part-alone, difference-weights, difference-alike}
 
 -- the part of the character at a place
 partAt : List ℕ → List ℤ → List ℤ → ℕ → ℕ
@@ -63,3 +63,19 @@ rows-alike weights xs ys h = difference-alike weights xs ys h
 -- and a step in a character that weighs 1 costs what it costs by document 01's measure
 pub step-alike : (weights : List ℕ) (j : ℕ) → weightOf weights j ≡ 1 → (a b : ℤ) → weighing weights .step j a b ≡ plain .step j a b
 step-alike weights j e a b = ap (λ w. part w a b) e ∙ part-alone a b
+
+-- so where every character weighs 1 the measure is document 01's
+pub measure-alike : (weights : List ℕ) → ((i : ℕ) → weightAt weights i ≡ 1) → weighing weights ≡ plain
+unfolding weightOf
+measure-alike weights alike =
+    ap₂ (λ (rows : List ℤ → List ℤ → ℕ) (step : ℕ → ℤ → ℤ → ℕ). record { rows = rows; step = step })
+    (fun-ext (λ xs. fun-ext (λ ys. rows-alike weights xs ys (λ i below. alike i))))
+    (fun-ext (λ j. fun-ext (λ a. fun-ext (λ b. step-alike weights j (alike (j - 1)) a b))))
+
+-- and weights that are the same for every character measure alike
+pub measure-weights : (v w : List ℕ) → ((i : ℕ) → weightAt v i ≡ weightAt w i) → weighing v ≡ weighing w
+unfolding weightOf
+measure-weights v w same =
+    ap₂ (λ (rows : List ℤ → List ℤ → ℕ) (step : ℕ → ℤ → ℤ → ℕ). record { rows = rows; step = step })
+    (fun-ext (λ xs. fun-ext (λ ys. difference-weights v w xs ys (λ i below. same i))))
+    (fun-ext (λ j. fun-ext (λ a. fun-ext (λ b. ap (λ (k : ℕ). part k a b) (same (j - 1))))))
