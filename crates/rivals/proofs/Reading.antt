@@ -40,6 +40,36 @@ read-rows job within old full =
         ∙ job-row job within old full (i + 1) (omega arith) (omega arith)
         ∙ ap (λ k. getD (job .rows) k []) place
 
+-- weights written over the front of a list are read back, and behind them stands what stood there
+written-at : (weights old : List ℕ) → length weights ≤ length old → (i : ℕ) → i < length weights
+    → weightAt (weightsWritten weights old) i ≡ weightAt weights i
+unfolding weightAt
+written-at weights old room i below = over-inside 1 0 weights old i below (omega arith)
+
+-- written over a list of ones, they weigh every character as they do alone
+pub written-measure : (weights : List ℕ) → length weights ≤ columns
+    → weighing (weightsWritten weights (replicate columns 1)) ≡ weighing weights
+unfolding weightAt
+written-measure weights room = measure-weights (weightsWritten weights ones) weights same
+  where
+    ones : List ℕ
+    ones = replicate columns 1
+
+    same : (i : ℕ) → weightAt (weightsWritten weights ones) i ≡ weightAt weights i
+    same i =
+        by-cases
+        (decLe (suc i) (length weights))
+        (λ inside. written-at weights ones (omega (arith, length-replicate columns 1)) i inside)
+        (λ past.
+        over-behind 1 0 weights ones i (omega arith)
+        ∙ getD-replicate 1 columns i
+        ∙ sym (List·getD-eq-default weights 1 (omega arith)))
+
+-- the weights of a job, written over a list of 128, are lent ones
+pub weights-lent : (job : Job) → JobWithinLimits job → (old : List ℕ) → length old ≡ columns
+    → LentWeights (weightsWritten (job .weights) old) (job .m)
+weights-lent job within old full = record { full = length-over 0 (job .weights) old ∙ full; known = ? }
+
 -- no rival does better on a matrix that the call has read
 pub no-rival-read : (file : List ℕ) (oldMatrix : List ℤ) (oldNames : List ℕ) (newMatrix : List ℤ) (newNames : List ℕ) (r : Read)
     (header : Header) → ReadDone file oldMatrix oldNames newMatrix newNames r → r ≡ Read.Accepted header
