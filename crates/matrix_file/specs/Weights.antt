@@ -20,7 +20,7 @@ weightForm (digit ∷ next ∷ digits) = false
 
 -- the weight that its digit says
 unfoldable pub weightIn : List ℕ → ℕ
-weightIn field = getD field 0 zeroDigit - zeroDigit
+weightIn field = getD field 0 0 - zeroDigit
 
 -- a weight as it is written
 abbrev pub weightText : ℕ → List ℕ

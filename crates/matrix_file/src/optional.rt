@@ -3,6 +3,7 @@ use crate::bytes::LINE_FEED;
 use crate::bytes::TAB;
 use crate::bytes::first_part;
 use crate::bytes::part_length;
+use crate::bytes::same_text;
 use matrix::refusal::Asked;
 use matrix::refusal::Refusal;
 ghost use mathlib.Core.Path.{_≡_};
@@ -14,10 +15,7 @@ pub(crate) fn optional_there(text: &[u8], letter: u8) -> bool
     ensures { λ r. ⌜ r ≡ optionalThere letter (linesOf (now (text .entry))) ⌝ }
 {
     let word = first_part(first_part(text, LINE_FEED), TAB);
-    if word.len() != 1 {
-        return false;
-    }
-    word[0] == letter
+    same_text(word, &[letter])
 }
 
 // The question put to the line: if it is there, is it ended by a line feed, with the right fields behind its letter?

@@ -54,10 +54,10 @@ fn weights_form(line: &[u8], m: usize) -> bool
     }
     let mut j = 0;
     while j < m {
-        j += 1;
-        if !weight_form(field(line, j)) {
+        if !weight_form(field(line, j + 1)) {
             return false;
         }
+        j += 1;
     }
     true
 }
