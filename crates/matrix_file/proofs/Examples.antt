@@ -18,7 +18,8 @@ use Rattle.matrix_file.specs.Job.{Job, inName, nameForm, differsFromAll,
 use Rattle.matrix_file.specs.Lines.{linesOf, fieldsOf}
 use Rattle.matrix_file.specs.Optional.{optionalThere, optionalFields, askOptional, optionalLine}
 use Rattle.matrix_file.specs.Weights.{weightForm, weightIn, weightsForm, weightsSaid}
-use Rattle.matrix_file.specs.Header.{orderIn, headerIn, firstForm, firstLineForm, isOrder, orderKnown, askFirstLine, askWeights, askHeader}
+use Rattle.matrix_file.specs.Header.{orderIn, headerIn, firstForm, firstLineForm, isOrder, orderKnown}
+use Rattle.matrix_file.specs.Header.{askFirstLine, askWeights, askHeader}
 use Rattle.matrix_file.specs.Rows.{nameIn, codesIn, askCodes, askRow, askRows}
 use Rattle.matrix_file.specs.Reading.{jobOf, nothingMore, askEnd, askBehind, askFile, askLength, readAnswer}
 use Rattle.matrix_file.specs.Report.{readSays, withHeader, fullSize, readOutcome}

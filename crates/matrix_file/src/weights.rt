@@ -91,9 +91,9 @@ pub(crate) fn write_weights(weights: &mut [u8], text: &[u8], header: Header)
     let line = first_part(text, LINE_FEED);
     let m = header.m;
     let weighed = header.weighed;
-    let mut j = 0;
-    while j < m {
-        weights[j] = weight_said(line, weighed, j + 1);
-        j += 1;
+    let mut done = 0;
+    while done < m {
+        weights[done] = weight_said(line, weighed, done + 1);
+        done += 1;
     }
 }

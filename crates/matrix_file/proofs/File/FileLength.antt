@@ -91,7 +91,7 @@ first-length job within =
     first-size (job .n) (job .m) (job .order) (digits-length (job .n) 2 (omega arith)) (digits-length (job .m) 2 (omega arith))
 
 -- a field and weights behind it: 2 bytes more for each weight
-weights-length : (field : List ℕ) (weights : List ℕ) → length (joinedBy tab (field ∷ map weightText weights)) ≤ length field + 2 * length weights
+weights-length : (field weights : List ℕ) → length (joinedBy tab (field ∷ map weightText weights)) ≤ length field + 2 * length weights
 unfolding joinedBy
 weights-length field [] = omega arith
 weights-length field (weight ∷ weights) =

@@ -21,11 +21,12 @@ use Rattle.matrix_file.specs.Job.{Job, JobWithinLimits, weightLine, ende
 use Rattle.matrix_file.specs.Lines.{linesOf}
 use Rattle.matrix_file.specs.Header.{rowLine, firstFields, headerIn, behindHeader, firstLineForm, orderKnown, askWeights, askHeader}
 use Rattle.matrix_file.specs.Rows.{nameIn, codesIn}
-use Rattle.matrix_file.specs.Reading.{mostBytes, rowLines, weightsOf, jobOf, nothingMore, askEnd, askBehind, askFile, askLength, readAnswer}
+use Rattle.matrix_file.specs.Reading.{mostBytes, rowLines, jobOf, nothingMore, askEnd, askBehind, askFile, askLength, readAnswer}
 use Rattle.matrix_file.specs.Walk.{rowForm}
 use Rattle.matrix_file.proofs.File.Outcomes.{line-passed, then-passed}
 use Rattle.matrix_file.proofs.File.WeightFields.{weights-written, said-count, said-known, said-ones}
-use Rattle.matrix_file.proofs.File.HeaderRead.{header-passed, several-lines, lines-split, first-written, weights-formed, drop-behind, header-split}
+use Rattle.matrix_file.proofs.File.HeaderRead.{header-passed, several-lines, lines-split, first-written}
+use Rattle.matrix_file.proofs.File.HeaderRead.{weights-formed, drop-behind, header-split}
 use Rattle.matrix_file.proofs.Text.Parts.{joined-parts, joined-ended}
 use Rattle.matrix_file.proofs.Rows.PassedRows.{RowsRead, rows-read, rows-formed}
 

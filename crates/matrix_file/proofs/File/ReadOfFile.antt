@@ -131,7 +131,8 @@ module _ (job : Job) (within : JobWithinLimits job) where
         order = job .order;
         weighed = job .weighed;
         weights =
-            said-back (job .m) (job .weights) (within .weight-count) (within .weights-known) texts (job .weighed) (within .weights-unsaid) i;
+            said-back (job .m) (job .weights) (within .weight-count) (within .weights-known) texts (job .weighed)
+            (within .weights-unsaid) i;
         names = (ap (map nameIn) texts-back ∙ names-back (job .names) (job .rows) (job-rows job within)) i;
         rows = (ap (map codesIn) texts-back ∙ rows-back (job .names) (job .rows) (job-rows job within)) i;
       }

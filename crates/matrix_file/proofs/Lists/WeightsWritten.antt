@@ -84,8 +84,8 @@ module _ (text line : List ℕ) (m : ℕ) (weighed : Bool) (l : line ≡ firstPa
       one there =
           let fields = drop 1 (fieldsOf line) in
           let count = eqb-true (length fields) m (and-left (eqb (length fields) m) (every weightForm fields) (formed there)) in
-          ap weightForm (field-at line j)
-          ∙ every-at weightForm fields (and-right (eqb (length fields) m) (every weightForm fields) (formed there)) j [] (omega (arith, count))
+          let each = and-right (eqb (length fields) m) (every weightForm fields) (formed there) in
+          ap weightForm (field-at line j) ∙ every-at weightForm fields each j [] (omega (arith, count))
 
   -- its weight is the one that is written
   said-at : (b : Bool) (j : ℕ) → j < m

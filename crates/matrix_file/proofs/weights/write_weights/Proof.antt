@@ -9,10 +9,10 @@ use Rattle.matrix_file.proofs.weights.write_weights.Statement.{statemen
 use Rattle.matrix_file.proofs.weights.write_weights.Tie as tie
 
 abbrev Inv-loop : tie.InvT-loop
-Inv-loop weights₀ text line m weighed j₀ weights j = Weighted weights₀ line m weighed weights j
+Inv-loop weights₀ text line m weighed done₀ weights done = Weighted weights₀ line m weighed weights done
 
 abbrev μ-loop : tie.MeasureT-loop
-μ-loop weights₀ text line m weighed j₀ weights j = m - j
+μ-loop weights₀ text line m weighed done₀ weights done = m - done
 
 first-part-requires : tie.Need-first-part-requires Inv-loop μ-loop
 first-part-requires c κs = search needs
@@ -34,8 +34,8 @@ slice-write-weights c =
     let start = c .before .before .before .before .before .before in
     omega (arith, c .before .before .loop .inv .1, c .before .loop-test .taken, start .pre .1)
 
-add-j : tie.Need-add-j Inv-loop μ-loop
-add-j c = search needs
+add-done : tie.Need-add-done Inv-loop μ-loop
+add-done c = search needs
 
 loop-less : tie.Need-loop-less Inv-loop μ-loop
 loop-less c = omega arith
@@ -52,7 +52,8 @@ same-length c = c .before .loop .inv .1
 returns : tie.Need-returns Inv-loop μ-loop
 returns c =
     let line = c .before .before in
-    weights-done _ _ _ _ (line .first-part .ensures) (line .before .before .before .pre .0) _ _ _ (c .before .loop .inv) (c .loop-test .left)
+    weights-done _ _ _ _ (line .first-part .ensures) (line .before .before .before .pre .0) _ _ _ (c .before .loop .inv)
+    (c .loop-test .left)
 
 pub write-weights-spec : {M : Type 1} → statement M
 write-weights-spec =
@@ -65,7 +66,7 @@ write-weights-spec =
     add-weight-said
     weight-said-requires
     slice-write-weights
-    add-j
+    add-done
     loop-less
     loop-again
     same-length
