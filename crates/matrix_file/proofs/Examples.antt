@@ -1,6 +1,7 @@
--- Document 01's example file and its further edges, read; the words for the order; one refusal of each number 1 to 11 and of 15 with its
--- line; and reads into lent lists.
+-- Document 01's example file and its further edges, read; the words for the order; the `V` line; one refusal of each number 1 to 11, of 15
+-- and of 16 with its line; and reads into lent lists.
 use mathlib.Core.Path.{_≡_, refl}
+use mathlib.Core.Bool.{Bool, true, false}
 use mathlib.Core.List.{List, [], _∷_, _++_, map, zipWith}
 use Prim.Native.Nat.{ℕ}
 use Prim.Native.String.{String}
@@ -15,7 +16,10 @@ use Rattle.matrix_file.specs.Bytes.{wordAdvance, wordClosest, isDigit, i
 use Rattle.matrix_file.specs.Decimal.{digitsIn, digitsOf, decimal, noLeadingZero, numberForm, numberFrom, numberOf, codeForm, codeOf}
 use Rattle.matrix_file.specs.Job.{Job, inName, nameForm, differsFromAll, firstText, rowText, ended, fileOf}
 use Rattle.matrix_file.specs.Lines.{linesOf, fieldsOf}
-use Rattle.matrix_file.specs.Header.{orderIn, headerIn, firstForm, firstLineForm, isOrder, orderKnown, askFirstLine, askHeader}
+use Rattle.matrix_file.specs.Optional.{optionalThere, optionalFields, askOptional, optionalLine}
+use Rattle.matrix_file.specs.Weights.{weightForm, weightIn, weightsForm, weightsSaid}
+use Rattle.matrix_file.specs.Header.{orderIn, headerIn, firstForm, firstLineForm, isOrder, orderKnown}
+use Rattle.matrix_file.specs.Header.{askFirstLine, askWeights, askHeader}
 use Rattle.matrix_file.specs.Rows.{nameIn, codesIn, askCodes, askRow, askRows}
 use Rattle.matrix_file.specs.Reading.{jobOf, nothingMore, askEnd, askBehind, askFile, askLength, readAnswer}
 use Rattle.matrix_file.specs.Report.{readSays, withHeader, fullSize, readOutcome}
@@ -25,7 +29,7 @@ use Rattle.matrix_file.specs.declared.answer.OrderWord.the-variants.{Uns
 use Rattle.matrix_file.specs.declared.answer.Read.the-variants.{Accepted, Refused}
 use Rattle.matrix.specs.declared.refusal.Refusal.the-variants.{NameTaken}
 use Rattle.matrix_file.specs.Text.{bytes}
-use Rattle.matrix_file.specs.Written.{padded, matrixWritten, namesWritten}
+use Rattle.matrix_file.specs.Written.{padded, matrixWritten, weightsWritten, namesWritten}
 use Rattle.lists.specs.Over.{over, stripes}
 use Rattle.lists.specs.Filled.{filled}
 
@@ -33,7 +37,8 @@ use Rattle.lists.specs.Filled.{filled}
 read : List ℕ → Outcome Job
 unfolding inRange withinLimits oneTo every isDigit isLetter sameText partsAt digitsIn digitsOf noLeadingZero numberForm numberFrom
     numberOf codeForm codeOf inName nameForm differsFromAll linesOf fieldsOf orderIn headerIn nameIn codesIn jobOf firstForm firstLineForm
-    isOrder orderKnown askFirstLine askHeader askCodes askRow askRows nothingMore askEnd askBehind askFile askLength readAnswer
+    isOrder orderKnown askFirstLine optionalThere optionalFields askOptional weightForm weightIn weightsForm weightsSaid askWeights
+    askHeader askCodes askRow askRows nothingMore askEnd askBehind askFile askLength readAnswer
 read file = readAnswer file
 
 -- a file of this text, read
@@ -41,48 +46,67 @@ readText : String → Outcome Job
 unfolding read bytes
 readText text = read (bytes text)
 
--- document 01's example, with this word for the order
-exampleJob : OrderWord → Job
-exampleJob order =
+-- document 01's example, with this word for the order and these weights, written in a `V` line or not
+exampleJob : OrderWord → Bool → List ℕ → Job
+exampleJob order weighed weights =
     record {
       n = 4;
       m = 3;
       order = order;
+      weighed = weighed;
+      weights = weights;
       names = (65 ∷ []) ∷ (66 ∷ []) ∷ (67 ∷ []) ∷ (68 ∷ []) ∷ [];
       rows = (pos 0 ∷ pos 0 ∷ pos 0 ∷ []) ∷ (pos 2 ∷ pos 1 ∷ pos 0 ∷ []) ∷ (pos 2 ∷ pos 3 ∷ pos 1 ∷ [])
           ∷ (negsuc 0 ∷ pos 1 ∷ pos 2 ∷ []) ∷ [];
     }
 
--- its rows behind this line 1, read
+-- its rows behind these first lines, read
 readBehind : String → Outcome Job
 unfolding read bytes
 readBehind first = read (bytes first ++ bytes "\nA\t0\t0\t0\nB\t2\t1\t0\nC\t2\t3\t1\nD\t-1\t1\t2\n")
 
 -- document 01's example
-example : readBehind "W\t4\t3" ≡ value (exampleJob Unsaid)
+example : readBehind "W\t4\t3" ≡ value (exampleJob Unsaid false (1 ∷ 1 ∷ 1 ∷ []))
 unfolding readBehind exampleJob
 example = refl
 
 -- with `advance` in line 1
-example-advance : readBehind "W\t4\t3\tadvance" ≡ value (exampleJob Advance)
+example-advance : readBehind "W\t4\t3\tadvance" ≡ value (exampleJob Advance false (1 ∷ 1 ∷ 1 ∷ []))
 unfolding readBehind exampleJob
 example-advance = refl
 
 -- with `closest`
-example-closest : readBehind "W\t4\t3\tclosest" ≡ value (exampleJob Closest)
+example-closest : readBehind "W\t4\t3\tclosest" ≡ value (exampleJob Closest false (1 ∷ 1 ∷ 1 ∷ []))
 unfolding readBehind exampleJob
 example-closest = refl
+
+-- with a `V` line
+example-weighed : readBehind "W\t4\t3\tclosest\nV\t1\t9\t3" ≡ value (exampleJob Closest true (1 ∷ 9 ∷ 3 ∷ []))
+unfolding readBehind exampleJob
+example-weighed = refl
+
+-- with a `V` line of ones: another job with the same weights as without the line
+example-ones : readBehind "W\t4\t3\nV\t1\t1\t1" ≡ value (exampleJob Unsaid true (1 ∷ 1 ∷ 1 ∷ []))
+unfolding readBehind exampleJob
+example-ones = refl
 
 -- the two words, in letters
 words : (wordAdvance ≡ bytes "advance") × (wordClosest ≡ bytes "closest")
 unfolding bytes
 words = (refl, refl)
 
+-- one taxon of this name with one code, of this weight, written in a `V` line or not
+one-taxon : List ℕ → ℤ → Bool → ℕ → Outcome Job
+one-taxon name code weighed weight =
+    value
+    (record { n = 1; m = 1; order = Unsaid; weighed = weighed; weights = weight ∷ []; names = name ∷ []; rows = (code ∷ []) ∷ [] })
+
 -- one taxon `A` with one code
 one-code : ℤ → Outcome Job
-one-code code = value (record { n = 1; m = 1; order = Unsaid; names = (65 ∷ []) ∷ []; rows = (code ∷ []) ∷ [] })
+unfolding one-taxon
+one-code code = one-taxon (65 ∷ []) code false 1
 
--- the refusals 2 to 11 and 15: a file, and the number and line that refuse it
+-- the refusals 2 to 11, 15 and 16: a file, and the number and line that refuse it
 refusals : List (String × Outcome Job)
 refusals =
     ("", refused 2 0)
@@ -96,6 +120,7 @@ refusals =
     ∷ ("W\t2\t1\nA\t0\nB\t-1000\n", refused 10 3)
     ∷ ("W\t1\t1\nA\t0\n\n", refused 11 3)
     ∷ ("W\t1\t1\tnearest\nA\t0\n", refused 15 1)
+    ∷ ("W\t1\t1\nV\t0\nA\t0\n", refused 16 2)
     ∷ []
 
 -- the further edges: 999 and -999 pass, 1000 is 10, 1000000 and `-0` are 9; as n, 999999 is 4 and 1000000 is 3; a missing line feed is 3
@@ -133,6 +158,46 @@ orders =
     ∷ ("W\t1\t1\tclosest", refused 3 1)
     ∷ []
 
+-- the `V` line: a weight is one digit from `1` to `9`, and `0`, `10`, `01`, a sign, none or a carriage return is 16; so is another number
+-- of them; a line whose first field is `V` is always read as weights, so that a row of that name needs the line in front of it; without a
+-- line feed it is 16, `V` alone too; another letter is a row; 16 is asked after 4 and before the rows
+weighings : List (String × Outcome Job)
+weighings =
+    ("W\t1\t1\nV\t9\nA\t0\n", one-taxon (65 ∷ []) (pos 0) true 9)
+    ∷ ("W\t1\t1\nV\t1\nV\t5\n", one-taxon (86 ∷ []) (pos 5) true 1)
+    ∷ ("W\t1\t1\nVa\t5\n", one-taxon (86 ∷ 97 ∷ []) (pos 5) false 1)
+    ∷ ("W\t1\t1\nv\t5\n", one-taxon (118 ∷ []) (pos 5) false 1)
+    ∷ ("W\t1\t1\nV\t10\nA\t0\n", refused 16 2)
+    ∷ ("W\t1\t1\nV\t01\nA\t0\n", refused 16 2)
+    ∷ ("W\t1\t1\nV\t-1\nA\t0\n", refused 16 2)
+    ∷ ("W\t1\t1\nV\t\nA\t0\n", refused 16 2)
+    ∷ ("W\t1\t1\nV\t:\nA\t0\n", refused 16 2)
+    ∷ ("W\t1\t1\nV\t1\r\nA\t0\n", refused 16 2)
+    ∷ ("W\t1\t1\nV\nA\t0\n", refused 16 2)
+    ∷ ("W\t1\t1\nV\t1\t1\nA\t0\n", refused 16 2)
+    ∷ ("W\t1\t2\nV\t1\nA\t0\t0\n", refused 16 2)
+    ∷ ("W\t1\t1\nV\t10\n", refused 16 2)
+    ∷ ("W\t1\t1\nV", refused 16 2)
+    ∷ ("W\t1\t1\nV\t1", refused 16 2)
+    ∷ ("W\t1\t1\nVa", refused 5 2)
+    ∷ ("W\t1\t1\nA\t0\nV\t1\n", refused 11 3)
+    ∷ ("W\t0\t1\nV\t0\n", refused 4 1)
+    ∷ ("W\t1\t1\nV\t0\n1A\t0\n", refused 16 2)
+    ∷ []
+
+-- behind a `V` line the numbers of the lines count it
+counted : List (String × Outcome Job)
+counted =
+    ("W\t1\t1\nV\t1\n", refused 5 3)
+    ∷ ("W\t1\t1\nV\t1\n1A\t0\n", refused 6 3)
+    ∷ ("W\t2\t1\nV\t1\nA\t0\nA\t1\n", refused 7 4)
+    ∷ ("W\t1\t1\nV\t1\nA\t0\t0\n", refused 8 3)
+    ∷ ("W\t1\t1\nV\t1\nA\tx\n", refused 9 3)
+    ∷ ("W\t2\t1\nV\t1\nA\t0\nB\t1000\n", refused 10 4)
+    ∷ ("W\t1\t1\nV\t1\nV\t1\nA\t0\n", refused 11 4)
+    ∷ ("W\t1\t1\nV\t1\nA\t0\n\n", refused 11 4)
+    ∷ []
+
 -- each file of a table is read as the table says
 AsSaid : List (String × Outcome Job) → Type 0
 AsSaid table = map (λ row. readText (row .0)) table ≡ map (λ row. row .1) table
@@ -144,7 +209,7 @@ refusals-read = refl
 
 -- and so are the edges
 edges-read : AsSaid edges
-unfolding AsSaid readText edges one-code
+unfolding AsSaid readText edges one-code one-taxon
 edges-read = refl
 
 -- and so is the fourth field
@@ -152,12 +217,22 @@ orders-read : AsSaid orders
 unfolding AsSaid readText orders
 orders-read = refl
 
+-- and so is the `V` line
+weighings-read : AsSaid weighings
+unfolding AsSaid readText weighings one-taxon
+weighings-read = refl
+
+-- and so are the lines behind it
+counted-read : AsSaid counted
+unfolding AsSaid readText counted
+counted-read = refl
+
 -- refusal 1
 too-long : read (replicate 45001 65) ≡ refused 1 0
 unfolding read
 too-long = refl
 
--- 64 taxa pass, 65 is 4; equal rows under different names pass: taxa `t1`, `t2`, ... with the same row
+-- 64 taxa pass, 65 is 4; equal rows under different names pass: taxa `t1`, `t2`, ... with the same row, behind a `V` line
 alike : ℕ → Job
 unfolding digitsIn digitsOf numbers
 alike n =
@@ -165,18 +240,20 @@ alike n =
       n = n;
       m = 1;
       order = Unsaid;
+      weighed = true;
+      weights = 7 ∷ [];
       names = map (λ k. 116 ∷ digitsOf k) (numbers 1 n);
       rows = replicate n (pos 0 ∷ []);
     }
 
 -- 64 taxa pass
 sixty-four-taxa : read (fileOf (alike 64)) ≡ value (alike 64)
-unfolding read alike joinedBy decimal zipWith firstText rowText ended fileOf
+unfolding read alike joinedBy decimal zipWith firstText optionalLine rowText ended fileOf
 sixty-four-taxa = refl
 
 -- 65 are 4
 sixty-five-taxa : read (fileOf (alike 65)) ≡ refused 4 1
-unfolding read alike joinedBy decimal zipWith firstText rowText ended fileOf
+unfolding read alike joinedBy decimal zipWith firstText optionalLine rowText ended fileOf
 sixty-five-taxa = refl
 
 -- a long number is written at once
@@ -201,45 +278,41 @@ two-names : namesWritten ((65 ∷ []) ∷ (66 ∷ 67 ∷ []) ∷ []) (replicate 
 unfolding over stripes filled
 two-names = refl
 
+-- weights written into a list: over its front, and behind them all as before
+three-weights : weightsWritten (1 ∷ 9 ∷ 3 ∷ []) (replicate 5 7) ≡ 1 ∷ 9 ∷ 3 ∷ 7 ∷ 7 ∷ []
+unfolding over
+three-weights = refl
+
 -- what an answer says: a header, and a refusal with its line
-accepted-says : readSays (Accepted (record { n = 4; m = 3; order = Closest })) ≡ value (record { n = 4; m = 3; order = Closest })
+accepted-says :
+    readSays (Accepted (record { n = 4; m = 3; order = Closest; weighed = true }))
+    ≡ value (record { n = 4; m = 3; order = Closest; weighed = true })
 accepted-says = refl
 
 -- a refusal: its number and its line
 refused-says : readSays (Refused NameTaken 4) ≡ refused 7 4
 refused-says = refl
 
--- a file read into a matrix of so many codes and a list of names of so many bytes
-readInto : List ℕ → ℕ → ℕ → Outcome Header
+-- a file read into a matrix of so many codes and lists of so many weights and bytes of names
+readInto : List ℕ → ℕ → ℕ → ℕ → Outcome Header
 unfolding read readOutcome fullSize
-readInto file codes names = withHeader (readOutcome file (replicate codes (pos 0)) (replicate names 0))
+readInto file codes weights names = withHeader (readOutcome file (replicate codes (pos 0)) (replicate weights 0) (replicate names 0))
 
 -- lists of full size: the file decides
-full-size : readInto (bytes "W\t1\t2\nA\t0\t1\n") 16128 1024 ≡ value (record { n = 1; m = 2; order = Unsaid })
+full-size : readInto (bytes "W\t1\t2\nV\t2\t3\nA\t0\t1\n") 16128 128 1024
+    ≡ value (record { n = 1; m = 2; order = Unsaid; weighed = true })
 unfolding readInto bytes
 full-size = refl
 
 -- and refuses
-full-size-refused : readInto (bytes "W\t1\t2\nA\t0\n") 16128 1024 ≡ refused 8 2
+full-size-refused : readInto (bytes "W\t1\t2\nA\t0\n") 16128 128 1024 ≡ refused 8 2
 unfolding readInto bytes
 full-size-refused = refl
 
--- names that are a byte too short or too long, and a matrix that is a code too short or too long: 12 with line 0, whatever the file holds
-names-short : (file : List ℕ) → readInto file 16128 1023 ≡ refused 12 0
+-- a list that is one too short or too long, the matrix, the weights or the names: 12 with line 0, whatever the file holds
+wrong-sizes : (file : List ℕ)
+    → map (λ (sizes : ℕ × ℕ × ℕ). readInto file (sizes .0) (sizes .1) (sizes .2))
+    ((16127, 128, 1024) ∷ (16129, 128, 1024) ∷ (16128, 127, 1024) ∷ (16128, 129, 1024) ∷ (16128, 128, 1023) ∷ (16128, 128, 1025) ∷ [])
+    ≡ replicate 6 (refused 12 0)
 unfolding readInto
-names-short file = refl
-
--- a byte too long
-names-long : (file : List ℕ) → readInto file 16128 1025 ≡ refused 12 0
-unfolding readInto
-names-long file = refl
-
--- a matrix that is a code too short
-matrix-short : (file : List ℕ) → readInto file 16127 1024 ≡ refused 12 0
-unfolding readInto
-matrix-short file = refl
-
--- a code too long
-matrix-long : (file : List ℕ) → readInto file 16129 1024 ≡ refused 12 0
-unfolding readInto
-matrix-long file = refl
+wrong-sizes file = refl

@@ -1,5 +1,8 @@
 -- A whole file: what passes the questions, the file of a job, and the walk that puts the questions.
 pub mod Outcomes
+pub mod OptionalLine
+pub mod OptionalWalk
+pub mod WeightFields
 pub mod FileLength
 pub mod HeaderRead
 pub mod FileOfRead

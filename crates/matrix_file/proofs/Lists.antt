@@ -5,3 +5,4 @@ pub mod ReadLists
 pub mod ReadWalk
 pub mod CodesWritten
 pub mod NameWritten
+pub mod WeightsWritten

@@ -1,14 +1,14 @@
--- The header of a matrix file: what its first lines say, the questions put to them (3, 4, and document 02's 15 between these), and how
--- many lines they are.
+-- The header of a matrix file: what its first lines say, the questions put to them (3, 4, and document 02's 15 between these and 16 behind
+-- them), and how many lines they are.
 use mathlib.Core.List.{List, [], _∷_}
 use mathlib.Core.Bool.{Bool, false, _&&_, _||_, cond}
-use Prim.Native.Nat.{ℕ, _+_}
+use Prim.Native.Nat.{ℕ, suc, _+_}
 use lib.Dec.{leb}
 use lib.ListN.{length, getD, drop}
 use Rattle.lists.specs.Tests.{every, sameNumbers as sameText}
 use Rattle.matrix.specs.Outcomes.{ask, Outcome, value, onLine}
 use Rattle.matrix.specs.Questions.{withinLimits}
-use Rattle.matrix.specs.declared.refusal.Refusal.the-variants.{FirstLine, UnknownOrder, BeyondLimits}
+use Rattle.matrix.specs.declared.refusal.Refusal.the-variants.{FirstLine, UnknownOrder, BeyondLimits, WeightForm}
 use Rattle.matrix.specs.declared.refusal.Asked.{Asked}
 use Rattle.matrix.specs.declared.refusal.Asked.the-variants.{Passed}
 use Rattle.matrix_file.specs.declared.answer.Header.{Header}
@@ -17,6 +17,8 @@ use Rattle.matrix_file.specs.declared.answer.OrderWord.the-variants.{Uns
 use Rattle.matrix_file.specs.Bytes.{wordW, wordAdvance, wordClosest}
 use Rattle.matrix_file.specs.Decimal.{numberForm, numberOf}
 use Rattle.matrix_file.specs.Job.{Job}
+use Rattle.matrix_file.specs.Optional.{optionalThere, optionalFields, askOptional, linesTaken}
+use Rattle.matrix_file.specs.Weights.{letterV, weightsForm}
 use Rattle.matrix_file.specs.Lines.{fieldsOf}
 
 -- the word that a field for the order says, if there is one
@@ -28,10 +30,16 @@ orderSaid (word ∷ fields) = cond (sameText word wordAdvance) Advance (cond (sa
 unfoldable pub orderIn : List (List ℕ) → OrderWord
 orderIn fields = orderSaid (drop 3 fields)
 
--- what the fields of line 1 say: n is the second, m the third, and a fourth is the word for the order
-abbrev pub headerFrom : List (List ℕ) → Header
-headerFrom fields =
-    record { n = numberOf (getD fields 1 []); m = numberOf (getD fields 2 []); order = orderIn fields }
+-- what the fields of line 1 say: n is the second, m the third, and a fourth is the word for the order; and whether the lines behind it
+-- begin with a `V` line
+abbrev pub headerFrom : List (List ℕ) → List (List ℕ) → Header
+headerFrom fields behind =
+    record {
+      n = numberOf (getD fields 1 []);
+      m = numberOf (getD fields 2 []);
+      order = orderIn fields;
+      weighed = optionalThere letterV behind;
+    }
 
 -- the fields of line 1
 abbrev pub firstFields : List (List ℕ) → List (List ℕ)
@@ -39,15 +47,15 @@ firstFields lines = fieldsOf (getD lines 0 [])
 
 -- what the header of a file's lines says, read without a question
 unfoldable pub headerIn : List (List ℕ) → Header
-headerIn lines = headerFrom (firstFields lines)
+headerIn lines = headerFrom (firstFields lines) (drop 1 lines)
 
 -- the header of a job
 abbrev pub headerOf : Job → Header
-headerOf job = record { n = job .n; m = job .m; order = job .order }
+headerOf job = record { n = job .n; m = job .m; order = job .order; weighed = job .weighed }
 
--- how many lines a header takes: line 1
+-- how many lines a header takes: line 1, and the `V` line if there is one
 abbrev pub headerLines : Header → ℕ
-headerLines header = 1
+headerLines header = suc (linesTaken (header .weighed))
 
 -- the number of the line of row k, counted from 1
 abbrev pub rowLine : Header → ℕ → ℕ
@@ -84,6 +92,10 @@ askFirstLine lines =
     (ask (orderKnown (firstFields lines)) UnknownOrder
     (ask (withinLimits (headerIn lines .n) (headerIn lines .m)) BeyondLimits Passed))
 
+-- the question put to the `V` line, the first of the lines behind line 1: if it is there, is it well formed?
+unfoldable pub askWeights : Header → List (List ℕ) → Asked
+askWeights header behind = askOptional (header .weighed) (weightsForm (header .m) (optionalFields behind)) WeightForm behind
+
 -- the header of a file's lines, if its questions pass
 unfoldable pub askHeader : List (List ℕ) → Outcome Header
-askHeader lines = onLine 1 (askFirstLine lines) (value (headerIn lines))
+askHeader lines = onLine 1 (askFirstLine lines) (onLine 2 (askWeights (headerIn lines) (drop 1 lines)) (value (headerIn lines)))

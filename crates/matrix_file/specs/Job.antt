@@ -1,24 +1,30 @@
--- A job, what a matrix file says: n taxa, m characters, the word for the order of placing, the names and the codes; its limits; and the
--- one file that says it (document 01, "The matrix file"; document 02, M-100).
+-- A job, what a matrix file says: n taxa, m characters, the word for the order of placing, the weights, the names and the codes; its
+-- limits; and the one file that says it (document 01, "The matrix file"; document 02, M-100 and M-101).
 use mathlib.Core.Path.{_≡_}
 use mathlib.Core.List.{List, [], _∷_, _++_, map, zipWith}
 use mathlib.Core.Bool.{Bool, true, false, _&&_, _||_, not}
 use Prim.Native.Nat.{ℕ}
 use lib.Dec.{leb, eqb}
 use lib.IntN.{ℤ}
-use lib.ListN.{length}
+use lib.ListN.{length, replicate}
+use Rattle.matrix.specs.Shape.{isWeight}
 use Rattle.matrix.specs.Questions.{withinLimits, allInRange}
 use Rattle.lists.specs.Tests.{every, sameNumbers as sameText}
 use Rattle.matrix_file.specs.Bytes.{tab, lineFeed, underscore, wordW, wordAdvance, wordClosest, isDigit, isLetter, joinedBy}
 use Rattle.matrix_file.specs.Decimal.{digitsOf, decimal}
+use Rattle.matrix_file.specs.Optional.{optionalLine, letterFree}
+use Rattle.matrix_file.specs.Weights.{letterV, weightText}
 use Rattle.matrix_file.specs.declared.answer.OrderWord.{OrderWord}
 use Rattle.matrix_file.specs.declared.answer.OrderWord.the-variants.{Unsaid, Advance, Closest}
 
--- n taxa, m characters; the word that line 1 carries for the order of placing, if any; names and rows of codes stand by row, row 1 first
+-- n taxa, m characters; the word that line 1 carries for the order of placing, if any; whether there is a `V` line, and the weights, by
+-- character; names and rows of codes stand by row, row 1 first
 pub record Job : Type 0 where
   pub n : ℕ
   pub m : ℕ
   pub order : OrderWord
+  pub weighed : Bool
+  pub weights : List ℕ
   pub names : List (List ℕ)
   pub rows : List (List ℤ)
 
@@ -49,13 +55,17 @@ allDiffer (name ∷ names) = differsFromAll name names && allDiffer names
 unfoldable pub hasCodes : ℕ → List ℤ → Bool
 hasCodes m codes = eqb (length codes) m
 
--- a job within the limits: n is 1 to 64 and m is 1 to 128; n names, well formed and all different;
--- n rows of m codes, each from -999 to 999
+-- a job within the limits: n is 1 to 64 and m is 1 to 128; m weights from 1 to 9, without a `V` line all of them 1; n names, well formed
+-- and all different, and without a `V` line row 1 is not named `V`; n rows of m codes, each from -999 to 999
 pub record JobWithinLimits (job : Job) : Type 0 where
   pub limits : withinLimits (job .n) (job .m) ≡ true
+  pub weight-count : length (job .weights) ≡ job .m
+  pub weights-known : every isWeight (job .weights) ≡ true
+  pub weights-unsaid : job .weighed ≡ false → job .weights ≡ replicate (job .m) 1
   pub name-count : length (job .names) ≡ job .n
   pub names-formed : every nameForm (job .names) ≡ true
   pub names-differ : allDiffer (job .names) ≡ true
+  pub name-free : letterFree (job .weighed) letterV (job .names) ≡ true
   pub row-count : length (job .rows) ≡ job .n
   pub rows-full : every (hasCodes (job .m)) (job .rows) ≡ true
   pub codes-in-range : every allInRange (job .rows) ≡ true
@@ -69,6 +79,10 @@ orderFields Closest = wordClosest ∷ []
 -- line 1: `W`, n, m, and the word for the order, if any
 unfoldable pub firstText : Job → List ℕ
 firstText job = joinedBy tab (wordW ∷ digitsOf (job .n) ∷ digitsOf (job .m) ∷ orderFields (job .order))
+
+-- the `V` line, if there is one: the weights
+abbrev pub weightLine : Job → List (List ℕ)
+weightLine job = optionalLine (job .weighed) letterV (map weightText (job .weights))
 
 -- the line of a row: its name and its codes
 unfoldable pub rowText : List ℕ → List ℤ → List ℕ
@@ -85,4 +99,4 @@ ended (line ∷ lines) = line ++ lineFeed ∷ ended lines
 
 -- the one file that says a job
 unfoldable pub fileOf : Job → List ℕ
-fileOf job = ended (firstText job ∷ rowTexts job)
+fileOf job = ended (firstText job ∷ weightLine job ++ rowTexts job)

@@ -1,8 +1,10 @@
 -- Reading a matrix file (document 01, "The matrix file" and "Reading a file").
 pub mod Bytes
 pub mod Decimal
-pub mod Job
 pub mod Lines
+pub mod Optional
+pub mod Weights
+pub mod Job
 pub mod Header
 pub mod Rows
 pub mod Reading

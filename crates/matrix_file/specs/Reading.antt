@@ -1,9 +1,9 @@
--- Reading a matrix file: the questions 1 to 11 and 15 in the papers' order, and what an accepted file says.
+-- Reading a matrix file: the questions 1 to 11, 15 and 16 in the papers' order, and what an accepted file says.
 use mathlib.Core.List.{List, [], _∷_, map}
 use mathlib.Core.Bool.{Bool, true, false}
 use Prim.Native.Nat.{ℕ}
 use lib.Dec.{leb}
-use lib.ListN.{length, take}
+use lib.ListN.{length, take, drop}
 use Rattle.matrix.specs.Outcomes.{ask, Outcome, value, onLine, thenWith}
 use Rattle.matrix.specs.declared.refusal.Refusal.the-variants.{FileTooLong, FileEmpty, FileGoesOn}
 use Rattle.matrix.specs.declared.refusal.Asked.{Asked}
@@ -11,6 +11,8 @@ use Rattle.matrix.specs.declared.refusal.Asked.the-variants.{Passed}
 use Rattle.matrix_file.specs.declared.answer.Header.{Header}
 use Rattle.matrix_file.specs.Job.{Job}
 use Rattle.matrix_file.specs.Lines.{linesOf}
+use Rattle.matrix_file.specs.Optional.{optionalFields}
+use Rattle.matrix_file.specs.Weights.{weightsSaid}
 use Rattle.matrix_file.specs.Header.{headerIn, rowLine, behindHeader, askHeader}
 use Rattle.matrix_file.specs.Rows.{nameIn, codesIn, askRows}
 
@@ -18,20 +20,30 @@ use Rattle.matrix_file.specs.Rows.{nameIn, codesIn, askRows}
 abbrev pub mostBytes : ℕ
 mostBytes = 45000
 
--- what a header and the lines behind it say: n rows
+-- the lines of the rows of a file with this header
+abbrev pub rowLines : Header → List (List ℕ) → List (List ℕ)
+rowLines header lines = take (header .n) (behindHeader header lines)
+
+-- the weights that the lines of a file with this header say: those of the line behind line 1, or 1 for each character
+abbrev pub weightsOf : Header → List (List ℕ) → List ℕ
+weightsOf header lines = weightsSaid (header .weighed) (header .m) (optionalFields (drop 1 lines))
+
+-- what the lines of a file with this header say: the weights, and n rows
 unfoldable pub jobOf : Header → List (List ℕ) → Job
 jobOf header lines =
     record {
       n = header .n;
       m = header .m;
       order = header .order;
-      names = map nameIn (take (header .n) lines);
-      rows = map codesIn (take (header .n) lines);
+      weighed = header .weighed;
+      weights = weightsOf header lines;
+      names = map nameIn (rowLines header lines);
+      rows = map codesIn (rowLines header lines);
     }
 
 -- what a file says, read without a question
 unfoldable pub jobIn : List ℕ → Job
-jobIn file = jobOf (headerIn (linesOf file)) (behindHeader (headerIn (linesOf file)) (linesOf file))
+jobIn file = jobOf (headerIn (linesOf file)) (linesOf file)
 
 -- nothing stands behind the last line (of a file's lines this last item is always there)
 unfoldable pub nothingMore : List (List ℕ) → Bool
@@ -44,13 +56,14 @@ nothingMore ((byte ∷ bytes) ∷ lines) = false
 unfoldable pub askEnd : {A : Type 0} → Outcome A → ℕ → List (List ℕ) → Outcome A
 askEnd rest line lines = onLine line (ask (nothingMore lines) FileGoesOn Passed) rest
 
--- the questions put to the lines behind a header: its rows, and then the end of the file
+-- the questions put to what stands behind the header of a file's lines: its rows, and then the end of the file
 unfoldable pub askBehind : Header → List (List ℕ) → Outcome Job
-askBehind header lines = askRows header [] (rowLine header 1) (header .n) lines (askEnd (value (jobOf header lines)))
+askBehind header lines =
+    askRows header [] (rowLine header 1) (header .n) (behindHeader header lines) (askEnd (value (jobOf header lines)))
 
 -- the questions put to a file's lines: the header, and then what stands behind it
 unfoldable pub askFile : List (List ℕ) → Outcome Job
-askFile lines = thenWith (askHeader lines) (λ header. askBehind header (behindHeader header lines))
+askFile lines = thenWith (askHeader lines) (λ header. askBehind header lines)
 
 -- the questions put to a file's length
 unfoldable pub askLength : List ℕ → Asked

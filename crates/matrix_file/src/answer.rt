@@ -11,11 +11,12 @@ pub enum OrderWord {
     Closest,
 }
 
-// What the header of a file says: the numbers of taxa and characters, and the word for the order of placing.
+// What the header of a file says: the numbers of taxa and characters, the word for the order of placing, and whether there is a `V` line.
 pub struct Header {
     pub n: usize,
     pub m: usize,
     pub order: OrderWord,
+    pub weighed: bool,
 }
 
 // The header of an accepted file, or why a file is refused and at which line.

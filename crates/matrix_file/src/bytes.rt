@@ -18,7 +18,7 @@ pub(crate) const TAB: u8 = 9;
 pub(crate) const LINE_FEED: u8 = 10;
 
 // Whether a byte is from `low` to `high`.
-fn between(low: u8, high: u8, byte: u8) -> bool
+pub(crate) fn between(low: u8, high: u8, byte: u8) -> bool
     ensures { λ r. ⌜ r ≡ leb low byte && leb byte high ⌝ }
 {
     low <= byte && byte <= high

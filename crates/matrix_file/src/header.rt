@@ -1,26 +1,36 @@
-// The header of a file: line 1.
+// The header of a file: line 1, and the `V` line.
 use crate::answer::Header;
 use crate::answer::OrderWord;
 use crate::answer::Read;
+use crate::answer::on_line;
 use crate::answer::refused;
 use crate::bytes::LINE_FEED;
 use crate::bytes::TAB;
+use crate::bytes::behind_part;
 use crate::bytes::field;
 use crate::bytes::first_part;
 use crate::bytes::same_text;
 use crate::bytes::separators;
 use crate::numbers::number_form;
 use crate::numbers::number_of;
+use crate::optional::lines_taken;
+use crate::optional::optional_there;
+use crate::weights::LETTER;
+use crate::weights::ask_weights;
 use matrix::questions::within_limits;
 use matrix::refusal::Refusal;
 ghost use mathlib.Core.Path.{_≡_};
 ghost use mathlib.Core.Bool.{true};
 ghost use Rattle.matrix_file.specs.Lines.{linesOf, fieldsOf};
-ghost use Rattle.matrix_file.specs.Header.{firstForm, orderKnown, orderIn, headerFrom, askHeader};
+ghost use Rattle.matrix_file.specs.Header.{firstForm, orderKnown, orderIn, headerFrom, headerLines, askHeader};
 ghost use Rattle.matrix_file.specs.Report.{readSays};
 
-// The lines that a header takes.
-pub(crate) const HEADER_LINES: usize = 1;
+// How many lines a header takes: line 1, and the `V` line if there is one.
+pub(crate) fn header_lines(header: Header) -> usize
+    ensures { λ r. ⌜ r ≡ headerLines header ⌝ }
+{
+    1 + lines_taken(header.weighed)
+}
 
 // Whether line 1 has three or four fields, of which the first is `W` and the next two are numbers.
 fn first_form(line: &[u8]) -> bool
@@ -68,23 +78,25 @@ fn order_in(line: &[u8]) -> OrderWord
     OrderWord::Unsaid
 }
 
-// The header that a line 1 of the right form says.
-fn header_from(line: &[u8]) -> Header
+// The header that a line 1 of the right form says, with what stands behind it.
+fn header_from(line: &[u8], behind: &[u8]) -> Header
     requires { ⌜ firstForm (fieldsOf (now line)) ≡ true ⌝ }
-    ensures { λ r. ⌜ r ≡ headerFrom (fieldsOf (now (line .entry))) ⌝ }
+    ensures { λ r. ⌜ r ≡ headerFrom (fieldsOf (now (line .entry))) (linesOf (now (behind .entry))) ⌝ }
 {
     let n = number_of(field(line, 1));
     let m = number_of(field(line, 2));
     let order = order_in(line);
+    let weighed = optional_there(behind, LETTER);
     Header {
         n: n,
         m: m,
         order: order,
+        weighed: weighed,
     }
 }
 
 // The questions put to the header of a file: is line 1 ended by a line feed, and has it the right form? Is a fourth field a word for the
-// order? Are n and m within their limits?
+// order? Are n and m within their limits? Is a `V` line behind it well formed?
 pub(crate) fn ask_header(file: &[u8]) -> Read
     ensures { λ r. ⌜ readSays r ≡ askHeader (linesOf (now (file .entry))) ⌝ }
 {
@@ -96,7 +108,8 @@ pub(crate) fn ask_header(file: &[u8]) -> Read
         return refused(Refusal::FirstLine, 1);
     }
     let known = order_known(line);
-    let header = header_from(line);
+    let behind = behind_part(file, LINE_FEED);
+    let header = header_from(line, behind);
     let within = within_limits(header.n, header.m);
     if !known {
         return refused(Refusal::UnknownOrder, 1);
@@ -104,5 +117,5 @@ pub(crate) fn ask_header(file: &[u8]) -> Read
     if !within {
         return refused(Refusal::BeyondLimits, 1);
     }
-    Read::Accepted(header)
+    on_line(2, ask_weights(behind, header), header)
 }

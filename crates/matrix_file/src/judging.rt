@@ -16,8 +16,8 @@ use crate::bytes::is_letter;
 use crate::bytes::rest_from;
 use crate::bytes::same_text;
 use crate::bytes::separators;
-use crate::header::HEADER_LINES;
 use crate::header::ask_header;
+use crate::header::header_lines;
 use crate::numbers::code_form;
 use crate::numbers::code_of;
 use matrix::MOST_TAXA;
@@ -25,12 +25,13 @@ use matrix::questions::in_range;
 use matrix::refusal::Asked;
 use matrix::refusal::Refusal;
 ghost use mathlib.Core.Path.{_≡_};
-ghost use Prim.Native.Nat.{_≤_};
+ghost use Prim.Native.Nat.{_≤_, _<_};
 ghost use lib.ListN.{length};
 ghost use Rattle.matrix.specs.Shape.{mostTaxa};
 ghost use Rattle.matrix.specs.Outcomes.{ask};
 ghost use Rattle.matrix_file.specs.Job.{nameForm, differsFromAll};
 ghost use Rattle.matrix_file.specs.Lines.{linesOf, fieldsOf};
+ghost use Rattle.matrix_file.specs.Header.{headerLines};
 ghost use Rattle.matrix_file.specs.Rows.{askCodes, askRow};
 ghost use Rattle.matrix_file.specs.Reading.{nothingMore, askBehind, readAnswer};
 ghost use Rattle.matrix_file.specs.Report.{readSays, withHeader};
@@ -155,12 +156,15 @@ fn ask_end(rest: &[u8]) -> Asked
     Asked::Passed
 }
 
-// The questions put to what stands behind the header: the rows, and then the end of the file.
-fn ask_behind(rows: &[u8], header: Header) -> Read
+// The questions put to what stands behind the header of a file: the rows, and then the end of the file.
+fn ask_behind(file: &[u8], header: Header) -> Read
     requires { ⌜ (header .n ≤ mostTaxa) × (1 ≤ header .m) ⌝ }
-    ensures { λ r. ⌜ readSays r ≡ withHeader (askBehind header (linesOf (now (rows .entry)))) ⌝ }
+    requires { ⌜ headerLines header < length (linesOf (now file)) ⌝ }
+    ensures { λ r. ⌜ readSays r ≡ withHeader (askBehind header (linesOf (now (file .entry)))) ⌝ }
 {
-    match ask_rows(rows, header, HEADER_LINES + 1) {
+    let passed = header_lines(header);
+    let rows = behind_lines(file, passed);
+    match ask_rows(rows, header, passed + 1) {
         RowsAnswer::Refused { refusal, line } => refused(refusal, line),
         RowsAnswer::Ended { at, line } => on_line(line, ask_end(rest_from(rows, at)), header),
     }
@@ -178,6 +182,6 @@ pub(crate) fn ask_file(file: &[u8]) -> Read
     }
     match ask_header(file) {
         Read::Refused { refusal, line } => refused(refusal, line),
-        Read::Accepted(header) => ask_behind(behind_lines(file, HEADER_LINES), header),
+        Read::Accepted(header) => ask_behind(file, header),
     }
 }

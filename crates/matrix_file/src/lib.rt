@@ -4,7 +4,9 @@ mod bytes;
 mod header;
 mod judging;
 mod numbers;
+mod optional;
 pub mod reading;
+mod weights;
 mod writing;
 
 // A name takes 16 bytes of the lent list.

@@ -1,10 +1,13 @@
-// Reading a file into a lent matrix and a lent list of names.
+// Reading a file into a lent matrix and lent lists of weights and names.
 use crate::NAMES_SIZE;
 use crate::answer::Read;
 use crate::answer::refused;
+use crate::bytes::LINE_FEED;
 use crate::bytes::behind_lines;
-use crate::header::HEADER_LINES;
+use crate::bytes::behind_part;
+use crate::header::header_lines;
 use crate::judging::ask_file;
+use crate::weights::write_weights;
 use crate::writing::write_matrix;
 use crate::writing::write_names;
 use matrix::COLUMNS;
@@ -12,11 +15,15 @@ use matrix::ROWS;
 use matrix::refusal::Refusal;
 ghost use Rattle.matrix_file.specs.Report.{ReadDone};
 
-// Reads a file: an accepted one is written into the matrix and the names; a refused one leaves both as they were.
-pub fn read(file: &[u8], matrix: &mut [i32], names: &mut [u8]) -> Read
-    ensures { λ r. ⌜ ReadDone (now (file .entry)) (now (matrix .entry)) (now (names .entry)) (now (matrix .exit)) (now (names .exit)) r ⌝ }
+// Reads a file: an accepted one is written into the matrix, the weights and the names; a refused one leaves the three as they were.
+pub fn read(file: &[u8], matrix: &mut [i32], weights: &mut [u8], names: &mut [u8]) -> Read
+    ensures { λ r. ⌜ ReadDone (now (file .entry)) (now (matrix .entry)) (now (weights .entry)) (now (names .entry))
+        (now (matrix .exit)) (now (weights .exit)) (now (names .exit)) r ⌝ }
 {
     if matrix.len() != ROWS * COLUMNS {
+        return refused(Refusal::ListSize, 0);
+    }
+    if weights.len() != COLUMNS {
         return refused(Refusal::ListSize, 0);
     }
     if names.len() != NAMES_SIZE {
@@ -26,8 +33,9 @@ pub fn read(file: &[u8], matrix: &mut [i32], names: &mut [u8]) -> Read
         Read::Refused { refusal, line } => refused(refusal, line),
         Read::Accepted(header) => {
             let n = header.n;
-            let rows = behind_lines(file, HEADER_LINES);
+            let rows = behind_lines(file, header_lines(header));
             write_matrix(matrix, rows, n);
+            write_weights(weights, behind_part(file, LINE_FEED), header);
             write_names(names, rows, n);
             Read::Accepted(header)
         }

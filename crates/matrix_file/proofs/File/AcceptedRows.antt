@@ -1,19 +1,24 @@
--- The rows of an accepted file: they are well formed, and they are those of the job that it says.
+-- The weights and the rows of an accepted file: they are well formed, and they are those of the job that it says.
 use mathlib.Core.Path.{_≡_, sym, ap, _∙_}
+use mathlib.Core.Bool.{true}
 use mathlib.Core.List.{List, [], _∷_, map}
 use Prim.Native.Nat.{ℕ, _≤_, _<_}
 use native.Mathlib.Omega.{arith}
-use lib.ListN.{length, take, length-append}
+use lib.ListN.{length, take, drop, length-append}
 use Rattle.lists.specs.Tests.{every}
 use Rattle.matrix.specs.Outcomes.{value}
+use Rattle.matrix_file.specs.Bytes.{lineFeed, behindPart}
 use Rattle.matrix_file.specs.Job.{Job}
 use Rattle.matrix_file.specs.Lines.{linesOf}
-use Rattle.matrix_file.specs.Header.{headerIn, headerLines, behindHeader}
+use Rattle.matrix_file.specs.Optional.{optionalFields}
+use Rattle.matrix_file.specs.Weights.{weightsForm}
+use Rattle.matrix_file.specs.Header.{headerIn, headerOf, headerLines, behindHeader}
 use Rattle.matrix_file.specs.Rows.{nameIn, codesIn}
-use Rattle.matrix_file.specs.Reading.{jobOf, jobIn, readAnswer}
+use Rattle.matrix_file.specs.Reading.{rowLines, weightsOf, jobOf, jobIn, readAnswer}
 use Rattle.matrix_file.specs.Walk.{rowForm, RowsFormed}
 use Rattle.matrix_file.proofs.File.FileOfRead.{FilePassed, file-passed, file-of-read}
-use Rattle.matrix_file.proofs.File.HeaderRead.{several-lines}
+use Rattle.matrix_file.proofs.File.HeaderRead.{several-lines, weights-formed, header-behind}
+use Rattle.matrix_file.proofs.Text.FirstPart.{parts-several}
 use Rattle.matrix_file.proofs.Rows.Within.{limits-high}
 
 -- a file that is accepted with a job
@@ -27,23 +32,42 @@ module _ (file : List ℕ) (job : Job) (e : readAnswer file ≡ value job) where
   unfolding jobIn
   accepted-job = passed .behind .is
 
-  -- it has at most 64 taxa
-  pub accepted-most : job .n ≤ 64
-  accepted-most = limits-high (job .n) (job .m) (file-of-read file job e .0 .limits) .0
+  -- it has at most 64 taxa and 128 characters
+  pub accepted-most : (job .n ≤ 64) × (job .m ≤ 128)
+  accepted-most = limits-high (job .n) (job .m) (file-of-read file job e .0 .limits)
 
   -- lines stand behind the header
   pub accepted-behind : headerLines (headerIn (linesOf file)) < length (linesOf file)
-  accepted-behind = several-lines (linesOf file) (passed .form)
+  accepted-behind = header-behind (linesOf file) (several-lines (linesOf file) (passed .form)) (passed .weights)
+
+  -- its weights are those of the line behind line 1, or 1 for each character
+  pub accepted-weights : job .weights ≡ weightsOf (headerIn (linesOf file)) (linesOf file)
+  unfolding jobOf
+  accepted-weights = sym (ap (λ read. read .weights) (passed .behind .is))
+
+  -- a `V` line has m weights
+  pub accepted-fields : headerIn (linesOf file) .weighed ≡ true
+      → weightsForm (headerIn (linesOf file) .m) (optionalFields (drop 1 (linesOf file))) ≡ true
+  accepted-fields = weights-formed (linesOf file) (several-lines (linesOf file) (passed .form)) (passed .weights)
+
+  -- the header read without a question is that of the job
+  pub accepted-header : headerIn (linesOf file) ≡ headerOf job
+  unfolding jobOf
+  accepted-header = ap headerOf (passed .behind .is)
+
+  -- what stands behind the first line feed has the lines behind line 1
+  pub accepted-text : linesOf (behindPart lineFeed file) ≡ drop 1 (linesOf file)
+  unfolding linesOf
+  accepted-text = sym (ap (drop 1) (parts-several lineFeed file (several-lines (linesOf file) (passed .form))))
 
   -- a text of the lines behind the header
   module _ (rows : List ℕ) (r : linesOf rows ≡ behindHeader (headerIn (linesOf file)) (linesOf file)) where
     -- its header has the job's n
     taxa : headerIn (linesOf file) .n ≡ job .n
-    unfolding jobOf
-    taxa = ap (λ said. said .n) (passed .behind .is)
+    taxa = ap (λ header. header .n) accepted-header
 
     -- its rows are the first n lines of the text
-    said : take (headerIn (linesOf file) .n) (behindHeader (headerIn (linesOf file)) (linesOf file)) ≡ take (job .n) (linesOf rows)
+    said : rowLines (headerIn (linesOf file)) (linesOf file) ≡ take (job .n) (linesOf rows)
     said = ap (λ lines. take (headerIn (linesOf file) .n) lines) (sym r) ∙ ap (λ n. take n (linesOf rows)) taxa
 
     -- its rows are well formed
@@ -55,7 +79,7 @@ module _ (file : List ℕ) (job : Job) (e : readAnswer file ≡ value job) where
                 arith,
                 taxa,
                 ap length (r ∙ passed .behind .all),
-                length-append (take (headerIn (linesOf file) .n) (behindHeader (headerIn (linesOf file)) (linesOf file))) ([] ∷ []),
+                length-append (rowLines (headerIn (linesOf file)) (linesOf file)) ([] ∷ []),
                 passed .behind .rows .count,
               );
           formed = ap (every rowForm) (sym said) ∙ passed .behind .formed;

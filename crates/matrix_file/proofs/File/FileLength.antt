@@ -1,7 +1,7 @@
--- The file of a job within the limits has at most 45,000 bytes: 64 rows of a name, 128 codes and their separators are fewer.
+-- The file of a job within the limits has at most 45,000 bytes: a `V` line and 64 rows of a name, 128 codes and their separators are fewer.
 use mathlib.Core.Path.{_≡_}
-use mathlib.Core.List.{List, [], _∷_, map, zipWith}
-use mathlib.Core.Bool.{true, false≢true}
+use mathlib.Core.List.{List, [], _∷_, _++_, map, zipWith}
+use mathlib.Core.Bool.{Bool, true, false, false≢true}
 use Prim.Native.Nat.{ℕ, suc, _+_, _*_, _≤_}
 use native.Mathlib.Omega.{arith}
 use lib.Dec.{leb}
@@ -15,7 +15,10 @@ use Rattle.matrix_file.specs.declared.answer.OrderWord.{OrderWord}
 use Rattle.matrix_file.specs.declared.answer.OrderWord.the-variants.{Unsaid, Advance, Closest}
 use Rattle.matrix_file.specs.Bytes.{tab, wordW, isLetter, joinedBy}
 use Rattle.matrix_file.specs.Decimal.{digitsOf, decimal}
-use Rattle.matrix_file.specs.Job.{Job, inName, nameForm, hasCodes, JobWithinLimits, orderFields, firstText, rowText, ended, fileOf}
+use Rattle.matrix_file.specs.Optional.{optionalLine}
+use Rattle.matrix_file.specs.Weights.{letterV, weightText}
+use Rattle.matrix_file.specs.Job.{Job, inName, nameForm, hasCodes, JobWithinLimits, orderFields, firstText, rowText, rowTexts, ended}
+use Rattle.matrix_file.specs.Job.{fileOf}
 use Rattle.matrix_file.specs.Reading.{mostBytes}
 use Rattle.lists.proofs.Both.{and-left, and-right}
 use Rattle.matrix_file.proofs.Decimal.Digits.{digits-length}
@@ -87,6 +90,23 @@ first-length job within =
     let high = limits-high (job .n) (job .m) (within .limits) in
     first-size (job .n) (job .m) (job .order) (digits-length (job .n) 2 (omega arith)) (digits-length (job .m) 2 (omega arith))
 
+-- a field and weights behind it: 2 bytes more for each weight
+weights-length : (field weights : List ℕ) → length (joinedBy tab (field ∷ map weightText weights)) ≤ length field + 2 * length weights
+unfolding joinedBy
+weights-length field [] = omega arith
+weights-length field (weight ∷ weights) =
+    let others = weights-length (weightText weight) weights in
+    rw length-append (omega arith)
+
+-- a `V` line of at most 128 weights, if it is there, adds at most 258 bytes with its line feed
+line-length : (weighed : Bool) (weights : List ℕ) (rows : List (List ℕ)) → length weights ≤ 128
+    → length (ended (optionalLine weighed letterV (map weightText weights) ++ rows)) ≤ 258 + length (ended rows)
+unfolding optionalLine ended
+line-length true weights rows few =
+    let line = weights-length (letterV ∷ []) weights in
+    rw length-append (omega arith)
+line-length false weights rows few = omega arith
+
 -- so the file of a job within the limits is never too long
 pub file-short : (job : Job) → JobWithinLimits job → length (fileOf job) ≤ mostBytes
 unfolding fileOf ended
@@ -94,4 +114,5 @@ file-short job within =
     let high = limits-high (job .n) (job .m) (within .limits) in
     let first = first-length job within in
     let others = rows-length (job .m) [] (job .names) (job .rows) (high .1) (job-rows job within) in
+    let line = line-length (job .weighed) (job .weights) (rowTexts job) (omega (arith, within .weight-count)) in
     rw length-append (omega (arith, within .name-count))

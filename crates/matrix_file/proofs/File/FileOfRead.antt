@@ -1,12 +1,13 @@
 -- An accepted file is the file of the job that it says, and the job is within the limits.
 use mathlib.Core.Path.{_≡_, refl, sym, ap, ap₂, _∙_, subst}
-use mathlib.Core.List.{List, [], _∷_, _++_}
-use mathlib.Core.Bool.{true, false≢true}
-use Prim.Native.Nat.{ℕ, _+_, _≤_}
+use mathlib.Core.List.{List, [], _∷_, _++_, map, append-assoc}
+use mathlib.Core.Bool.{Bool, true, false, false≢true}
+use Prim.Native.Nat.{ℕ, zero, suc, _+_, _≤_}
 use borrow.Author.Tests.{leb-true}
-use lib.Dec.{leb}
+use lib.Dec.{leb, eqb}
 use lib.ListN.{length, length-map, getD, take, drop, take-append-drop}
-use Rattle.lists.specs.Tests.{every}
+use Rattle.lists.specs.Tests.{every, sameNumbers as sameText}
+use Rattle.lists.proofs.Both.{and-right}
 use Rattle.matrix.specs.Outcomes.{value}
 use Rattle.matrix.specs.Questions.{withinLimits}
 use Rattle.matrix.specs.declared.refusal.Refusal.the-variants.{FileTooLong, FileGoesOn}
@@ -14,14 +15,18 @@ use Rattle.matrix.specs.declared.refusal.Asked.the-variants.{Passed}
 use Rattle.matrix.proofs.Passing.{ask-passed}
 use Rattle.matrix_file.specs.declared.answer.Header.{Header}
 use Rattle.matrix_file.specs.Bytes.{lineFeed, joinedBy}
-use Rattle.matrix_file.specs.Job.{Job, JobWithinLimits, ended, fileOf}
+use Rattle.matrix_file.specs.Optional.{optionalThere, optionalFields, linesTaken, optionalLine, letterFree}
+use Rattle.matrix_file.specs.Weights.{letterV, weightForm, weightText, weightsForm, weightsSaid}
+use Rattle.matrix_file.specs.Job.{Job, JobWithinLimits, weightLine, ended, fileOf}
 use Rattle.matrix_file.specs.Lines.{linesOf}
-use Rattle.matrix_file.specs.Header.{rowLine, firstFields, headerIn, behindHeader, firstLineForm, orderKnown, askHeader}
+use Rattle.matrix_file.specs.Header.{rowLine, firstFields, headerIn, behindHeader, firstLineForm, orderKnown, askWeights, askHeader}
 use Rattle.matrix_file.specs.Rows.{nameIn, codesIn}
-use Rattle.matrix_file.specs.Reading.{mostBytes, jobOf, nothingMore, askEnd, askBehind, askFile, askLength, readAnswer}
+use Rattle.matrix_file.specs.Reading.{mostBytes, rowLines, jobOf, nothingMore, askEnd, askBehind, askFile, askLength, readAnswer}
 use Rattle.matrix_file.specs.Walk.{rowForm}
 use Rattle.matrix_file.proofs.File.Outcomes.{line-passed, then-passed}
-use Rattle.matrix_file.proofs.File.HeaderRead.{header-passed, lines-split, first-written}
+use Rattle.matrix_file.proofs.File.WeightFields.{weights-written, said-count, said-known, said-ones}
+use Rattle.matrix_file.proofs.File.HeaderRead.{header-passed, several-lines, lines-split, first-written}
+use Rattle.matrix_file.proofs.File.HeaderRead.{weights-formed, drop-behind, header-split}
 use Rattle.matrix_file.proofs.Text.Parts.{joined-parts, joined-ended}
 use Rattle.matrix_file.proofs.Rows.PassedRows.{RowsRead, rows-read, rows-formed}
 
@@ -33,11 +38,11 @@ nothing-more ([] ∷ []) e = refl
 nothing-more ([] ∷ next ∷ lines) e = absurd (false≢true e)
 nothing-more ((byte ∷ bytes) ∷ lines) e = absurd (false≢true e)
 
--- what the lines behind a header tell that pass: their rows were read, nothing stands behind these, and they say the job
+-- what lines tell whose part behind the header passes: its rows were read, nothing stands behind these, and the lines say the job
 pub record BehindPassed (header : Header) (lines : List (List ℕ)) (job : Job) : Type 0 where
-  pub rows : RowsRead header [] (header .n) lines
-  pub formed : every rowForm (take (header .n) lines) ≡ true
-  pub all : lines ≡ take (header .n) lines ++ ([] ∷ [])
+  pub rows : RowsRead header [] (header .n) (behindHeader header lines)
+  pub formed : every rowForm (rowLines header lines) ≡ true
+  pub all : behindHeader header lines ≡ rowLines header lines ++ ([] ∷ [])
   pub is : jobOf header lines ≡ job
 
 -- lines that pass tell so
@@ -45,15 +50,16 @@ pub behind-passed : (header : Header) (lines : List (List ℕ)) (job : Job) → 
     → askBehind header lines ≡ value job → BehindPassed header lines job
 unfolding askBehind askEnd
 behind-passed header lines job limits e =
-    let read = rows-read header [] (rowLine header 1) (header .n) lines (askEnd (value (jobOf header lines))) job e in
+    let behind = behindHeader header lines in
+    let read = rows-read header [] (rowLine header 1) (header .n) behind (askEnd (value (jobOf header lines))) job e in
     let end = line-passed (rowLine header 1 + header .n) _ (value (jobOf header lines)) job (read .1) in
-    let none = ask-passed (nothingMore (drop (header .n) lines)) FileGoesOn Passed (end .0) in
+    let none = ask-passed (nothingMore (drop (header .n) behind)) FileGoesOn Passed (end .0) in
     record {
       rows = read .0;
-      formed = rows-formed header [] (rowLine header 1) (header .n) lines (askEnd (value (jobOf header lines))) job limits e;
+      formed = rows-formed header [] (rowLine header 1) (header .n) behind (askEnd (value (jobOf header lines))) job limits e;
       all =
-          sym (take-append-drop (header .n) lines)
-          ∙ ap (λ behind. take (header .n) lines ++ behind) (nothing-more (drop (header .n) lines) (none .0));
+          sym (take-append-drop (header .n) behind)
+          ∙ ap (λ rest. take (header .n) behind ++ rest) (nothing-more (drop (header .n) behind) (none .0));
       is = cc (end .1);
     }
 
@@ -63,7 +69,8 @@ pub record FilePassed (file : List ℕ) (job : Job) : Type 0 where
   pub form : firstLineForm (linesOf file) ≡ true
   pub order : orderKnown (firstFields (linesOf file)) ≡ true
   pub limits : withinLimits (headerIn (linesOf file) .n) (headerIn (linesOf file) .m) ≡ true
-  pub behind : BehindPassed (headerIn (linesOf file)) (behindHeader (headerIn (linesOf file)) (linesOf file)) job
+  pub weights : askWeights (headerIn (linesOf file)) (drop 1 (linesOf file)) ≡ Passed
+  pub behind : BehindPassed (headerIn (linesOf file)) (linesOf file) job
 
 -- a file that passes tells so
 pub file-passed : (file : List ℕ) (job : Job) → readAnswer file ≡ value job → FilePassed file job
@@ -71,59 +78,100 @@ unfolding readAnswer askLength askFile
 file-passed file job e =
     let start = line-passed 0 (askLength file) (askFile (linesOf file)) job e in
     let short = ask-passed (leb (length file) mostBytes) FileTooLong _ (start .0) in
-    let read = then-passed (askHeader (linesOf file)) (λ header. askBehind header (behindHeader header (linesOf file))) job (start .1) in
+    let read = then-passed (askHeader (linesOf file)) (λ header. askBehind header (linesOf file)) job (start .1) in
     let first = header-passed (linesOf file) (read .0) (read .1) in
     record {
       short = leb-true (length file) mostBytes (short .0);
       form = first .form;
       order = first .order;
       limits = first .limits;
+      weights = first .weights;
       behind =
-          behind-passed (headerIn (linesOf file)) _ job (first .limits)
-          (ap (λ header. askBehind header (behindHeader header (linesOf file))) (first .is) ∙ read .2);
+          behind-passed (headerIn (linesOf file)) (linesOf file) job (first .limits)
+          (ap (λ header. askBehind header (linesOf file)) (first .is) ∙ read .2);
     }
 
--- a header within the limits and lines behind it that were read: the job that they say is within the limits
-job-within : (header : Header) (lines : List (List ℕ)) → withinLimits (header .n) (header .m) ≡ true
-    → RowsRead header [] (header .n) lines → JobWithinLimits (jobOf header lines)
-unfolding jobOf
-job-within header lines limits read =
-    let within = read .within in
-    record {
-      limits = limits;
-      name-count = length-map (take (header .n) lines) nameIn ∙ read .count;
-      names-formed = within .formed;
-      names-differ = within .differ;
-      row-count = length-map (take (header .n) lines) codesIn ∙ read .count;
-      rows-full = within .full;
-      codes-in-range = within .near;
-    }
+-- where no `V` line was found, row 1 has another name
+name-free : (weighed : Bool) (n : ℕ) (behind : List (List ℕ)) → weighed ≡ optionalThere letterV behind
+    → letterFree weighed letterV (map nameIn (take n (drop (linesTaken weighed) behind))) ≡ true
+unfolding letterFree optionalThere nameIn sameText
+name-free true n behind found = refl
+name-free false zero behind found = refl
+name-free false (suc n) [] found = refl
+name-free false (suc n) (line ∷ lines) found = rw (sym found)
 
+-- the `V` line is written in the one way
+line-written : (weighed : Bool) (m : ℕ) (fields : List (List ℕ)) → (weighed ≡ true → weightsForm m fields ≡ true)
+    → optionalLine weighed letterV (map weightText (weightsSaid weighed m fields)) ≡ optionalLine weighed letterV fields
+unfolding weightsSaid weightsForm optionalLine
+line-written true m fields formed =
+    ap (optionalLine true letterV) (weights-written fields (and-right (eqb (length fields) m) (every weightForm fields) (formed refl)))
+line-written false m fields formed = refl
+
+-- a file that passes
 module _ (file : List ℕ) (job : Job) (passed : FilePassed file job) where
+  -- its lines
+  abbrev lines : List (List ℕ)
+  lines = linesOf file
+
   -- its header
   abbrev header : Header
   header = headerIn (linesOf file)
 
-  -- the lines behind it
-  abbrev lines : List (List ℕ)
-  lines = behindHeader (headerIn (linesOf file)) (linesOf file)
+  -- the fields of a `V` line, if it is there
+  abbrev fields : List (List ℕ)
+  fields = optionalFields (drop 1 (linesOf file))
+
+  -- they are m weights
+  formed : header .weighed ≡ true → weightsForm (header .m) fields ≡ true
+  formed = weights-formed lines (several-lines lines (passed .form)) (passed .weights)
+
+  -- the job that it says is within the limits
+  job-within : JobWithinLimits (jobOf header lines)
+  unfolding jobOf headerIn
+  job-within =
+      let read = passed .behind .rows in
+      let within = read .within in
+      record {
+        limits = passed .limits;
+        weight-count = said-count (header .m) fields (header .weighed) formed;
+        weights-known = said-known (header .m) fields (header .weighed) formed;
+        weights-unsaid = said-ones (header .m) fields (header .weighed);
+        name-count = length-map (rowLines header lines) nameIn ∙ read .count;
+        names-formed = within .formed;
+        names-differ = within .differ;
+        name-free =
+            ap (λ behind. letterFree (header .weighed) letterV (map nameIn (take (header .n) behind)))
+            (sym (drop-behind (linesTaken (header .weighed)) lines))
+            ∙ name-free (header .weighed) (header .n) (drop 1 lines) refl;
+        row-count = length-map (rowLines header lines) codesIn ∙ read .count;
+        rows-full = within .full;
+        codes-in-range = within .near;
+      }
+
+  -- its lines behind line 1 are the `V` line of the job, if it has one, its rows, and nothing behind these
+  lines-written : drop 1 lines ≡ (weightLine (jobOf header lines) ++ rowLines header lines) ++ ([] ∷ [])
+  unfolding jobOf
+  lines-written =
+      header-split lines (several-lines lines (passed .form)) (passed .weights)
+      ∙ ap₂ _++_ (sym (line-written (header .weighed) (header .m) fields formed)) (passed .behind .all)
+      ∙ sym (append-assoc (weightLine (jobOf header lines)) (rowLines header lines) ([] ∷ []))
 
   -- it is the file of the job that it says
   file-written : file ≡ fileOf (jobOf header lines)
   unfolding jobOf fileOf linesOf
   file-written =
       sym (joined-parts lineFeed file)
-      ∙ ap (joinedBy lineFeed) (lines-split (linesOf file) (passed .form))
-      ∙ ap (λ behind. joinedBy lineFeed (getD (linesOf file) 0 [] ∷ behind)) (passed .behind .all)
-      ∙ joined-ended (getD (linesOf file) 0 [] ∷ take (header .n) lines)
-      ∙ sym (ap₂ (λ first others. ended (first ∷ others))
-      (first-written (linesOf file) (passed .form) (passed .order) (jobOf header lines) refl) (passed .behind .rows .written))
+      ∙ ap (joinedBy lineFeed) (lines-split lines (passed .form))
+      ∙ ap (λ behind. joinedBy lineFeed (getD lines 0 [] ∷ behind)) lines-written
+      ∙ joined-ended (getD lines 0 [] ∷ weightLine (jobOf header lines) ++ rowLines header lines)
+      ∙ sym (ap₂ (λ first others. ended (first ∷ weightLine (jobOf header lines) ++ others))
+      (first-written lines (passed .form) (passed .order) (jobOf header lines) refl) (passed .behind .rows .written))
 
 -- an accepted file is the file of its job, which is within the limits, and has at most 45,000 bytes
 pub file-of-read : (file : List ℕ) (job : Job) → readAnswer file ≡ value job
     → JobWithinLimits job × (file ≡ fileOf job) × (length file ≤ mostBytes)
 file-of-read file job e =
     let passed = file-passed file job e in
-    let within = job-within (headerIn (linesOf file)) _ (passed .limits) (passed .behind .rows) in
     subst (λ said. JobWithinLimits said × (file ≡ fileOf said) × (length file ≤ mostBytes)) (passed .behind .is)
-    (within, file-written file job passed, passed .short)
+    (job-within file job passed, file-written file job passed, passed .short)

@@ -1,8 +1,8 @@
 -- The questions put to a file, as they are put one after another: its length, the header, the rows, and the end.
-use mathlib.Core.Path.{_≡_, refl, sym, ap, _∙_}
+use mathlib.Core.Path.{_≡_, refl, sym, ap, ap₂, _∙_}
 use mathlib.Core.List.{List, [], _∷_}
 use mathlib.Core.Bool.{Bool, true, false, and-eq-true-iff}
-use Prim.Native.Nat.{ℕ, _≤_, _<_}
+use Prim.Native.Nat.{ℕ, _+_, _≤_, _<_}
 use native.Mathlib.Omega.{arith}
 use borrow.Author.Tests.{le-leb, lt-leb}
 use lib.Dec.{eqb}
@@ -22,23 +22,29 @@ use Rattle.matrix_file.specs.declared.answer.RowsAnswer.{RowsAnswer}
 use Rattle.matrix_file.specs.declared.answer.RowsAnswer.the-variants as RowsAnswer
 use Rattle.matrix_file.specs.Bytes.{lineFeed, beforeFirst, partsAt, partLength, firstPart, behindPart}
 use Rattle.matrix_file.specs.Lines.{linesOf, fieldsOf}
-use Rattle.matrix_file.specs.Header.{rowLine, headerFrom, headerIn, behindHeader}
-use Rattle.matrix_file.specs.Header.{firstForm, firstLineForm, orderKnown, askFirstLine, askHeader}
+use Rattle.matrix_file.specs.Header.{headerLines, rowLine, headerFrom, headerIn, behindHeader}
+use Rattle.matrix_file.specs.Header.{firstForm, firstLineForm, orderKnown, askFirstLine, askWeights, askHeader}
+use Rattle.matrix_file.specs.Rows.{askRows}
 use Rattle.matrix_file.specs.Reading.{mostBytes, jobOf, nothingMore, askEnd, askBehind, askFile, askLength, readAnswer}
 use Rattle.matrix_file.specs.Report.{readSays, withHeader}
 use Rattle.matrix_file.specs.Walk.{headerOn, rowsSay, RowsAsked}
-use Rattle.matrix_file.proofs.File.HeaderRead.{HeaderPassed, header-passed, several-lines}
+use Rattle.matrix_file.proofs.File.HeaderRead.{HeaderPassed, header-passed, several-lines, header-behind}
 use Rattle.matrix_file.proofs.Text.Parts.{parts-some, parts-at, parts-other}
 use Rattle.matrix_file.proofs.Text.FirstPart.{first-length, part-within, parts-one, parts-more}
 
--- what the questions put to line 1 bring, by its fields
-abbrev fieldsAsked : List (List ℕ) → Outcome Header
-fieldsAsked fields =
+-- what the questions put to a header bring, by the fields of line 1 and the lines behind it
+abbrev fieldsAsked : List (List ℕ) → List (List ℕ) → Outcome Header
+fieldsAsked fields behind =
     onLine 1
     (ask (firstForm fields) FirstLine
     (ask (orderKnown fields) UnknownOrder
-    (ask (withinLimits (headerFrom fields .n) (headerFrom fields .m)) BeyondLimits Asked.Passed)))
-    (value (headerFrom fields))
+    (ask (withinLimits (headerFrom fields behind .n) (headerFrom fields behind .m)) BeyondLimits Asked.Passed)))
+    (onLine 2 (askWeights (headerFrom fields behind) behind) (value (headerFrom fields behind)))
+
+-- the header or a refusal on a line, in document 01's terms
+header-says : (line : ℕ) (asked : Asked) (header : Header) → readSays (headerOn line asked header) ≡ onLine line asked (value header)
+header-says line Asked.Passed header = refl
+header-says line (Asked.Refused refusal) header = refl
 
 -- the header of a file with line 1
 module _ (file line : List ℕ) (l : line ≡ firstPart lineFeed file) where
@@ -59,12 +65,12 @@ module _ (file line : List ℕ) (l : line ≡ firstPart lineFeed file) where
         parts-more lineFeed file (omega (arith, line-length, part-within lineFeed file))
         ∙ ap (λ x. x ∷ partsAt lineFeed (behindPart lineFeed file)) (sym l)
 
-    -- its fields decide
-    fields-decide : askHeader (linesOf file) ≡ fieldsAsked (fieldsOf line)
+    -- its fields and the lines behind it decide
+    fields-decide : askHeader (linesOf file) ≡ fieldsAsked (fieldsOf line) (linesOf (behindPart lineFeed file))
     unfolding askHeader askFirstLine firstLineForm headerIn linesOf
     fields-decide =
         let more = parts-some lineFeed (behindPart lineFeed file) in
-        ap askHeader (lines ∙ ap (_∷_ line) (more .2))
+        ap askHeader (lines ∙ ap (_∷_ line) (more .2)) ∙ ap (fieldsAsked (fieldsOf line)) (sym (more .2))
 
     -- its form is not right
     pub bad-first : firstForm (fieldsOf line) ≡ false → refused 3 1 ≡ askHeader (linesOf file)
@@ -75,22 +81,31 @@ module _ (file line : List ℕ) (l : line ≡ firstPart lineFeed file) where
       pub bad-order : orderKnown (fieldsOf line) ≡ false → refused 15 1 ≡ askHeader (linesOf file)
       bad-order e = sym (fields-decide ∙ rw (form, e))
 
-      module _ (known : orderKnown (fieldsOf line) ≡ true) (header : Header) (h : header ≡ headerFrom (fieldsOf line)) where
-        -- the limits decide
+      module _ (known : orderKnown (fieldsOf line) ≡ true) (behind : List ℕ) (b : behind ≡ behindPart lineFeed file) (header : Header)
+          (h : header ≡ headerFrom (fieldsOf line) (linesOf behind)) where
+        -- the limits decide, and then the weights
         limits-decide : askHeader (linesOf file)
-            ≡ onLine 1 (ask (withinLimits (header .n) (header .m)) BeyondLimits Asked.Passed) (value header)
+            ≡ onLine 1 (ask (withinLimits (header .n) (header .m)) BeyondLimits Asked.Passed)
+            (onLine 2 (askWeights header (linesOf behind)) (value header))
         limits-decide =
             fields-decide
+            ∙ ap (λ text. fieldsAsked (fieldsOf line) (linesOf text)) (sym b)
             ∙ rw (form, known)
-            (ap (λ read. onLine 1 (ask (withinLimits (read .n) (read .m)) BeyondLimits Asked.Passed) (value read)) (sym h))
+            (ap
+            (λ read.
+            onLine 1 (ask (withinLimits (read .n) (read .m)) BeyondLimits Asked.Passed)
+            (onLine 2 (askWeights read (linesOf behind)) (value read)))
+            (sym h))
 
         -- n or m is beyond its limits
         pub beyond : withinLimits (header .n) (header .m) ≡ false → refused 4 1 ≡ askHeader (linesOf file)
         beyond e = sym (limits-decide ∙ rw e)
 
-        -- both are within them
-        pub header-found : withinLimits (header .n) (header .m) ≡ true → value header ≡ askHeader (linesOf file)
-        header-found e = sym (limits-decide ∙ rw e)
+        -- both are within them: the weights decide
+        pub header-found : withinLimits (header .n) (header .m) ≡ true → (asked : Asked) → asked ≡ askWeights header (linesOf behind)
+            → readSays (headerOn 2 asked header) ≡ askHeader (linesOf file)
+        header-found e asked a =
+            header-says 2 asked header ∙ ap (λ x. onLine 2 x (value header)) a ∙ sym (limits-decide ∙ rw e)
 
 -- something stands behind the last line
 more-than-nothing : (b : ℕ) (bs : List ℕ) → nothingMore (partsAt lineFeed (b ∷ bs)) ≡ false
@@ -116,36 +131,40 @@ unfolding linesOf nothingMore partsAt
 ends [] h = refl
 ends (byte ∷ bytes) h = absurd (omega arith)
 
--- the header or a refusal on a line, in document 01's terms
+-- and of what the file's lines bring, the header alone
 header-on : (line : ℕ) (asked : Asked) (header : Header) (lines : List (List ℕ))
     → readSays (headerOn line asked header) ≡ withHeader (onLine line asked (value (jobOf header lines)))
 unfolding jobOf
 header-on line Asked.Passed header lines = refl
 header-on line (Asked.Refused refusal) header lines = refl
 
--- what stands behind a header, once its rows have been asked
-module _ (rows : List ℕ) (header : Header) (answer : RowsAnswer) (asked : RowsAsked rows header (rowLine header 1) answer) where
+-- what stands behind the header of a file, once its rows have been asked
+module _ (file : List ℕ) (header : Header) (passed : ℕ) (p : passed ≡ headerLines header) (rows : List ℕ)
+    (r : linesOf rows ≡ drop passed (linesOf file)) (answer : RowsAnswer) (asked : RowsAsked rows header (passed + 1) answer) where
+  -- what the rows bring, and then the end of the file
+  rows-say : rowsSay rows answer (askEnd (value (jobOf header (linesOf file)))) ≡ askBehind header (linesOf file)
+  unfolding askBehind
+  rows-say =
+      asked .says (askEnd (value (jobOf header (linesOf file))))
+      ∙ ap₂ (λ k lines. askRows header [] (k + 1) (header .n) lines (askEnd (value (jobOf header (linesOf file))))) p
+      (r ∙ ap (λ k. drop k (linesOf file)) p)
+
   -- the rows are refused
   pub rows-refused : (refusal : Refusal) (line : ℕ) → answer ≡ RowsAnswer.Refused refusal line
-      → refused (refusalNumber refusal) line ≡ withHeader (askBehind header (linesOf rows))
-  unfolding askBehind
+      → refused (refusalNumber refusal) line ≡ withHeader (askBehind header (linesOf file))
   rows-refused refusal line e =
-      ap withHeader
-      (sym (ap (λ r. rowsSay rows r (askEnd (value (jobOf header (linesOf rows))))) e)
-      ∙ asked .says (askEnd (value (jobOf header (linesOf rows)))))
+      ap withHeader (sym (ap (λ r. rowsSay rows r (askEnd (value (jobOf header (linesOf file))))) e) ∙ rows-say)
 
   -- they end: the end of the file decides
   pub rows-ended : (at line : ℕ) → answer ≡ RowsAnswer.Ended at line → (rest : List ℕ) → rest ≡ drop at rows → (end : Asked)
       → end ≡ ask (nothingMore (linesOf rest)) FileGoesOn Asked.Passed
-      → readSays (headerOn line end header) ≡ withHeader (askBehind header (linesOf rows))
-  unfolding askBehind askEnd
-  rows-ended at line e rest r end n =
-      header-on line end header (linesOf rows)
-      ∙ ap (λ x. withHeader (onLine line x (value (jobOf header (linesOf rows)))))
-      (n ∙ ap (λ x. ask (nothingMore (linesOf x)) FileGoesOn Asked.Passed) r)
-      ∙ ap withHeader
-      (sym (ap (λ r. rowsSay rows r (askEnd (value (jobOf header (linesOf rows))))) e)
-      ∙ asked .says (askEnd (value (jobOf header (linesOf rows)))))
+      → readSays (headerOn line end header) ≡ withHeader (askBehind header (linesOf file))
+  unfolding askEnd
+  rows-ended at line e rest d end n =
+      header-on line end header (linesOf file)
+      ∙ ap (λ x. withHeader (onLine line x (value (jobOf header (linesOf file)))))
+      (n ∙ ap (λ x. ask (nothingMore (linesOf x)) FileGoesOn Asked.Passed) d)
+      ∙ ap withHeader (sym (ap (λ r. rowsSay rows r (askEnd (value (jobOf header (linesOf file))))) e) ∙ rows-say)
 
 -- a file that is too long, and an empty one
 pub too-long : (file : List ℕ) → mostBytes < length file → refused 1 0 ≡ withHeader (readAnswer file)
@@ -161,18 +180,17 @@ empty file h = rw h
 module _ (file : List ℕ) (low : length file ≤ mostBytes) (some : length file ≡ 0 → ⊥) (answer : Read)
     (a : readSays answer ≡ askHeader (linesOf file)) where
   -- the header and what stands behind it decide
-  sized : readAnswer file ≡ thenWith (readSays answer) (λ header. askBehind header (behindHeader header (linesOf file)))
+  sized : readAnswer file ≡ thenWith (readSays answer) (λ header. askBehind header (linesOf file))
   unfolding readAnswer askLength askFile
   sized =
       rw (le-leb (length file) mostBytes low, le-leb 1 (length file) (omega arith))
-      (ap (λ outcome. thenWith outcome (λ header. askBehind header (behindHeader header (linesOf file)))) (sym a))
+      (ap (λ outcome. thenWith outcome (λ header. askBehind header (linesOf file))) (sym a))
 
   -- the header is refused
   pub header-refused : (refusal : Refusal) (line : ℕ) → answer ≡ Refused refusal line
       → refused (refusalNumber refusal) line ≡ withHeader (readAnswer file)
   header-refused refusal line e =
-      sym (ap withHeader
-      (sized ∙ ap (λ r. thenWith (readSays r) (λ header. askBehind header (behindHeader header (linesOf file)))) e))
+      sym (ap withHeader (sized ∙ ap (λ r. thenWith (readSays r) (λ header. askBehind header (linesOf file))) e))
 
   module _ (header : Header) (e : answer ≡ Accepted header) where
     -- what it was answered
@@ -180,8 +198,9 @@ module _ (file : List ℕ) (low : length file ≤ mostBytes) (some : length file
     passed = header-passed (linesOf file) header (sym a ∙ ap readSays e)
 
     -- lines stand behind it
-    pub header-several : 1 < length (linesOf file)
-    header-several = several-lines (linesOf file) (passed .form)
+    pub header-several : headerLines header < length (linesOf file)
+    header-several =
+        rw (passed .is) at (header-behind (linesOf file) (several-lines (linesOf file) (passed .form)) (passed .weights))
 
     -- it has at most 64 taxa, and a character
     pub header-limits : (header .n ≤ 64) × (1 ≤ header .m)
@@ -193,10 +212,7 @@ module _ (file : List ℕ) (low : length file ≤ mostBytes) (some : length file
         (oneTo-true 64 (header .n) (both .0) .1, oneTo-true 128 (header .m) (both .1) .0)
 
     -- what stands behind it decides
-    pub behind-decides : (rows : List ℕ) → linesOf rows ≡ behindHeader header (linesOf file) → (outcome : Outcome Header)
-        → outcome ≡ withHeader (askBehind header (linesOf rows)) → outcome ≡ withHeader (readAnswer file)
-    behind-decides rows r outcome o =
-        o
-        ∙ ap (λ lines. withHeader (askBehind header lines)) r
-        ∙ sym (ap withHeader
-        (sized ∙ ap (λ r. thenWith (readSays r) (λ header. askBehind header (behindHeader header (linesOf file)))) e))
+    pub behind-decides : (outcome : Outcome Header) → outcome ≡ withHeader (askBehind header (linesOf file))
+        → outcome ≡ withHeader (readAnswer file)
+    behind-decides outcome o =
+        o ∙ sym (ap withHeader (sized ∙ ap (λ r. thenWith (readSays r) (λ header. askBehind header (linesOf file))) e))

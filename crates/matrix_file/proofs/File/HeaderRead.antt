@@ -1,9 +1,9 @@
--- The header of a file that passes its questions: its line 1 is written in the one way, and says what is read from it; and line 1 of a
--- job passes.
+-- The header of a file that passes its questions: its lines are written in the one way, and say what is read from them; and the header of
+-- a job passes.
 use mathlib.Core.Path.{_≡_, refl, sym, ap, ap₂, _∙_}
-use mathlib.Core.List.{List, [], _∷_}
+use mathlib.Core.List.{List, [], _∷_, _++_}
 use mathlib.Core.Bool.{true, false≢true}
-use Prim.Native.Nat.{ℕ, _≤_, _<_}
+use Prim.Native.Nat.{ℕ, zero, suc, _≤_, _<_}
 use native.Mathlib.Omega.{arith}
 use borrow.Author.Tests.{le-leb}
 use lib.ListN.{length, getD, drop, length-drop}
@@ -11,7 +11,7 @@ use Rattle.lists.specs.Tests.{every, sameNumbers as sameText}
 use Rattle.lists.proofs.Both.{and-both}
 use Rattle.matrix.specs.Outcomes.{value}
 use Rattle.matrix.specs.Questions.{withinLimits}
-use Rattle.matrix.specs.declared.refusal.Refusal.the-variants.{FirstLine, UnknownOrder, BeyondLimits}
+use Rattle.matrix.specs.declared.refusal.Refusal.the-variants.{FirstLine, UnknownOrder, BeyondLimits, WeightForm}
 use Rattle.matrix.specs.declared.refusal.Asked.the-variants.{Passed}
 use Rattle.matrix.proofs.Passing.{ask-passed}
 use Rattle.matrix_file.specs.declared.answer.Header.{Header}
@@ -19,9 +19,12 @@ use Rattle.matrix_file.specs.Bytes.{tab, lineFeed, wordW, joinedBy}
 use Rattle.matrix_file.specs.Decimal.{digitsOf}
 use Rattle.matrix_file.specs.Job.{Job, orderFields, firstText}
 use Rattle.matrix_file.specs.Lines.{fieldsOf}
-use Rattle.matrix_file.specs.Header.{orderIn, headerFrom, firstFields, headerIn, headerOf}
-use Rattle.matrix_file.specs.Header.{firstForm, firstLineForm, orderKnown, askFirstLine, askHeader}
+use Rattle.matrix_file.specs.Optional.{optionalThere, optionalFields, linesTaken, optionalLine}
+use Rattle.matrix_file.specs.Weights.{letterV, weightsForm}
+use Rattle.matrix_file.specs.Header.{orderIn, headerFrom, firstFields, headerIn, headerOf, headerLines, behindHeader}
+use Rattle.matrix_file.specs.Header.{firstForm, firstLineForm, orderKnown, askFirstLine, askWeights, askHeader}
 use Rattle.matrix_file.proofs.File.Outcomes.{line-passed}
+use Rattle.matrix_file.proofs.File.OptionalLine.{optional-passed, optional-left, optional-split}
 use Rattle.matrix_file.proofs.File.FirstForm.{form-tells}
 use Rattle.matrix_file.proofs.File.Order.{order-written, order-back, order-passes, order-plain, order-single}
 use Rattle.matrix_file.proofs.Decimal.Digits.{digits-of-number, number-of-digits, digits-form}
@@ -42,12 +45,13 @@ three-first (word ∷ n ∷ []) h = absurd (omega arith)
 three-first (word ∷ n ∷ m ∷ fields) h = refl
 
 -- fields of line 1 that pass are written in the one way
-fields-read : (fields : List (List ℕ)) → firstForm fields ≡ true → orderKnown fields ≡ true → headerFields (headerFrom fields) ≡ fields
+fields-read : (fields behind : List (List ℕ)) → firstForm fields ≡ true → orderKnown fields ≡ true
+    → headerFields (headerFrom fields behind) ≡ fields
 unfolding orderKnown orderIn
-fields-read fields form known =
+fields-read fields behind form known =
     let told = form-tells fields form in
     let single : length (drop 3 fields) ≤ 1 = omega (arith, length-drop 3 fields, told .few) in
-    ap (λ order. wordW ∷ digitsOf (headerFrom fields .n) ∷ digitsOf (headerFrom fields .m) ∷ order)
+    ap (λ order. wordW ∷ digitsOf (headerFrom fields behind .n) ∷ digitsOf (headerFrom fields behind .m) ∷ order)
     (order-written (drop 3 fields) single known)
     ∙ ap₂ (λ n m. wordW ∷ n ∷ m ∷ drop 3 fields) (digits-of-number (getD fields 1 []) (told .taxa))
     (digits-of-number (getD fields 2 []) (told .characters))
@@ -90,7 +94,7 @@ module _ (lines : List (List ℕ)) (form : firstLineForm lines ≡ true) where
   unfolding firstText headerIn fieldsOf
   first-written known job e =
       ap (λ header. joinedBy tab (headerFields header)) e
-      ∙ ap (joinedBy tab) (fields-read (firstFields lines) first-formed known)
+      ∙ ap (joinedBy tab) (fields-read (firstFields lines) (drop 1 lines) first-formed known)
       ∙ joined-parts tab (getD lines 0 [])
 
 -- what a header that passes tells
@@ -98,17 +102,53 @@ pub record HeaderPassed (lines : List (List ℕ)) (header : Header) : Type 0 whe
   pub form : firstLineForm lines ≡ true
   pub order : orderKnown (firstFields lines) ≡ true
   pub limits : withinLimits (headerIn lines .n) (headerIn lines .m) ≡ true
+  pub weights : askWeights (headerIn lines) (drop 1 lines) ≡ Passed
   pub is : headerIn lines ≡ header
 
 -- a header that passes tells so
 pub header-passed : (lines : List (List ℕ)) (header : Header) → askHeader lines ≡ value header → HeaderPassed lines header
 unfolding askHeader askFirstLine
 header-passed lines header e =
-    let first = line-passed 1 (askFirstLine lines) (value (headerIn lines)) header e in
+    let first = line-passed 1 (askFirstLine lines) _ header e in
+    let second = line-passed 2 (askWeights (headerIn lines) (drop 1 lines)) (value (headerIn lines)) header (first .1) in
     let form = ask-passed (firstLineForm lines) FirstLine _ (first .0) in
     let order = ask-passed (orderKnown (firstFields lines)) UnknownOrder _ (form .1) in
     let limits = ask-passed (withinLimits (headerIn lines .n) (headerIn lines .m)) BeyondLimits Passed (order .1) in
-    record { form = form .0; order = order .0; limits = limits .0; is = cc (first .1) }
+    record { form = form .0; order = order .0; limits = limits .0; weights = second .0; is = cc (second .1) }
+
+-- the lines behind line 1, and of these those behind some more
+pub drop-behind : (k : ℕ) (lines : List (List ℕ)) → drop k (drop 1 lines) ≡ drop (suc k) lines
+drop-behind zero [] = refl
+drop-behind (suc k) [] = refl
+drop-behind k (line ∷ lines) = refl
+
+-- a file's lines whose `V` line passes, if it is there
+module _ (lines : List (List ℕ)) (several : 1 < length lines) (asked : askWeights (headerIn lines) (drop 1 lines) ≡ Passed) where
+  -- the fields of a `V` line are m weights
+  pub weights-formed : headerIn lines .weighed ≡ true → weightsForm (headerIn lines .m) (optionalFields (drop 1 lines)) ≡ true
+  unfolding askWeights
+  weights-formed there =
+      optional-passed (headerIn lines .weighed) (weightsForm (headerIn lines .m) (optionalFields (drop 1 lines))) WeightForm (drop 1 lines)
+      asked there .1
+
+  -- lines stand behind the header
+  pub header-behind : headerLines (headerIn lines) < length lines
+  unfolding askWeights
+  header-behind =
+      let left =
+      optional-left (headerIn lines .weighed) (weightsForm (headerIn lines .m) (optionalFields (drop 1 lines))) WeightForm (drop 1 lines)
+      asked (omega (arith, length-drop 1 lines)) in
+      omega (arith, length-drop 1 lines, left)
+
+  -- behind line 1 stand the `V` line, if it is there, and the lines behind the header
+  pub header-split : drop 1 lines
+      ≡ optionalLine (headerIn lines .weighed) letterV (optionalFields (drop 1 lines)) ++ behindHeader (headerIn lines) lines
+  unfolding askWeights headerIn
+  header-split =
+      optional-split letterV (headerIn lines .weighed) (weightsForm (headerIn lines .m) (optionalFields (drop 1 lines))) WeightForm
+      (drop 1 lines) refl asked
+      ∙ ap (λ behind. optionalLine (headerIn lines .weighed) letterV (optionalFields (drop 1 lines)) ++ behind)
+      (drop-behind (linesTaken (headerIn lines .weighed)) lines)
 
 -- line 1 of a job is `W`, n, m, and the word for the order, if any
 module _ (job : Job) where
@@ -131,24 +171,32 @@ module _ (job : Job) where
   unfolding firstText
   first-lacks = line-lacks wordW behind words-plain
 
-  -- behind it stand lines: it says the header of the job, and passes
-  module _ (next : List ℕ) (others : List (List ℕ)) (within : withinLimits (job .n) (job .m) ≡ true) where
+  -- behind it stand lines, and among them the `V` line if the job has one: it says the header of the job, and passes
+  module _ (rest : List (List ℕ)) (some : 1 ≤ length rest) (within : withinLimits (job .n) (job .m) ≡ true)
+      (found : optionalThere letterV rest ≡ job .weighed) (asked : askWeights (headerOf job) rest ≡ Passed) where
     -- its header is read back
-    header-back : headerIn (firstText job ∷ next ∷ others) ≡ headerOf job
+    header-back : headerIn (firstText job ∷ rest) ≡ headerOf job
     unfolding headerIn orderIn
     header-back =
-        ap headerFrom first-fields ∙ rw (number-of-digits (job .n), number-of-digits (job .m), order-back (job .order))
+        ap (λ fields. headerFrom fields rest) first-fields
+        ∙ rw (number-of-digits (job .n), number-of-digits (job .m), order-back (job .order), found)
 
     -- its form is right
-    form-back : firstLineForm (firstText job ∷ next ∷ others) ≡ true
+    form-back : firstLineForm (firstText job ∷ rest) ≡ true
     unfolding firstLineForm firstForm sameText
     form-back =
         let high = limits-high (job .n) (job .m) within in
-        ap firstForm first-fields
+        by rest some
+        ∙ ap firstForm first-fields
         ∙ and-both
         (and-both (le-leb 3 (length (wordW ∷ behind)) (omega arith))
         (le-leb (length (wordW ∷ behind)) 4 (omega (arith, order-single (job .order)))))
         (and-both (digits-form (job .n) (omega arith)) (digits-form (job .m) (omega arith)))
+      where
+        -- a line stands behind it: its fields decide
+        by : (lines : List (List ℕ)) → 1 ≤ length lines → firstLineForm (firstText job ∷ lines) ≡ firstForm (fieldsOf (firstText job))
+        by [] none = absurd (omega arith)
+        by (next ∷ others) h = refl
 
     -- its word for the order is known
     known-back : orderKnown (fieldsOf (firstText job)) ≡ true
@@ -156,6 +204,6 @@ module _ (job : Job) where
     known-back = ap orderKnown first-fields ∙ order-passes (job .order)
 
     -- so its questions pass
-    pub header-passes : askHeader (firstText job ∷ next ∷ others) ≡ value (headerOf job)
+    pub header-passes : askHeader (firstText job ∷ rest) ≡ value (headerOf job)
     unfolding askHeader askFirstLine
-    header-passes = rw (form-back, known-back, header-back, within)
+    header-passes = rw (form-back, known-back, header-back, within, asked)

@@ -1,6 +1,6 @@
--- A file is refused by a number from 1 to 11 or by 15, and by no other. (That each of them is met is shown by the examples.)
+-- A file is refused by a number from 1 to 11, by 15 or by 16, and by no other. (That each of them is met is shown by the examples.)
 use mathlib.Core.Path.{_≡_, refl, ap, _∙_, subst}
-use mathlib.Core.Bool.{Bool, true, false, false≢true}
+use mathlib.Core.Bool.{Bool, true, false, _&&_, _||_, not, false≢true}
 use mathlib.Core.List.{List, [], _∷_}
 use Prim.Native.Nat.{ℕ, zero, suc, _≤_}
 use native.Mathlib.Omega.{arith}
@@ -15,7 +15,8 @@ use Rattle.matrix.specs.Shape.{inRange}
 use Rattle.matrix.specs.Outcomes.{ask, Outcome, value, refused, onLine, thenWith}
 use Rattle.matrix.specs.Questions.{withinLimits}
 use Rattle.matrix.specs.declared.refusal.Refusal.the-variants.{FileTooLong, FileEmpty, FirstLine, BeyondLimits, NameForm, NameTaken}
-use Rattle.matrix.specs.declared.refusal.Refusal.the-variants.{LineMissing, FieldCount, CodeForm, CodeRange, FileGoesOn, UnknownOrder}
+use Rattle.matrix.specs.declared.refusal.Refusal.the-variants.{LineMissing, FieldCount, CodeForm, CodeRange, FileGoesOn}
+use Rattle.matrix.specs.declared.refusal.Refusal.the-variants.{UnknownOrder, WeightForm}
 use Rattle.matrix.specs.declared.refusal.Refusal.{Refusal}
 use Rattle.matrix.specs.declared.refusal.Asked.{Asked}
 use Rattle.matrix.specs.declared.refusal.Asked.the-variants.{Passed, Refused}
@@ -23,17 +24,19 @@ use Rattle.matrix_file.specs.declared.answer.Header.{Header}
 use Rattle.matrix_file.specs.Decimal.{codeForm, codeOf}
 use Rattle.matrix_file.specs.Job.{nameForm, differsFromAll}
 use Rattle.matrix_file.specs.Lines.{linesOf, fieldsOf}
-use Rattle.matrix_file.specs.Header.{firstFields, rowLine, headerIn, behindHeader, firstLineForm, orderKnown, askFirstLine, askHeader}
+use Rattle.matrix_file.specs.Optional.{askOptional}
+use Rattle.matrix_file.specs.Header.{firstFields, rowLine, headerIn, behindHeader}
+use Rattle.matrix_file.specs.Header.{firstLineForm, orderKnown, askFirstLine, askWeights, askHeader}
 use Rattle.matrix_file.specs.Rows.{nameIn, askCodes, askRow, askRows}
 use Rattle.matrix_file.specs.Reading.{mostBytes, jobOf, nothingMore, askEnd, askBehind, askFile, askLength, readAnswer}
 
 -- the numbers of the refusals that a file can meet
 abbrev pub fileNumbers : List ℕ
-fileNumbers = 1 ∷ 2 ∷ 3 ∷ 4 ∷ 5 ∷ 6 ∷ 7 ∷ 8 ∷ 9 ∷ 10 ∷ 11 ∷ 15 ∷ []
+fileNumbers = 1 ∷ 2 ∷ 3 ∷ 4 ∷ 5 ∷ 6 ∷ 7 ∷ 8 ∷ 9 ∷ 10 ∷ 11 ∷ 15 ∷ 16 ∷ []
 
 -- the highest of them
 abbrev pub highestNumber : ℕ
-highestNumber = 15
+highestNumber = 16
 
 -- a number is one of these
 abbrev pub OfFile : ℕ → Type 0
@@ -101,21 +104,27 @@ numbered-end : {A : Type 0} (rest : Outcome A) → FileNumbered rest → (line :
 unfolding askEnd among
 numbered-end rest others line lines = numbered-line line (numbered-ask (nothingMore lines) FileGoesOn refl passed) others
 
+-- an optional line
+numbered-optional : (there formed : Bool) (refusal : Refusal) (lines : List (List ℕ)) → OfFile (refusalNumber refusal)
+    → Numbered (askOptional there formed refusal lines)
+unfolding askOptional
+numbered-optional there formed refusal lines own = numbered-ask (not there || (leb 2 (length lines) && formed)) refusal own passed
+
 -- the header
 numbered-header : (lines : List (List ℕ)) → FileNumbered (askHeader lines)
-unfolding askHeader askFirstLine among
+unfolding askHeader askFirstLine askWeights among
 numbered-header lines =
     numbered-line 1
     (numbered-ask (firstLineForm lines) FirstLine refl
     (numbered-ask (orderKnown (firstFields lines)) UnknownOrder refl
     (numbered-ask (withinLimits (headerIn lines .n) (headerIn lines .m)) BeyondLimits refl passed)))
-    with-value
+    (numbered-line 2 (numbered-optional (headerIn lines .weighed) _ WeightForm (drop 1 lines) refl) with-value)
 
 -- what stands behind it
 numbered-behind : (header : Header) (lines : List (List ℕ)) → FileNumbered (askBehind header lines)
 unfolding askBehind
 numbered-behind header lines =
-    numbered-rows header [] (rowLine header 1) (header .n) lines (askEnd (value (jobOf header lines)))
+    numbered-rows header [] (rowLine header 1) (header .n) (behindHeader header lines) (askEnd (value (jobOf header lines)))
     (numbered-end (value (jobOf header lines)) with-value)
 
 -- a whole file
@@ -125,8 +134,8 @@ numbered-file file =
     numbered-line 0
     (numbered-ask (leb (length file) mostBytes) FileTooLong refl
     (numbered-ask (leb 1 (length file)) FileEmpty refl passed))
-    (numbered-then (λ header. askBehind header (behindHeader header (linesOf file))) (numbered-header (linesOf file))
-    (λ header. numbered-behind header (behindHeader header (linesOf file))))
+    (numbered-then (λ header. askBehind header (linesOf file)) (numbered-header (linesOf file))
+    (λ header. numbered-behind header (linesOf file)))
 
 -- the number of a refusal
 number-of : {A : Type 0} {outcome : Outcome A} (number line : ℕ) → FileNumbered outcome → outcome ≡ refused number line → OfFile number

@@ -1,5 +1,5 @@
--- What the lent lists hold once a job has been written into them: its rows and its names, and every other code and byte as before. Such a
--- matrix passes the questions that are put to a lent one.
+-- What the lent lists hold once a job has been written into them: its rows, its weights and its names, and every other code and byte as
+-- before. Such a matrix with such weights passes the questions that are put to lent ones.
 use mathlib.Core.Path.{_≡_, refl, sym, ap, ap₂, _∙_}
 use mathlib.Core.List.{List, [], _∷_, map}
 use mathlib.Core.Bool.{Bool, true, false}
@@ -12,20 +12,22 @@ use lib.ListN.{length, getD, take, drop, length-map, List·getD-eq-default}
 use Rattle.lists.proofs.Both.{and-left, and-right}
 use Rattle.lists.proofs.Every.{every-at}
 use Rattle.lists.proofs.Filled.{length-filled}
+use Rattle.lists.proofs.Over.{length-over, over-item, over-behind}
 use Rattle.lists.proofs.Stripes.{Narrow, length-stripes, stripes-item, stripes-else}
 use Rattle.matrix.specs.declared.refusal.Refusal.the-variants.{ListSize}
 use Rattle.matrix.specs.declared.refusal.Asked.the-variants.{Passed}
 use Rattle.matrix.specs.Outcomes.{ask, value, afterwards}
 use Rattle.matrix_file.specs.declared.answer.Header.{Header}
-use Rattle.matrix.specs.Shape.{columns, matrixSize, row}
-use Rattle.matrix.specs.Questions.{allInRange, LentMatrix, oneTo, withinLimits}
+use Rattle.matrix.specs.Shape.{columns, matrixSize, row, isWeight}
+use Rattle.lists.specs.Tests.{every}
+use Rattle.matrix.specs.Questions.{allInRange, areWeights, LentMatrix, LentWeights, oneTo, withinLimits}
 use Rattle.matrix_file.specs.declared.answer.Read.{Read}
 use Rattle.matrix_file.specs.declared.answer.Read.the-variants.{Accepted}
 use Rattle.matrix_file.specs.Job.{Job, JobWithinLimits, hasCodes, nameForm, nameSize}
 use Rattle.matrix_file.specs.Reading.{readAnswer}
 use Rattle.matrix_file.specs.Report.{readSays, fullSize, readOutcome, ReadDone}
 use Rattle.matrix_file.specs.Header.{headerOf}
-use Rattle.matrix_file.specs.Written.{namesSize, padded, matrixWritten, namesWritten}
+use Rattle.matrix_file.specs.Written.{namesSize, padded, matrixWritten, weightsWritten, namesWritten}
 use Rattle.matrix.proofs.Passing.{ask-passed, oneTo-true}
 use Rattle.matrix_file.proofs.File.FileLength.{name-length}
 use Rattle.matrix_file.proofs.File.FileOfRead.{file-of-read}
@@ -126,6 +128,27 @@ module _ (job : Job) (within : JobWithinLimits job) where
               ap allInRange (job-row v low high) ∙ every-at allInRange (job .rows) (within .codes-in-range) (v - 1) [] place;
         }
 
+  -- written into a list of weights of full size
+  module _ (old : List ℕ) (full : length old ≡ columns) where
+    -- the first m weights are those of the job
+    pub job-weights : take (job .m) (weightsWritten (job .weights) old) ≡ job .weights
+    job-weights =
+        ap (λ count. take count (weightsWritten (job .weights) old)) (sym (within .weight-count))
+        ∙ over-item 0 (job .weights) old (omega (arith, within .weight-count, limits .3))
+
+    -- behind them all is as before
+    pub weights-else : (j : ℕ) → job .m ≤ j → getD (weightsWritten (job .weights) old) j 0 ≡ getD old j 0
+    weights-else j behind = over-behind 0 0 (job .weights) old j (omega (arith, within .weight-count))
+
+    -- they pass the questions that are put to lent ones
+    pub job-weighed : LentWeights (weightsWritten (job .weights) old) (job .m)
+    unfolding areWeights
+    job-weighed =
+        record {
+          full = length-over 0 (job .weights) old ∙ full;
+          known = ap (every isWeight) job-weights ∙ within .weights-known;
+        }
+
   -- written into a list of names of full size
   module _ (old : List ℕ) (full : length old ≡ namesSize) where
     -- the name of taxon v is that of the job, padded
@@ -152,13 +175,15 @@ module _ (job : Job) (within : JobWithinLimits job) where
         ∙ stripes-else nameSize 0 0 (map padded (job .names)) old names-narrow k j none low
         ∙ ap (λ i. getD old i 0) place
 
--- what an accepted read tells: the file says a job within the limits, with this header; the matrix had its full size; and what the lists
--- then hold
+-- what an accepted read tells: the file says a job within the limits, with this header; the matrix and the weights had their full size; and
+-- what the lists then hold
 pub record Accepting
     (file : List ℕ)
     (oldMatrix : List ℤ)
+    (oldWeights : List ℕ)
     (oldNames : List ℕ)
     (newMatrix : List ℤ)
+    (newWeights : List ℕ)
     (newNames : List ℕ)
     (header : Header) : Type 0 where
   pub job : Job
@@ -166,19 +191,23 @@ pub record Accepting
   pub within : JobWithinLimits job
   pub says : headerOf job ≡ header
   pub full : length oldMatrix ≡ matrixSize
+  pub weights-full : length oldWeights ≡ columns
   pub matrix : newMatrix ≡ matrixWritten (job .rows) oldMatrix
+  pub weights : newWeights ≡ weightsWritten (job .weights) oldWeights
   pub names : newNames ≡ namesWritten (job .names) oldNames
 
 -- an accepted read tells so
-pub read-accepting : (file : List ℕ) (oldMatrix : List ℤ) (oldNames : List ℕ) (newMatrix : List ℤ) (newNames : List ℕ) (r : Read)
-    (header : Header) → ReadDone file oldMatrix oldNames newMatrix newNames r → r ≡ Accepted header
-    → Accepting file oldMatrix oldNames newMatrix newNames header
+pub read-accepting : (file : List ℕ) (oldMatrix : List ℤ) (oldWeights oldNames : List ℕ) (newMatrix : List ℤ)
+    (newWeights newNames : List ℕ) (r : Read) (header : Header)
+    → ReadDone file oldMatrix oldWeights oldNames newMatrix newWeights newNames r → r ≡ Accepted header
+    → Accepting file oldMatrix oldWeights oldNames newMatrix newWeights newNames header
 unfolding readOutcome fullSize
-read-accepting file oldMatrix oldNames newMatrix newNames r header done e =
-    let outcome = readOutcome file oldMatrix oldNames in
+read-accepting file oldMatrix oldWeights oldNames newMatrix newWeights newNames r header done e =
+    let outcome = readOutcome file oldMatrix oldWeights oldNames in
     let found = then-passed outcome (λ job. value (headerOf job)) header (sym (done .says) ∙ ap readSays e) in
-    let size = line-passed 0 (ask (fullSize oldMatrix oldNames) ListSize Passed) (readAnswer file) (found .0) (found .1) in
-    let full = ask-passed (fullSize oldMatrix oldNames) ListSize Passed (size .0) .0 in
+    let sizes = fullSize oldMatrix oldWeights oldNames in
+    let size = line-passed 0 (ask sizes ListSize Passed) (readAnswer file) (found .0) (found .1) in
+    let full = ask-passed sizes ListSize Passed (size .0) .0 in
     let is = accepted-job file (found .0) (size .1) in
     record {
       job = found .0;
@@ -186,9 +215,15 @@ read-accepting file oldMatrix oldNames newMatrix newNames r header done e =
       within = file-of-read file (found .0) (size .1) .0;
       says = cc (found .2);
       full = eqb-true (length oldMatrix) matrixSize (and-left (eqb (length oldMatrix) matrixSize) _ full);
+      weights-full =
+          eqb-true (length oldWeights) columns
+          (and-left (eqb (length oldWeights) columns) _ (and-right (eqb (length oldMatrix) matrixSize) _ full));
       matrix =
           done .matrix
           ∙ ap₂ (λ x job. afterwards x (matrixWritten (job .rows) oldMatrix) oldMatrix) (found .1) is;
+      weights =
+          done .weights
+          ∙ ap₂ (λ x job. afterwards x (weightsWritten (job .weights) oldWeights) oldWeights) (found .1) is;
       names =
           done .names
           ∙ ap₂ (λ x job. afterwards x (namesWritten (job .names) oldNames) oldNames) (found .1) is;

@@ -32,8 +32,11 @@ returns-2 c =
 order-known-requires : tie.Need-order-known-requires
 order-known-requires c κs = sym (c .before .first-form .ensures) ∙ not-false _ (c .if2 .left)
 
+behind-part-requires : tie.Need-behind-part-requires
+behind-part-requires c κs = search needs
+
 header-from-requires : tie.Need-header-from-requires
-header-from-requires c κs = sym (c .before .before .first-form .ensures) ∙ not-false _ (c .before .if2 .left)
+header-from-requires c κs = sym (c .before .before .before .first-form .ensures) ∙ not-false _ (c .before .before .if2 .left)
 
 within-limits-requires : tie.Need-within-limits-requires
 within-limits-requires c κs = search needs
@@ -43,7 +46,7 @@ refused-requires-3 c κs = search needs
 
 returns-3 : tie.Need-returns-3
 returns-3 c =
-    let known = c .before .before .before .before in
+    let known = c .before .before .before .before .before in
     let formed = known .before .before in
     ap readSays (c .refused3 .ensures)
     ∙ bad-order _ _ (formed .before .before .first-part .ensures) (formed .before .if1 .left)
@@ -56,23 +59,34 @@ refused-requires-4 c κs = search needs
 returns-4 : tie.Need-returns-4
 returns-4 c =
     let within = c .before .before .before in
-    let known = within .before .before in
+    let behind = within .before .before in
+    let known = behind .before in
     let formed = known .before .before in
     ap readSays (c .refused4 .ensures)
     ∙ beyond _ _ (formed .before .before .first-part .ensures) (formed .before .if1 .left)
     (sym (formed .first-form .ensures) ∙ not-false _ (known .before .if2 .left))
-    (sym (known .order-known .ensures) ∙ not-false _ (c .before .before .if3 .left)) _ (within .before .header-from .ensures)
-    (sym (within .within-limits .ensures) ∙ not-true _ (c .before .if4 .taken))
+    (sym (known .order-known .ensures) ∙ not-false _ (c .before .before .if3 .left)) _ (behind .behind-part .ensures) _
+    (within .before .header-from .ensures) (sym (within .within-limits .ensures) ∙ not-true _ (c .before .if4 .taken))
+
+ask-weights-requires : tie.Need-ask-weights-requires
+ask-weights-requires c κs = search needs
+
+on-line-requires : tie.Need-on-line-requires
+on-line-requires c κs = search needs
 
 returns-5 : tie.Need-returns-5
 returns-5 c =
-    let within = c .before .before in
-    let known = within .before .before in
+    let limits = c .before .before in
+    let within = limits .before .before in
+    let behind = within .before .before in
+    let known = behind .before in
     let formed = known .before .before in
-    header-found _ _ (formed .before .before .first-part .ensures) (formed .before .if1 .left)
+    ap readSays (c .on-line .ensures)
+    ∙ header-found _ _ (formed .before .before .first-part .ensures) (formed .before .if1 .left)
     (sym (formed .first-form .ensures) ∙ not-false _ (known .before .if2 .left))
-    (sym (known .order-known .ensures) ∙ not-false _ (c .before .if3 .left)) _ (within .before .header-from .ensures)
-    (sym (within .within-limits .ensures) ∙ not-false _ (c .if4 .left))
+    (sym (known .order-known .ensures) ∙ not-false _ (limits .before .if3 .left)) _ (behind .behind-part .ensures) _
+    (within .before .header-from .ensures) (sym (within .within-limits .ensures) ∙ not-false _ (limits .if4 .left)) _
+    (c .before .ask-weights .ensures)
 
 pub ask-header-spec : {M : Type 1} → statement M
 ask-header-spec =
@@ -85,10 +99,13 @@ ask-header-spec =
     refused-requires-2
     returns-2
     order-known-requires
+    behind-part-requires
     header-from-requires
     within-limits-requires
     refused-requires-3
     returns-3
     refused-requires-4
     returns-4
+    ask-weights-requires
+    on-line-requires
     returns-5)

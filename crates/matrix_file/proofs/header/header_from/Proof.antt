@@ -1,4 +1,5 @@
--- `matrix_file::header::header_from` meets its contract: n is the second field, m the third, and the word is that of the order.
+-- `matrix_file::header::header_from` meets its contract: n is the second field, m the third, and the word is that of the order; the text
+-- behind decides whether there is a `V` line.
 -- Assumes nothing.
 use mathlib.Core.Path.{ap, _∙_}
 use borrow.Author.Needs.{needs}
@@ -11,25 +12,29 @@ field-requires : tie.Need-field-requires
 field-requires c κs = search needs
 
 number-of-requires : tie.Need-number-of-requires
-number-of-requires c κs = ap numberForm (c .field .ensures) ∙ form-tells _ (c .before .before .pre) .taxa
+number-of-requires c κs = ap numberForm (c .field .ensures) ∙ form-tells _ (c .before .before .before .pre) .taxa
 
 field-requires-2 : tie.Need-field-requires-2
 field-requires-2 c κs = search needs
 
 number-of-requires-2 : tie.Need-number-of-requires-2
-number-of-requires-2 c κs = ap numberForm (c .field2 .ensures) ∙ form-tells _ (c .before .before .before .before .pre) .characters
+number-of-requires-2 c κs = ap numberForm (c .field2 .ensures) ∙ form-tells _ (c .before .before .before .before .before .pre) .characters
 
 order-in-requires : tie.Need-order-in-requires
 order-in-requires c κs = search needs
 
+optional-there-requires : tie.Need-optional-there-requires
+optional-there-requires c κs = search needs
+
 returns : tie.Need-returns
 returns c =
-    let second = c .before in
+    let second = c .before .before in
     let first = second .before .before in λ i.
     record {
       n = (first .number-of .ensures .is ∙ ap numberOf (first .before .field .ensures)) i;
       m = (second .number-of2 .ensures .is ∙ ap numberOf (second .before .field2 .ensures)) i;
-      order = c .order-in .ensures i;
+      order = c .before .order-in .ensures i;
+      weighed = c .optional-there .ensures i;
     }
 
 pub header-from-spec : {M : Type 1} → statement M
@@ -41,4 +46,5 @@ header-from-spec =
     field-requires-2
     number-of-requires-2
     order-in-requires
+    optional-there-requires
     returns)

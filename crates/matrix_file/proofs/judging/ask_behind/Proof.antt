@@ -2,16 +2,29 @@
 -- Assumes nothing.
 use mathlib.Core.Path.{ap, _∙_}
 use Rattle.matrix_file.specs.Report.{readSays}
+use Rattle.matrix_file.proofs.File.OptionalWalk.{taken-most}
 use Rattle.matrix_file.proofs.File.FileWalk.{rows-refused, rows-ended}
+use native.Mathlib.Omega.{arith}
 use borrow.Author.Needs.{needs}
 use Rattle.matrix_file.proofs.judging.ask_behind.Statement.{statement}
 use Rattle.matrix_file.proofs.judging.ask_behind.Tie as tie
 
+header-lines-requires : tie.Need-header-lines-requires
+header-lines-requires c κs = search needs
+
+behind-lines-requires : tie.Need-behind-lines-requires
+behind-lines-requires c κs = omega (arith, c .header-lines .ensures, c .before .before .pre .1)
+
 add-ask-rows : tie.Need-add-ask-rows
-add-ask-rows c = search needs
+add-ask-rows c = omega (arith, c .before .header-lines .ensures, taken-most (c .before .before .before .args .header .weighed))
 
 ask-rows-requires : tie.Need-ask-rows-requires
-ask-rows-requires c κs = search needs
+ask-rows-requires c κs =
+    let start = c .before .before .before in (
+      start .pre .0 .0,
+      start .pre .0 .1,
+      omega (arith, c .before .header-lines .ensures, taken-most (start .args .header .weighed)),
+    )
 
 enum-known-refusal : tie.Need-enum-known-refusal
 enum-known-refusal c = search needs
@@ -33,20 +46,27 @@ on-line-requires c κs = search needs
 
 returns : tie.Need-returns
 returns c =
+    let asked = c .before .before .before .before in
+    let behind = asked .before in
     ap readSays (c .refused .ensures)
-    ∙ rows-refused _ _ _ (c .before .before .before .before .ask-rows .ensures) _ _ (c .before .before .refusal .given .1)
+    ∙ rows-refused _ _ _ (behind .before .header-lines .ensures) _ (behind .behind-lines .ensures) _ (asked .ask-rows .ensures) _ _
+    (c .before .before .refusal .given .1)
 
 returns-2 : tie.Need-returns-2
 returns-2 c =
     let asked = c .before .before .before .before .before .before in
+    let behind = asked .before in
     ap readSays (c .on-line .ensures)
-    ∙ rows-ended _ _ _ (asked .ask-rows .ensures) _ _ (c .before .before .before .before .at .given .1) _
+    ∙ rows-ended _ _ _ (behind .before .header-lines .ensures) _ (behind .behind-lines .ensures) _ (asked .ask-rows .ensures) _ _
+    (c .before .before .before .before .at .given .1) _
     (c .before .before .rest-from .ensures) _ (c .before .ask-end .ensures)
 
 pub ask-behind-spec : {M : Type 1} → statement M
 ask-behind-spec =
     tie.close
     (tie.spec
+    header-lines-requires
+    behind-lines-requires
     add-ask-rows
     ask-rows-requires
     enum-known-refusal

@@ -30,17 +30,14 @@ refused-requires-3 c κs = search needs
 enum-known-header : tie.Need-enum-known-header
 enum-known-header c = search needs
 
-behind-lines-requires : tie.Need-behind-lines-requires
-behind-lines-requires c κs =
-    let asked = c .before .before .before in
-    header-several _ (asked .before .before .if1 .left) (asked .before .if2 .left) _ (asked .ask-header .ensures) _
-    (c .before .header .given .1)
-
 ask-behind-requires : tie.Need-ask-behind-requires
 ask-behind-requires c κs =
-    let asked = c .before .before .before .before in
-    header-limits _ (asked .before .before .if1 .left) (asked .before .if2 .left) _ (asked .ask-header .ensures) _
-    (c .before .before .header .given .1)
+    let asked = c .before .before .before in (
+      header-limits _ (asked .before .before .if1 .left) (asked .before .if2 .left) _ (asked .ask-header .ensures) _
+          (c .before .header .given .1),
+      header-several _ (asked .before .before .if1 .left) (asked .before .if2 .left) _ (asked .ask-header .ensures) _
+          (c .before .header .given .1),
+    )
 
 returns-3 : tie.Need-returns-3
 returns-3 c =
@@ -51,9 +48,9 @@ returns-3 c =
 
 returns-4 : tie.Need-returns-4
 returns-4 c =
-    let asked = c .before .before .before .before .before in
+    let asked = c .before .before .before .before in
     behind-decides _ (asked .before .before .if1 .left) (asked .before .if2 .left) _ (asked .ask-header .ensures) _
-    (c .before .before .before .header .given .1) _ (c .before .behind-lines .ensures) _ (c .ask-behind .ensures)
+    (c .before .before .header .given .1) _ (c .ask-behind .ensures)
 
 pub ask-file-spec : {M : Type 1} → statement M
 ask-file-spec =
@@ -67,7 +64,6 @@ ask-file-spec =
     enum-known-refusal
     refused-requires-3
     enum-known-header
-    behind-lines-requires
     ask-behind-requires
     returns-3
     returns-4)
