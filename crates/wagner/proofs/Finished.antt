@@ -1,19 +1,17 @@
 -- The finished tree that a build hands back passes the questions of the call that writes it as branch records.
 use mathlib.Core.Path.{_≡_, refl, sym, ap, _∙_}
-use mathlib.Core.Logic.{by-cases}
 use mathlib.Core.Bool.{true, and-eq-true-iff}
-use mathlib.Core.List.{List, [], _∷_, _++_}
-use Prim.Native.Nat.{ℕ, zero, suc, _+_, _-_, _≤_, _<_}
+use mathlib.Core.List.{List, []}
+use Prim.Native.Nat.{ℕ, suc, _+_, _-_, _≤_, _<_}
 use native.Mathlib.Omega.{arith}
-use native.Mathlib.Decide.{decLe}
 use lib.Dec.{leb, eqb}
 use lib.IntN.{ℤ}
-use lib.ListN.{length, getD, List·getD-eq-default}
+use lib.ListN.{length, getD}
 use borrow.Author.Tests.{eqb-true}
 use Rattle.lists.specs.Numbers.{numbers}
 use Rattle.lists.specs.Tests.{every}
 use Rattle.lists.proofs.Both.{or-right}
-use Rattle.lists.proofs.Every.{every-at, every-from, every-cons, every-append, every-iff}
+use Rattle.lists.proofs.Every.{every-from, every-iff}
 use Rattle.lists.proofs.Numbers.{numbers-within}
 use Rattle.matrix.specs.Shape.{row}
 use Rattle.matrix.specs.NodeRows.{rowOf, rowsOf}
@@ -23,48 +21,23 @@ use Rattle.matrix.proofs.Passing.{matrix-passes}
 use Rattle.matrix.proofs.NodeRows.{length-rowsOf, rowOf-next, rowOf-rowsOf}
 use Rattle.difference.specs.Rows.{difference}
 use Rattle.difference.proofs.Laws.Rows.{medians-inRange}
-use Rattle.branching.specs.Ancestors.{ancestor}
 use Rattle.branching.specs.Nodes.{taxaPlaced}
 use Rattle.branching.specs.Growing.{growingTree, branching}
 use Rattle.branching.specs.Asking.{branchesSize, htusOf, askRecords}
-use Rattle.branching.specs.Placing.{AfterPlacing, medianRow, nearestInterval, linkFirst, hang, placeOn, place}
 use Rattle.branching.proofs.Test.{branching-iff}
 use Rattle.wagner.specs.declared.order.Order.{Order}
 use Rattle.wagner.specs.Next.{nextBy}
-use Rattle.wagner.specs.Build.{Built, buildOn, build, wagner}
+use Rattle.wagner.specs.Build.{Built, build, wagner}
 use Rattle.wagner.specs.Answers.{wagnerIn}
 use Rattle.wagner.specs.Matrix.{matrixAfter}
+use Rattle.wagner.proofs.EachRow.{row-passes, rows-pass}
 use Rattle.wagner.proofs.Matrix.{after-size, after-rows}
 use Rattle.wagner.proofs.Lengths.{ours-sound, ours-branching, ours-room}
 
--- of rows that all have codes from -999 to 999, every node's has, also that of a node beyond them, which has none
-row-known : (rows : List (List ℤ)) → every allInRange rows ≡ true → (v : ℕ) → allInRange (rowOf rows v) ≡ true
-unfolding rowOf allInRange every
-row-known rows known v =
-    by-cases
-    (decLe (length rows) (v - 1))
-    (λ past. rw (List·getD-eq-default rows [] past) refl)
-    (λ inside. every-at allInRange rows known (v - 1) [] (omega arith))
-
--- a placement leaves such rows
-module _ (d : List ℤ → List ℤ → ℕ) (n : ℕ) where
-  placed-known : (tree : List ℕ) (rows : List (List ℤ)) (b c : ℕ) → every allInRange rows ≡ true
-      → every allInRange (placeOn d n tree rows b c .rows) ≡ true
-  unfolding placeOn linkFirst hang medianRow every
-  placed-known tree rows b zero known = known
-  placed-known tree rows b (suc c) known =
-      every-append allInRange rows _ known
-      (every-cons allInRange (medianRow rows b (suc c) (ancestor tree (suc c))) []
-      (medians-inRange _ _ _ (row-known rows known b) (row-known rows known (suc c)) (row-known rows known (ancestor tree (suc c)))) refl)
-
-  -- and so does a build
-  pub built-known : (next : ℕ → List ℕ → List (List ℤ) → ℕ) (count : ℕ) (tree : List ℕ) (rows : List (List ℤ))
-      → every allInRange rows ≡ true → every allInRange (buildOn d next n count tree rows .rows) ≡ true
-  unfolding buildOn place
-  built-known next zero tree rows known = known
-  built-known next (suc count) tree rows known =
-      built-known next count (place d n tree rows (next n tree rows) .tree) (place d n tree rows (next n tree rows) .rows)
-      (placed-known tree rows (next n tree rows) (nearestInterval d n tree rows (next n tree rows)) known)
+-- a row of no codes has none out of range
+none-known : allInRange [] ≡ true
+unfolding allInRange every
+none-known = refl
 
 -- the Wagner tree of a lent matrix
 module _ (order : Order) (codes : List ℤ) (weights : List ℕ) (n m : ℕ) (lent : LentMatrix codes n m) where
@@ -79,8 +52,8 @@ module _ (order : Order) (codes : List ℤ) (weights : List ℕ) (n m : ℕ) (le
   ours-known : every allInRange (ours .rows) ≡ true
   unfolding wagnerIn wagner build
   ours-known =
-      built-known (difference weights) n (nextBy (difference weights) order) (n - 1) _ (rowsOf codes m n)
-      (every-from allInRange [] (rowsOf codes m n) each)
+      rows-pass allInRange none-known medians-inRange (difference weights) n (nextBy (difference weights) order) (n - 1) _
+      (rowsOf codes m n) (every-from allInRange [] (rowsOf codes m n) each)
     where
       each : (i : ℕ) → i < length (rowsOf codes m n) → allInRange (getD (rowsOf codes m n) i []) ≡ true
       each i h =
@@ -96,7 +69,7 @@ module _ (order : Order) (codes : List ℤ) (weights : List ℕ) (n m : ℕ) (le
       ∙ ap (λ (rows : List (List ℤ)). rowOf rows v)
       (after-rows (difference weights) codes n m (lent .characters) (ours-room order codes weights n m lent) ours
       (ours-sound order codes weights n m lent)))
-      (row-known (ours .rows) ours-known v)
+      (row-passes allInRange none-known (ours .rows) ours-known v)
 
   -- the matrix after the build is a lent matrix
   pub after-lent : LentMatrix after n m

@@ -12,5 +12,7 @@ pub mod UnderWay
 pub mod Stepping
 pub mod Lengths
 pub mod StillLent
+pub mod EachRow
 pub mod Finished
+pub mod Alike
 pub mod Rising
