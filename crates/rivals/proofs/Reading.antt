@@ -1,22 +1,27 @@
 -- After an accepted read the lent matrix has the rows of the file, so the claim about the file is the claim about the matrix.
 use mathlib.Core.Path.{_≡_, sym, ap, _∙_, subst, subst⁻¹}
+use mathlib.Core.Logic.{by-cases}
 use mathlib.Core.List.{List, []}
-use Prim.Native.Nat.{ℕ, _+_, _-_, _<_}
+use Prim.Native.Nat.{ℕ, suc, _+_, _-_, _≤_, _<_}
 use native.Mathlib.Omega.{arith}
+use native.Mathlib.Decide.{decLe}
 use lib.IntN.{ℤ}
-use lib.ListN.{length, getD}
+use lib.ListN.{length, getD, replicate, length-replicate, List·getD-eq-default}
 use lib.Seq.{ext-getD}
+use Rattle.lists.proofs.Filled.{getD-replicate}
+use Rattle.lists.proofs.Over.{over-inside, over-behind}
 use Rattle.matrix.specs.NodeRows.{rowsOf}
-use Rattle.matrix.specs.Shape.{matrixSize}
+use Rattle.matrix.specs.Shape.{matrixSize, columns, weightAt}
 use Rattle.matrix.proofs.Passing.{matrix-passes}
 use Rattle.matrix_file.specs.Job.{Job, JobWithinLimits}
 use Rattle.matrix_file.specs.declared.answer.Header.{Header}
 use Rattle.matrix_file.specs.Report.{ReadDone}
-use Rattle.matrix_file.specs.Written.{matrixWritten}
+use Rattle.matrix_file.specs.Written.{matrixWritten, weightsWritten}
 use Rattle.matrix_file.specs.declared.answer.Read.{Read}
 use Rattle.matrix_file.specs.declared.answer.Read.the-variants as Read
-use Rattle.matrix_file.proofs.Lists.ReadLists.{job-row, job-lent, read-accepting}
-use Rattle.difference.specs.Rows.{plain}
+use Rattle.matrix_file.proofs.Lists.ReadLists.{job-row, job-lent, job-weighed, read-accepting}
+use Rattle.difference.specs.Rows.{weighing}
+use Rattle.difference.proofs.Laws.Measure.{measure-weights}
 use Rattle.matrix.proofs.NodeRows.{length-rowsOf}
 use Rattle.rivals.specs.Accepted.{matrixLent}
 use Rattle.rivals.specs.Demand.{NoRivalDoesBetter}
@@ -40,13 +45,7 @@ read-rows job within old full =
         ∙ job-row job within old full (i + 1) (omega arith) (omega arith)
         ∙ ap (λ k. getD (job .rows) k []) place
 
--- weights written over the front of a list are read back, and behind them stands what stood there
-written-at : (weights old : List ℕ) → length weights ≤ length old → (i : ℕ) → i < length weights
-    → weightAt (weightsWritten weights old) i ≡ weightAt weights i
-unfolding weightAt
-written-at weights old room i below = over-inside 1 0 weights old i below (omega arith)
-
--- written over a list of ones, they weigh every character as they do alone
+-- weights written over a list of ones weigh every character as they do alone
 pub written-measure : (weights : List ℕ) → length weights ≤ columns
     → weighing (weightsWritten weights (replicate columns 1)) ≡ weighing weights
 unfolding weightAt
@@ -59,25 +58,25 @@ written-measure weights room = measure-weights (weightsWritten weights ones) wei
     same i =
         by-cases
         (decLe (suc i) (length weights))
-        (λ inside. written-at weights ones (omega (arith, length-replicate columns 1)) i inside)
+        (λ inside. over-inside 1 0 weights ones i inside (omega (arith, length-replicate {A = ℕ} columns 1)))
         (λ past.
         over-behind 1 0 weights ones i (omega arith)
         ∙ getD-replicate 1 columns i
         ∙ sym (List·getD-eq-default weights 1 (omega arith)))
 
--- the weights of a job, written over a list of 128, are lent ones
-pub weights-lent : (job : Job) → JobWithinLimits job → (old : List ℕ) → length old ≡ columns
-    → LentWeights (weightsWritten (job .weights) old) (job .m)
-weights-lent job within old full = record { full = length-over 0 (job .weights) old ∙ full; known = ? }
-
--- no rival does better on a matrix that the call has read
-pub no-rival-read : (file : List ℕ) (oldMatrix : List ℤ) (oldNames : List ℕ) (newMatrix : List ℤ) (newNames : List ℕ) (r : Read)
-    (header : Header) → ReadDone file oldMatrix oldNames newMatrix newNames r → r ≡ Read.Accepted header
-    → NoRivalDoesBetter plain (header .n) (header .m) (rowsOf newMatrix (header .m) (header .n))
-no-rival-read file oldMatrix oldNames newMatrix newNames r header done e =
-    let accepting = read-accepting file oldMatrix oldNames newMatrix newNames r header done e in
-    let lent = job-lent (accepting .job) (accepting .within) oldMatrix (accepting .full) in
-    subst (λ said. NoRivalDoesBetter plain (said .n) (said .m) (rowsOf newMatrix (said .m) (said .n))) (accepting .says)
-    (subst⁻¹ (λ matrix. NoRivalDoesBetter plain (accepting .job .n) (accepting .job .m) (rowsOf matrix (accepting .job .m)
-    (accepting .job .n)))
-    (accepting .matrix) (no-rival _ _ _ (matrixLent _ _ _ (matrix-passes _ _ _ .1 lent))))
+-- no rival does better on a matrix that the call has read, by the weights that it has read
+pub no-rival-read : (file : List ℕ) (oldMatrix : List ℤ) (oldWeights oldNames : List ℕ) (newMatrix : List ℤ) (newWeights newNames : List ℕ)
+    (r : Read) (header : Header) → ReadDone file oldMatrix oldWeights oldNames newMatrix newWeights newNames r → r ≡ Read.Accepted header
+    → NoRivalDoesBetter (weighing newWeights) (header .n) (header .m) (rowsOf newMatrix (header .m) (header .n))
+no-rival-read file oldMatrix oldWeights oldNames newMatrix newWeights newNames r header done e =
+    let accepting = read-accepting file oldMatrix oldWeights oldNames newMatrix newWeights newNames r header done e in
+    let job = accepting .job in
+    let lent = job-lent job (accepting .within) oldMatrix (accepting .full) in
+    let weighed = job-weighed job (accepting .within) oldWeights (accepting .weights-full) in
+    let claim = no-rival _ _ _ _ (matrixLent _ _ _ _ (matrix-passes _ _ _ _ .1 (lent, weighed))) in
+    subst (λ (said : Header). NoRivalDoesBetter (weighing newWeights) (said .n) (said .m) (rowsOf newMatrix (said .m) (said .n)))
+    (accepting .says)
+    (subst⁻¹ (λ matrix. NoRivalDoesBetter (weighing newWeights) (job .n) (job .m) (rowsOf matrix (job .m) (job .n))) (accepting .matrix)
+    (subst⁻¹ (λ weights. NoRivalDoesBetter (weighing weights) (job .n) (job .m) (rowsOf (matrixWritten (job .rows) oldMatrix) (job .m)
+    (job .n)))
+    (accepting .weights) claim))
