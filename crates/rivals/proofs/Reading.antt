@@ -58,7 +58,10 @@ written-measure weights room = measure-weights (weightsWritten weights ones) wei
     same i =
         by-cases
         (decLe (suc i) (length weights))
-        (λ inside. over-inside 1 0 weights ones i inside (omega (arith, length-replicate {A = ℕ} columns 1)))
+        (λ inside.
+        let place : i ≡ 0 + i = omega arith in
+        ap (λ (k : ℕ). getD (weightsWritten weights ones) k 1) place
+        ∙ over-inside 1 0 weights ones i inside (omega (arith, length-replicate {A = ℕ} columns 1)))
         (λ past.
         over-behind 1 0 weights ones i (omega arith)
         ∙ getD-replicate 1 columns i
