@@ -43,35 +43,50 @@ pub(crate) fn print_states(v: usize, j: usize, three: States) {
 // The H line of node v in character j by the call for one node, or its R line.
 pub(crate) fn show_node(
     codes: &[i32; 16128],
+    weights: &[u8; 128],
     n: usize,
     m: usize,
     records: [Branch; 125],
     v: usize,
     j: usize,
 ) {
-    match states(codes, n, m, records, v, j) {
+    match states(codes, weights, n, m, records, v, j) {
         NodeStates::Are(three) => print_states(v, j, three),
         NodeStates::Refused(why) => print_refusal(why),
     }
 }
 
 // The H lines of node v by the call for one node, in characters 1 to m.
-fn show_characters(codes: &[i32; 16128], n: usize, m: usize, records: [Branch; 125], v: usize) {
+fn show_characters(
+    codes: &[i32; 16128],
+    weights: &[u8; 128],
+    n: usize,
+    m: usize,
+    records: [Branch; 125],
+    v: usize,
+) {
     let mut j = 1;
     while j <= 128 {
         if j <= m {
-            show_node(codes, n, m, records, v, j);
+            show_node(codes, weights, n, m, records, v, j);
         }
         j += 1;
     }
 }
 
 // The H lines of nodes 1 to the last by the call for one node.
-fn show_nodes(codes: &[i32; 16128], n: usize, m: usize, records: [Branch; 125], last: usize) {
+fn show_nodes(
+    codes: &[i32; 16128],
+    weights: &[u8; 128],
+    n: usize,
+    m: usize,
+    records: [Branch; 125],
+    last: usize,
+) {
     let mut v = 1;
     while v < 127 {
         if v <= last {
-            show_characters(codes, n, m, records, v);
+            show_characters(codes, weights, n, m, records, v);
         }
         v += 1;
     }
@@ -173,6 +188,7 @@ pub(crate) fn print_digests(low: &[i32; 16128], high: &[i32; 16128], chosen: &[i
 // The fit of a lent branching, its total by the call for the total, and the digests of the three lists, which keep what they then hold.
 pub(crate) fn show(
     codes: &[i32; 16128],
+    weights: &[u8; 128],
     n: usize,
     m: usize,
     records: [Branch; 125],
@@ -181,14 +197,15 @@ pub(crate) fn show(
     chosen: &mut [i32; 16128],
     last: usize,
 ) {
-    print_fit(fit(codes, n, m, records, low, high, chosen), last);
-    print_total(total(codes, n, m, records));
+    print_fit(fit(codes, weights, n, m, records, low, high, chosen), last);
+    print_total(total(codes, weights, n, m, records));
     print_digests(low, high, chosen);
 }
 
 // The same, and all states: of every node by the call for one node, of every HTU by the three lists.
 pub(crate) fn show_all(
     codes: &[i32; 16128],
+    weights: &[u8; 128],
     n: usize,
     m: usize,
     records: [Branch; 125],
@@ -197,7 +214,7 @@ pub(crate) fn show_all(
     chosen: &mut [i32; 16128],
     last: usize,
 ) {
-    show(codes, n, m, records, low, high, chosen, last);
-    show_nodes(codes, n, m, records, last);
+    show(codes, weights, n, m, records, low, high, chosen, last);
+    show_nodes(codes, weights, n, m, records, last);
     show_lists(low, high, chosen, n, m, last);
 }

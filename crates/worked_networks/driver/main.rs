@@ -1,6 +1,6 @@
 //! The cases of `src/main.rt`, answered by the reference.
 mod cases;
-use cases::{fill, put};
+use cases::{fill, put, weigh, weigh_by};
 use wagner_reference::data::Data;
 use wagner_reference::network::{network_length, prim_network};
 
@@ -30,11 +30,16 @@ fn short(n: usize, m: usize, rows: usize) {
     answer(&data);
 }
 
-/// Weights that are these eight again and again, for this matrix alone.
-fn show_weighted(data: &Data, eight: [i32; 8], n: usize, m: usize) {
-    let mut other = data.clone();
-    other.weights = (0..128).map(|j| eight[j % 8]).collect();
-    show(&mut other, n, m);
+/// With the weights of the first characters as given, those of the others 1.
+fn show_weighted(data: &mut Data, weights: &[i32], n: usize, m: usize) {
+    weigh(data, weights);
+    show(data, n, m);
+}
+
+/// With generated weights.
+fn show_weighted_by(data: &mut Data, seed: u64, n: usize, m: usize) {
+    weigh_by(data, seed);
+    show(data, n, m);
 }
 
 /// Weights of another number.
@@ -107,32 +112,32 @@ fn main() {
     show(&mut d, 9, 128);
 
     put_example(&mut d);
-    show_weighted(&d, [1, 3, 2, 1, 1, 1, 1, 1], 4, 3);
-    show_weighted(&d, [9, 1, 4, 1, 1, 1, 1, 1], 4, 3);
+    show_weighted(&mut d, &[1, 3, 2], 4, 3);
+    show_weighted(&mut d, &[9, 1, 4], 4, 3);
     put(&mut d, 2, &[1, 0, 0]);
     put(&mut d, 3, &[0, 1, 0]);
-    show(&mut d, 3, 3);
-    show_weighted(&d, [2, 1, 1, 1, 1, 1, 1, 1], 3, 3);
+    show_weighted(&mut d, &[], 3, 3);
+    show_weighted(&mut d, &[2, 1, 1], 3, 3);
 
     put(&mut d, 1, &[-999; 128]);
     put(&mut d, 2, &[999; 128]);
     put(&mut d, 3, &[0; 128]);
-    show_weighted(&d, [9; 8], 2, 128);
-    show_weighted(&d, [9; 8], 3, 128);
+    show_weighted(&mut d, &[9; 128], 2, 128);
+    show_weighted(&mut d, &[9; 128], 3, 128);
     fill(&mut d, [-2, -1, -1, 0, 0, 0, 1, 2], 1);
-    show_weighted(&d, [1, 9, 2, 8, 3, 7, 4, 5], 64, 4);
-    show_weighted(&d, [1, 2, 1, 2, 1, 2, 1, 2], 23, 9);
+    show_weighted(&mut d, &[1, 2, 1], 64, 4);
+    show_weighted_by(&mut d, 4, 23, 9);
     fill(&mut d, [-999, -500, -37, 0, 1, 250, 998, 999], 3);
-    show_weighted(&d, [9, 6, 5, 4, 3, 7, 1, 8], 64, 20);
-    show_weighted(&d, [1, 2, 3, 4, 5, 6, 7, 9], 9, 128);
+    show_weighted_by(&mut d, 5, 64, 20);
+    show_weighted_by(&mut d, 6, 9, 128);
 
     many(&d, 127, 0, 0);
     many(&d, 129, 3, 3);
-    put(&mut d, 3, &[0, 0, 0, 1000]);
-    show_weighted(&d, [0; 8], 0, 3);
-    show_weighted(&d, [0; 8], 3, 4);
-    show_weighted(&d, [10; 8], 3, 4);
-    show_weighted(&d, [1, 9, 1, 1, 0, 1, 1, 1], 3, 5);
-    show_weighted(&d, [1, 9, 1, 1, 0, 1, 1, 1], 3, 4);
-    show_weighted(&d, [1, 9, 1, 0, 1, 1, 1, 1], 3, 3);
+    put(&mut d, 3, &[0, 1000, 0]);
+    show_weighted(&mut d, &[0; 128], 0, 3);
+    show_weighted(&mut d, &[0; 128], 3, 3);
+    show_weighted(&mut d, &[10; 128], 3, 3);
+    show_weighted(&mut d, &[1, 9, 0], 3, 3);
+    show_weighted(&mut d, &[1, 9, 0], 3, 2);
+    show_weighted(&mut d, &[9, 0, 1], 3, 1);
 }

@@ -11,6 +11,8 @@ use worked_cases::lines::end_line;
 use worked_cases::lines::print_field;
 use worked_cases::lines::print_refusal;
 use worked_cases::lines::print_three;
+use worked_cases::weights;
+use worked_cases::weights::first_three;
 
 // The P line of a link.
 fn print_link(taxon: usize, joined: usize, length: u64) {
@@ -58,17 +60,6 @@ fn show(codes: &[i32; 16128], n: usize, m: usize) {
 // The lines of a matrix of n taxa and m characters with other weights.
 fn show_weighted(codes: &[i32; 16128], weights: [u8; 128], n: usize, m: usize) {
     print_answer(network(codes, &weights, n, m));
-}
-
-// Weights of 128 characters: these eight again and again.
-fn repeated(eight: [u8; 8]) -> [u8; 128] {
-    let mut weights = [1u8; 128];
-    let mut j = 0;
-    while j < 128 {
-        weights[j] = eight[j % 8];
-        j += 1;
-    }
-    weights
 }
 
 // The rows of document 01's example.
@@ -153,23 +144,23 @@ fn generated(matrix: &mut [i32; 16128]) {
 // Document 01's example by weights: D joins B, and before C. Then rows 2 and 3, equally near to row 1 before, by weights 2 and 1.
 fn weighted(codes: &mut [i32; 16128]) {
     write_example(codes);
-    show_weighted(codes, repeated([1, 3, 2, 1, 1, 1, 1, 1]), 4, 3);
-    show_weighted(codes, repeated([9, 1, 4, 1, 1, 1, 1, 1]), 4, 3);
+    show_weighted(codes, first_three(1, 3, 2), 4, 3);
+    show_weighted(codes, first_three(9, 1, 4), 4, 3);
     write_row(codes, 2, &[1, 0, 0]);
     write_row(codes, 3, &[0, 1, 0]);
     show(codes, 3, 3);
-    show_weighted(codes, repeated([2, 1, 1, 1, 1, 1, 1, 1]), 3, 3);
+    show_weighted(codes, first_three(2, 1, 1), 3, 3);
 }
 
-// The largest difference, and generated matrices with weights.
+// The largest difference, and generated matrices: with weights that leave many taxa equally near, and with generated ones.
 fn heavier(codes: &mut [i32; 16128]) {
     ends_weighted(codes, [9u8; 128]);
     fill(codes, [-2, -1, -1, 0, 0, 0, 1, 2], 1);
-    show_weighted(codes, repeated([1, 9, 2, 8, 3, 7, 4, 5]), 64, 4);
-    show_weighted(codes, repeated([1, 2, 1, 2, 1, 2, 1, 2]), 23, 9);
+    show_weighted(codes, first_three(1, 2, 1), 64, 4);
+    show_weighted(codes, weights::generated(4), 23, 9);
     fill(codes, [-999, -500, -37, 0, 1, 250, 998, 999], 3);
-    show_weighted(codes, repeated([9, 6, 5, 4, 3, 7, 1, 8]), 64, 20);
-    show_weighted(codes, repeated([1, 2, 3, 4, 5, 6, 7, 9]), 9, 128);
+    show_weighted(codes, weights::generated(5), 64, 20);
+    show_weighted(codes, weights::generated(6), 9, 128);
 }
 
 // Both ends of the range by weights.
@@ -186,13 +177,13 @@ fn ends_weighted(codes: &mut [i32; 16128], weights: [u8; 128]) {
 fn refused_weights(codes: &mut [i32; 16128]) {
     print_answer(network(codes, &[1u8; 127], 0, 0));
     print_answer(network(codes, &[1u8; 129], 3, 3));
-    write_row(codes, 3, &[0, 0, 0, 1000]);
+    write_row(codes, 3, &[0, 1000, 0]);
     show_weighted(codes, [0u8; 128], 0, 3);
-    show_weighted(codes, [0u8; 128], 3, 4);
-    show_weighted(codes, [10u8; 128], 3, 4);
-    show_weighted(codes, repeated([1, 9, 1, 1, 0, 1, 1, 1]), 3, 5);
-    show_weighted(codes, repeated([1, 9, 1, 1, 0, 1, 1, 1]), 3, 4);
-    show_weighted(codes, repeated([1, 9, 1, 0, 1, 1, 1, 1]), 3, 3);
+    show_weighted(codes, [0u8; 128], 3, 3);
+    show_weighted(codes, [10u8; 128], 3, 3);
+    show_weighted(codes, first_three(1, 9, 0), 3, 3);
+    show_weighted(codes, first_three(1, 9, 0), 3, 2);
+    show_weighted(codes, first_three(9, 0, 1), 3, 1);
 }
 
 fn main() {
