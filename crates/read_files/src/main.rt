@@ -1,12 +1,13 @@
 // Reads the files of data/cases one after another and prints what was read, or the refusal and its line.
 // A case is its length in three bytes, the highest first, and then its bytes.
-// Before them stand two reads into lists that have not their full size. Behind each case stands how many codes and name bytes are as
-// they were lent.
+// Before them stand three reads into lists that have not their full size. The weights of an accepted file stand behind `V`, or behind `-`
+// where the file has no `V` line. Behind each case stands how many codes, weights and name bytes are as they were lent.
 use libc::STDOUT_FILENO;
 use matrix::questions::in_range;
 use matrix::refusal::Refusal;
 use matrix::refusal::number;
 use matrix::rows::row;
+use matrix::weights::weight_at;
 use matrix_file::answer::OrderWord;
 use matrix_file::answer::Read;
 use matrix_file::reading::read;
@@ -15,7 +16,7 @@ ghost use mathlib.Core.Bool.{true};
 ghost use Prim.Native.Nat.{_≤_};
 ghost use Rattle.matrix.specs.Shape.{inRange};
 
-// What the lent lists hold before a read: no code and no byte of a name.
+// What the lent lists hold before a read: no code, and neither a weight nor a byte of a name.
 const NO_CODE: i32 = 7777;
 
 const NO_BYTE: u8 = 255;
@@ -107,6 +108,26 @@ fn print_rows(matrix: &[i32], names: &[u8], n: usize, m: usize) {
     }
 }
 
+// Prints the first m weights, each behind a tab.
+fn print_weights(weights: &[u8], m: usize) {
+    let mut j = 0;
+    while j < m {
+        io::write_all(STDOUT_FILENO, b"\t");
+        print_number(wide(weight_at(weights, j)));
+        j += 1;
+    }
+    io::write_all(STDOUT_FILENO, b"\n");
+}
+
+// Prints `V` if a file has such a line, else a hyphen.
+fn print_weighed(weighed: bool) {
+    if weighed {
+        io::write_all(STDOUT_FILENO, b"V");
+        return;
+    }
+    io::write_all(STDOUT_FILENO, b"-");
+}
+
 // How many codes are as they were lent.
 fn codes_kept(matrix: &[i32]) -> usize {
     let mut kept = 0;
@@ -120,12 +141,12 @@ fn codes_kept(matrix: &[i32]) -> usize {
     kept
 }
 
-// How many bytes of names are as they were lent.
-fn bytes_kept(names: &[u8]) -> usize {
+// How many weights, or bytes of names, are as they were lent.
+fn bytes_kept(list: &[u8]) -> usize {
     let mut kept = 0;
     let mut i = 0;
-    while i < names.len() {
-        if names[i] == NO_BYTE {
+    while i < list.len() {
+        if list[i] == NO_BYTE {
             kept += 1;
         }
         i += 1;
@@ -133,9 +154,11 @@ fn bytes_kept(names: &[u8]) -> usize {
     kept
 }
 
-fn print_kept(matrix: &[i32], names: &[u8]) {
+fn print_kept(matrix: &[i32], weights: &[u8], names: &[u8]) {
     io::write_all(STDOUT_FILENO, b"k\t");
     print_number(codes_kept(matrix));
+    io::write_all(STDOUT_FILENO, b"\t");
+    print_number(bytes_kept(weights));
     io::write_all(STDOUT_FILENO, b"\t");
     print_number(bytes_kept(names));
     io::write_all(STDOUT_FILENO, b"\n");
@@ -162,7 +185,7 @@ fn print_order(order: OrderWord) {
     }
 }
 
-fn print_answer(answer: Read, matrix: &[i32], names: &[u8]) {
+fn print_answer(answer: Read, matrix: &[i32], weights: &[u8], names: &[u8]) {
     match answer {
         Read::Refused { refusal, line } => print_refusal(refusal, line),
         Read::Accepted(header) => {
@@ -173,33 +196,52 @@ fn print_answer(answer: Read, matrix: &[i32], names: &[u8]) {
             let order = header.order;
             print_order(order);
             io::write_all(STDOUT_FILENO, b"\n");
+            print_weighed(header.weighed);
+            print_weights(weights, header.m);
             print_rows(matrix, names, header.n, header.m);
         }
     }
-    print_kept(matrix, names);
+    print_kept(matrix, weights, names);
 }
 
 fn print_case(file: &[u8]) {
     let mut matrix = [NO_CODE; 16128];
+    let mut weights = [NO_BYTE; 128];
     let mut names = [NO_BYTE; 1024];
-    let answer = read(file, &mut matrix, &mut names);
-    print_answer(answer, &matrix, &names);
+    let answer = read(file, &mut matrix, &mut weights, &mut names);
+    print_answer(answer, &matrix, &weights, &names);
 }
 
 // Reads a file into names that are a byte too short.
 fn print_short() {
     let mut matrix = [NO_CODE; 16128];
+    let mut weights = [NO_BYTE; 128];
     let mut names = [NO_BYTE; 1023];
-    let answer = read(b"", &mut matrix, &mut names);
-    print_answer(answer, &matrix, &names);
+    let answer = read(b"", &mut matrix, &mut weights, &mut names);
+    print_answer(answer, &matrix, &weights, &names);
 }
 
 // Reads a file into a matrix that is a code too long.
 fn print_long() {
     let mut matrix = [NO_CODE; 16129];
+    let mut weights = [NO_BYTE; 128];
     let mut names = [NO_BYTE; 1024];
-    let answer = read(b"W\t1\t1\nA\t0\n", &mut matrix, &mut names);
-    print_answer(answer, &matrix, &names);
+    let answer = read(b"W\t1\t1\nA\t0\n", &mut matrix, &mut weights, &mut names);
+    print_answer(answer, &matrix, &weights, &names);
+}
+
+// Reads a file into weights that are one too short.
+fn print_few() {
+    let mut matrix = [NO_CODE; 16128];
+    let mut weights = [NO_BYTE; 127];
+    let mut names = [NO_BYTE; 1024];
+    let answer = read(
+        b"W\t1\t1\nV\t2\nA\t0\n",
+        &mut matrix,
+        &mut weights,
+        &mut names,
+    );
+    print_answer(answer, &matrix, &weights, &names);
 }
 
 // Reads a file into a part of memory of its length and prints what was read; answers whether it was there whole.
@@ -229,6 +271,7 @@ fn next_case(cases: i32) -> bool {
 fn main() {
     print_short();
     print_long();
+    print_few();
     let path = b"cases";
     let cases = os::open_read(path);
     if cases < 0 {

@@ -22,7 +22,7 @@ use Rattle.matrix_file.specs.declared.answer.RowsAnswer.{RowsAnswer}
 use Rattle.matrix_file.specs.declared.answer.RowsAnswer.the-variants as RowsAnswer
 use Rattle.matrix_file.specs.Bytes.{lineFeed, beforeFirst, partsAt, partLength, firstPart, behindPart}
 use Rattle.matrix_file.specs.Lines.{linesOf, fieldsOf}
-use Rattle.matrix_file.specs.Header.{headerLines, rowLine, headerFrom, headerIn, behindHeader}
+use Rattle.matrix_file.specs.Header.{headerLines, headerFrom, headerIn}
 use Rattle.matrix_file.specs.Header.{firstForm, firstLineForm, orderKnown, askFirstLine, askWeights, askHeader}
 use Rattle.matrix_file.specs.Rows.{askRows}
 use Rattle.matrix_file.specs.Reading.{mostBytes, jobOf, nothingMore, askEnd, askBehind, askFile, askLength, readAnswer}

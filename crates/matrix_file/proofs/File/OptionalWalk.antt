@@ -1,16 +1,14 @@
 -- An optional line, as it is found and asked in a text.
-use mathlib.Core.Path.{_≡_, refl, sym, ap, _∙_}
+use mathlib.Core.Path.{_≡_, sym, ap, _∙_}
 use mathlib.Core.List.{List, [], _∷_}
-use mathlib.Core.Bool.{Bool, true, false, not, _&&_}
+use mathlib.Core.Bool.{Bool, true, false, not}
 use Prim.Native.Nat.{ℕ, _≤_, _<_}
 use native.Mathlib.Omega.{arith}
 use borrow.Author.Tests.{le-leb, not-true, not-false}
-use lib.Dec.{leb}
 use lib.ListN.{length, getD, drop}
 use Rattle.lists.specs.Tests.{sameNumbers as sameText}
 use Rattle.matrix.specs.Outcomes.{ask}
 use Rattle.matrix.specs.declared.refusal.Refusal.{Refusal}
-use Rattle.matrix.specs.declared.refusal.Asked.{Asked}
 use Rattle.matrix.specs.declared.refusal.Asked.the-variants.{Passed, Refused}
 use Rattle.matrix_file.specs.Bytes.{tab, lineFeed, partsAt, partLength, firstPart, behindPart}
 use Rattle.matrix_file.specs.Lines.{linesOf, fieldsOf}

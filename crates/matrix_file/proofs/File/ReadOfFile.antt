@@ -19,7 +19,7 @@ use Rattle.matrix_file.specs.Optional.{optionalThere, optionalFields, op
 use Rattle.matrix_file.specs.Weights.{letterV, weightIn, weightText, weightsForm, weightsSaid}
 use Rattle.matrix_file.specs.Job.{Job, JobWithinLimits, firstText, weightLine, rowText, rowTexts, ended, fileOf}
 use Rattle.matrix_file.specs.Lines.{linesOf, fieldsOf}
-use Rattle.matrix_file.specs.Header.{rowLine, headerOf, behindHeader, askWeights, askHeader}
+use Rattle.matrix_file.specs.Header.{rowLine, headerOf, behindHeader, askWeights}
 use Rattle.matrix_file.specs.Rows.{nameIn, codesIn, askRows}
 use Rattle.matrix_file.specs.Reading.{mostBytes, rowLines, jobOf, nothingMore, askEnd, askBehind, askFile, askLength, readAnswer}
 use Rattle.matrix_file.proofs.File.FileLength.{file-short}

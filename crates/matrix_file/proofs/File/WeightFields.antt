@@ -2,15 +2,15 @@
 -- read back.
 use mathlib.Core.Path.{_≡_, refl, sym, ap, ap₂, _∙_}
 use mathlib.Core.List.{List, [], _∷_, map}
-use mathlib.Core.Bool.{Bool, true, false, _&&_, false≢true}
+use mathlib.Core.Bool.{Bool, true, false, false≢true}
 use Prim.Native.Nat.{ℕ, zero, suc, _+_, _-_, _≤_, _<_}
 use native.Mathlib.Omega.{arith}
 use borrow.Author.Tests.{leb-true, le-leb, lt-ltb, eqb-true, eq-eqb}
-use lib.Dec.{leb, ltb, eqb}
+use lib.Dec.{leb, eqb}
 use lib.ListN.{length, getD, length-map, replicate, length-replicate}
 use Rattle.lists.specs.Tests.{every}
 use Rattle.lists.proofs.Both.{and-left, and-right, and-both}
-use Rattle.lists.proofs.Every.{every-head, every-tail, every-cons}
+use Rattle.lists.proofs.Every.{every-head, every-tail}
 use Rattle.matrix.specs.Shape.{heaviest, isWeight}
 use Rattle.matrix_file.specs.Bytes.{lineFeed}
 use Rattle.matrix_file.specs.Decimal.{zeroDigit}

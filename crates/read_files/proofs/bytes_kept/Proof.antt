@@ -8,10 +8,10 @@ use Rattle.read_files.proofs.bytes_kept.Statement.{statement}
 use Rattle.read_files.proofs.bytes_kept.Tie as tie
 
 abbrev Inv-loop : tie.InvT-loop
-Inv-loop names kept₀ i₀ kept i = (i ≤ length names) × (kept ≤ i)
+Inv-loop list kept₀ i₀ kept i = (i ≤ length list) × (kept ≤ i)
 
 abbrev μ-loop : tie.MeasureT-loop
-μ-loop names kept₀ i₀ kept i = length names - i
+μ-loop list kept₀ i₀ kept i = length list - i
 
 loop-holds : tie.Need-loop-holds Inv-loop μ-loop
 loop-holds c = omega arith

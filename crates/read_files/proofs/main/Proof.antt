@@ -16,6 +16,9 @@ print-short-requires c κs = search needs
 print-long-requires : tie.Need-print-long-requires Inv-loop μ-loop
 print-long-requires c κs = search needs
 
+print-few-requires : tie.Need-print-few-requires Inv-loop μ-loop
+print-few-requires c κs = search needs
+
 open-read-requires : tie.Need-open-read-requires Inv-loop μ-loop
 open-read-requires c κs = search needs
 
@@ -54,6 +57,7 @@ main-spec =
     μ-loop
     print-short-requires
     print-long-requires
+    print-few-requires
     open-read-requires
     fail-requires
     returns

@@ -1,5 +1,5 @@
 -- `matrix_file::weights::ask_weights` meets its contract: the fields of the first line are asked, and then the line. Assumes nothing.
-use mathlib.Core.Path.{_≡_, sym, ap, _∙_}
+use mathlib.Core.Path.{sym, ap, _∙_}
 use borrow.Author.Needs.{needs}
 use Rattle.matrix.specs.declared.refusal.Refusal.the-variants.{WeightForm}
 use Rattle.matrix_file.specs.Lines.{linesOf}

@@ -1,6 +1,6 @@
 -- `matrix_file::weights::weight_said` meets its contract: without the line the weight is 1, and with it that of its field.
 -- Assumes nothing.
-use mathlib.Core.Path.{_≡_, sym, ap, _∙_}
+use mathlib.Core.Path.{ap, _∙_}
 use borrow.Author.Needs.{needs}
 use borrow.Author.Tests.{not-true, not-false}
 use Rattle.matrix_file.specs.Weights.{weightForm, weightIn}
