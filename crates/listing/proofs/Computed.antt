@@ -17,6 +17,8 @@ use Rattle.matrix_file.specs.Decimal as matrix-file-Decimal
 use Rattle.matrix_file.specs.Job as matrix-file-Job
 use Rattle.matrix_file.specs.Lines as matrix-file-Lines
 use Rattle.matrix_file.specs.Header as matrix-file-Header
+use Rattle.matrix_file.specs.Optional as matrix-file-Optional
+use Rattle.matrix_file.specs.Weights as matrix-file-Weights
 use Rattle.matrix_file.specs.Rows as matrix-file-Rows
 use Rattle.matrix_file.specs.Reading as matrix-file-Reading
 use Rattle.matrix_file.specs.Text as matrix-file-Text
@@ -45,7 +47,8 @@ unfolding flatMap matrix-Shape.row matrix-Shape.inRange matrix-Shape.lastNode li
     lists-Tests.every lists-Tests.sameNumbers matrix-Questions.oneTo matrix-Questions.withinLimits matrix-Questions.allInRange
     matrix-Questions.rowsInRange matrix-Questions.askMatrix matrix-Questions.nodesExist matrix-Questions.htuInRange
     matrix-Questions.htusInRange matrix-Questions.askNodes difference-Rows.apart difference-Rows.lower difference-Rows.higher
-    difference-Rows.median difference-Rows.difference difference-Rows.medians matrix-file-Bytes.isDigit matrix-file-Bytes.isLetter
+    difference-Rows.median difference-Rows.part matrix-Shape.weightAt matrix-Shape.weightOf matrix-Shape.isWeight
+    difference-Rows.difference difference-Rows.medians matrix-file-Bytes.isDigit matrix-file-Bytes.isLetter
     matrix-file-Bytes.partsAt matrix-file-Bytes.partLength matrix-file-Bytes.firstPart matrix-file-Bytes.behindPart
     matrix-file-Bytes.joinedBy matrix-file-Decimal.digitsIn matrix-file-Decimal.digitsOf matrix-file-Decimal.decimal
     matrix-file-Decimal.noLeadingZero matrix-file-Decimal.numberForm matrix-file-Decimal.numberFrom matrix-file-Decimal.numberOf
@@ -53,7 +56,9 @@ unfolding flatMap matrix-Shape.row matrix-Shape.inRange matrix-Shape.lastNode li
     matrix-file-Job.differsFromAll matrix-file-Job.allDiffer matrix-file-Job.hasCodes matrix-file-Job.firstText matrix-file-Job.rowText
     matrix-file-Job.ended matrix-file-Job.fileOf matrix-file-Lines.linesOf matrix-file-Lines.fieldsOf matrix-file-Header.headerIn
     matrix-file-Header.firstForm matrix-file-Header.orderKnown matrix-file-Header.isOrder matrix-file-Header.orderIn
-    matrix-file-Header.firstLineForm matrix-file-Header.askFirstLine matrix-file-Header.askHeader
+    matrix-file-Header.firstLineForm matrix-file-Header.askFirstLine matrix-file-Header.askWeights matrix-file-Header.askHeader
+    matrix-file-Optional.optionalThere matrix-file-Optional.optionalFields matrix-file-Optional.askOptional
+    matrix-file-Weights.weightForm matrix-file-Weights.weightIn matrix-file-Weights.weightsForm matrix-file-Weights.weightsSaid
     matrix-file-Rows.nameIn matrix-file-Rows.codesIn matrix-file-Rows.askCodes matrix-file-Rows.askRow matrix-file-Rows.askRows
     matrix-file-Reading.jobOf matrix-file-Reading.nothingMore matrix-file-Reading.askEnd matrix-file-Reading.askBehind
     matrix-file-Reading.askFile matrix-file-Reading.askLength matrix-file-Reading.readAnswer matrix-file-Text.bytes prim-Network.taxa

@@ -8,12 +8,12 @@ use lib.IntN.{ℤ}
 use lib.ListN.{length}
 use Rattle.matrix.specs.Shape.{row}
 use Rattle.matrix.specs.NodeRows.{rowsOf}
-use Rattle.matrix.specs.Questions.{LentMatrix, askMatrix}
+use Rattle.matrix.specs.Questions.{LentMatrix, LentWeights, askMatrix}
 use Rattle.matrix.specs.declared.refusal.Asked.the-variants.{Passed}
 use Rattle.matrix.proofs.Passing.{matrix-passes}
 use Rattle.matrix_file.specs.declared.answer.Header.{Header}
 use Rattle.matrix_file.specs.Job.{Job}
-use Rattle.difference.specs.Rows.{difference, nodeDifference, plain}
+use Rattle.difference.specs.Rows.{difference, nodeDifference, Measure, weighing}
 use Rattle.prim.specs.Network.{network}
 use Rattle.prim.specs.Answers.{Holds, NetworkAnswer}
 use Rattle.prim.specs.declared.answer.Answer.{Answer}
@@ -51,9 +51,10 @@ block-then : {a b : List ℕ} (lines total rest : List ℕ) → a ≡ lines ++ t
 block-then lines total rest e f = ap₂ _++_ e f ∙ append-assoc lines total rest
 
 -- what was found of a matrix, with the names that lent bytes hold
-module _ (header : Header) (order : Order) (meant : order ≡ orderMeant (header .order)) (codes low high chosen : List ℤ) (r : Results)
-    (given : ResultsOf order codes (header .n) (header .m) low high chosen r) (names : List (List ℕ))
-    (lent : List ℕ) (named : HoldsNames (header .n) names lent) where
+module _ (header : Header) (order : Order) (meant : order ≡ orderMeant (header .order)) (codes : List ℤ) (lentWeights : List ℕ)
+    (low high chosen : List ℤ) (r : Results)
+    (given : ResultsOf order codes lentWeights (header .n) (header .m) low high chosen r) (names : List (List ℕ))
+    (lent : List ℕ) (named : HoldsNames (header .n) names lent) (weights : List ℕ) (same : weighing lentWeights ≡ weighing weights) where
   -- the numbers of taxa and characters
   abbrev n : ℕ
   n = header .n
@@ -62,123 +63,129 @@ module _ (header : Header) (order : Order) (meant : order ≡ orderMeant (header
   m = header .m
 
   -- it was found in the order that the word of the header means
-  found : ResultsOf (orderMeant (header .order)) codes n m low high chosen r
+  found : ResultsOf (orderMeant (header .order)) codes lentWeights n m low high chosen r
   found = rw meant at given
 
   -- the job whose listing is put
   abbrev job : Job
-  job = heldJob header names codes
+  job = heldJob header weights names codes
+
+  -- change as it was measured
+  abbrev measure : Measure
+  measure = weighing lentWeights
 
   -- the links held are those of the job's network
-  links-held : Holds (linksOf plain job) (r .network)
-  links-held = rw (same-network codes n m) (found .network)
+  links-held : Holds (linksOf measure job) (r .network)
+  links-held = rw (same-network codes lentWeights n m) (found .network)
 
   -- the block of the network
-  prim-put : primTexts n (namesIn n lent) (r .network) ≡ joined (primLines plain job) ++ primTotal plain job
+  prim-put : primTexts n (namesIn n lent) (r .network) ≡ joined (primLines measure job) ++ primTotal measure job
   unfolding primTexts
-  prim-put = ap₂ _++_ (prim-text n names lent named (linksOf plain job) (r .network) links-held) (ap (totalLine "p") (links-held .total))
+  prim-put = ap₂ _++_ (prim-text n names lent named (linksOf measure job) (r .network) links-held) (ap (totalLine "p") (links-held .total))
 
   -- the block of the build
-  wagner-put : wagnerTexts n (namesIn n lent) (r .built) ≡ joined (wagnerLines plain job) ++ wagnerTotal plain job
+  wagner-put : wagnerTexts n (namesIn n lent) (r .built) ≡ joined (wagnerLines measure job) ++ wagnerTotal measure job
   unfolding wagnerTexts wagnerIn
   wagner-put =
-      ap₂ _++_ (wagner-text n names lent named (builtOf plain job .placements) _ _ (found .placements)) (ap (totalLine "w") (found .whole))
+      ap₂ _++_ (wagner-text n names lent named (builtOf measure job .placements) _ _ (found .placements)) (ap (totalLine "w") (found .whole))
 
   -- the block of the fitted tree
-  tree-put : fittedTexts n (namesIn n lent) (r .built .tree) (r .fit) ≡ joined (treeLines plain job) ++ treeTotal plain job
+  tree-put : fittedTexts n (namesIn n lent) (r .built .tree) (r .fit) ≡ joined (treeLines measure job) ++ treeTotal measure job
   unfolding fittedTexts wagnerIn
   tree-put =
       rw (found .tree)
       (ap₂ _++_
-      (fitted-text n names lent named (builtOf plain job .tree) (rowsOf codes m n) m (plain .step) (r .fit .lengths) (r .fit .marks)
+      (fitted-text n names lent named (builtOf measure job .tree) (rowsOf codes m n) m (measure .step) (r .fit .lengths) (r .fit .marks)
       (record { lengthAt = found .fit .lengths; markAt = found .fit .marks }))
       (ap (totalLine "t") (found .fit .total)))
 
   -- the `H` lines
-  states-put : stateTexts n (namesIn n lent) low high chosen m ≡ joined (htuLines plain job)
+  states-put : stateTexts n (namesIn n lent) low high chosen m ≡ joined (htuLines measure job)
   unfolding wagnerIn
-  states-put = range-text n names lent named (builtOf plain job .tree) (rowsOf codes m n) m low high chosen (found .states)
+  states-put = range-text n names lent named (builtOf measure job .tree) (rowsOf codes m n) m low high chosen (found .states)
 
   -- the whole text is the listing of the job
-  pub results-listed : resultTexts n (namesIn n lent) m r low high chosen ≡ joined (listing plain job)
+  pub results-listed : resultTexts n (namesIn n lent) m r low high chosen ≡ joined (listing (weighing weights) job)
   unfolding resultTexts
   results-listed =
-      block-then (joined (primLines plain job)) (primTotal plain job) _ prim-put
-      (block-then (joined (wagnerLines plain job)) (wagnerTotal plain job) _ wagner-put
-      (block-then (joined (treeLines plain job)) (treeTotal plain job) _ tree-put states-put))
-      ∙ sym (listing-text plain job)
+      block-then (joined (primLines measure job)) (primTotal measure job) _ prim-put
+      (block-then (joined (wagnerLines measure job)) (wagnerTotal measure job) _ wagner-put
+      (block-then (joined (treeLines measure job)) (treeTotal measure job) _ tree-put states-put))
+      ∙ sym (listing-text measure job)
+      ∙ ap (λ (by : Measure). joined (listing by job)) same
 
 -- what the calls for network, build and fit promise of a lent matrix
-module _ (order : Order) (codes after : List ℤ) (n m : ℕ) (lent : LentMatrix codes n m) (low low′ high high′ chosen chosen′ : List ℤ)
-    (full : StateLists low high chosen) (answer : Answer) (links : NetworkAnswer codes n m answer)
-    (built : WagnerTree) (done : BuildDone order codes after n m built)
-    (fit : Fit) (fitted : TreeFitted after n m (ancestors (built .tree)) low low′ high high′ chosen chosen′ fit) where
+module _ (order : Order) (codes after : List ℤ) (weights : List ℕ) (n m : ℕ) (lent : LentMatrix codes n m)
+    (weighed : LentWeights weights m) (low low′ high high′ chosen chosen′ : List ℤ)
+    (full : StateLists low high chosen) (answer : Answer) (links : NetworkAnswer codes weights n m answer)
+    (built : WagnerTree) (done : BuildDone order codes after weights n m built)
+    (fit : Fit) (fitted : TreeFitted after weights n m (ancestors (built .tree)) low low′ high high′ chosen chosen′ fit) where
   -- no question refuses
-  pass : askMatrix codes n m ≡ Passed
-  pass = matrix-passes codes n m .1 lent
+  pass : askMatrix codes weights n m ≡ Passed
+  pass = matrix-passes codes weights n m .1 (lent, weighed)
 
   -- the network is the matrix's own
-  found-network : Holds (network (nodeDifference difference (row codes m)) n) (answer .network)
-  found-network = answer-holds codes n m answer links pass
+  found-network : Holds (network (nodeDifference (difference weights) (row codes m)) n) (answer .network)
+  found-network = answer-holds codes weights n m answer links pass
 
   -- the tree is its Wagner tree
-  found-tree : ancestors (built .tree) ≡ wagnerIn order codes n m .tree
+  found-tree : ancestors (built .tree) ≡ wagnerIn order codes weights n m .tree
   unfolding buildSays
   found-tree = rw pass at (done .tree)
 
   -- with its placements
-  found-placements : HoldsPlacements (wagnerIn order codes n m .placements) (built .placements) (built .count)
+  found-placements : HoldsPlacements (wagnerIn order codes weights n m .placements) (built .placements) (built .count)
   unfolding buildSays placementsIn
   found-placements = record { list = rw pass at (done .placements); count = rw pass at (done .count) }
 
   -- and its length
-  found-length : built .length ≡ wagnerLength difference n (wagnerIn order codes n m)
+  found-length : built .length ≡ wagnerLength (difference weights) n (wagnerIn order codes weights n m)
   unfolding buildSays
   found-length = rw pass at (done .whole)
 
   -- the matrix then
-  found-matrix : after ≡ matrixAfter codes n (wagnerIn order codes n m)
+  found-matrix : after ≡ matrixAfter codes n (wagnerIn order codes weights n m)
   unfolding buildSays
   found-matrix = rw pass at (done .matrix)
 
   -- the tree is a branching
   found-branching : branchingWithin n (ancestors (built .tree)) ≡ true
-  found-branching = branching-plain n (ancestors (built .tree)) (lent .taxa) ∙ built-whole order codes after n m built done pass
+  found-branching = branching-plain n (ancestors (built .tree)) (lent .taxa) ∙ built-whole order codes after weights n m built done pass
 
   -- the taxa have the same rows in it
   found-rows : rowsOf after m n ≡ rowsOf codes m n
-  found-rows = ap (λ (all : List ℤ). rowsOf all m n) found-matrix ∙ same-taxa order codes n m lent
+  found-rows = ap (λ (all : List ℤ). rowsOf all m n) found-matrix ∙ same-taxa order codes weights n m lent
 
   -- the fit of the Wagner tree, and what the three lists hold
-  found-fit : FitOf (plain .step) (wagnerIn order codes n m .tree) (rowsOf codes m n) n m fit
-      × (low′ ≡ statesWritten Low (wagnerIn order codes n m .tree) (rowsOf codes m n) n m low)
-      × (high′ ≡ statesWritten High (wagnerIn order codes n m .tree) (rowsOf codes m n) n m high)
-      × (chosen′ ≡ statesWritten Chosen (wagnerIn order codes n m .tree) (rowsOf codes m n) n m chosen)
+  found-fit : FitOf (weighing weights .step) (wagnerIn order codes weights n m .tree) (rowsOf codes m n) n m fit
+      × (low′ ≡ statesWritten Low (wagnerIn order codes weights n m .tree) (rowsOf codes m n) n m low)
+      × (high′ ≡ statesWritten High (wagnerIn order codes weights n m .tree) (rowsOf codes m n) n m high)
+      × (chosen′ ≡ statesWritten Chosen (wagnerIn order codes weights n m .tree) (rowsOf codes m n) n m chosen)
   found-fit =
-      let still : LentMatrix after n m = rw found-matrix (still-lent order codes n m lent) in
-      simp (found-tree, found-rows) at (fitted .fitted found-branching still (full .lowFull) (full .highFull) (full .chosenFull))
+      let still : LentMatrix after n m = rw found-matrix (still-lent order codes weights n m lent) in
+      simp (found-tree, found-rows) at (fitted .fitted found-branching still weighed (full .lowFull) (full .highFull) (full .chosenFull))
 
   -- the states of the HTUs
-  found-states : HoldsStates (wagnerIn order codes n m .tree) (rowsOf codes m n) n m low′ high′ chosen′
+  found-states : HoldsStates (wagnerIn order codes weights n m .tree) (rowsOf codes m n) n m low′ high′ chosen′
   unfolding statesIn
   found-states = record {
     lowAt = λ v j a b d e.
         ap (λ (list : List ℤ). stateAt list v j) (found-fit .1)
-        ∙ state-written Low (wagnerIn order codes n m .tree) (rowsOf codes m n) n m low v j (full .lowFull)
+        ∙ state-written Low (wagnerIn order codes weights n m .tree) (rowsOf codes m n) n m low v j (full .lowFull)
         (lent .taxa) (lent .characters) a b d e;
     highAt = λ v j a b d e.
         ap (λ (list : List ℤ). stateAt list v j) (found-fit .2)
-        ∙ state-written High (wagnerIn order codes n m .tree) (rowsOf codes m n) n m high v j (full .highFull)
+        ∙ state-written High (wagnerIn order codes weights n m .tree) (rowsOf codes m n) n m high v j (full .highFull)
         (lent .taxa) (lent .characters) a b d e;
     chosenAt = λ v j a b d e.
         ap (λ (list : List ℤ). stateAt list v j) (found-fit .3)
-        ∙ state-written Chosen (wagnerIn order codes n m .tree) (rowsOf codes m n) n m chosen v j (full .chosenFull)
+        ∙ state-written Chosen (wagnerIn order codes weights n m .tree) (rowsOf codes m n) n m chosen v j (full .chosenFull)
         (lent .taxa) (lent .characters) a b d e;
   }
 
   -- what was found
   pub results-found : length low′ ≡ length low → length high′ ≡ length high → length chosen′ ≡ length chosen
-      → ResultsOf order codes n m low′ high′ chosen′ (record { network = answer .network; built = built; fit = fit })
+      → ResultsOf order codes weights n m low′ high′ chosen′ (record { network = answer .network; built = built; fit = fit })
   unfolding wagnerIn
   results-found a b d = record {
     listable = record {
@@ -186,7 +193,7 @@ module _ (order : Order) (codes after : List ℤ) (n m : ℕ) (lent : LentMatrix
       taxa = lent .taxa;
       characters = lent .characters;
       links = links-within _ n (answer .network) (lent .taxa) found-network;
-      placements = placements-within difference order n (rowsOf codes m n) (built .placements) (built .count) (lent .taxa) found-placements;
+      placements = placements-within (difference weights) order n (rowsOf codes m n) (built .placements) (built .count) (lent .taxa) found-placements;
     };
     full = record { lowFull = a ∙ full .lowFull; highFull = b ∙ full .highFull; chosenFull = d ∙ full .chosenFull };
     network = found-network;

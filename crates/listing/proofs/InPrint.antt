@@ -9,14 +9,13 @@ use Rattle.matrix.specs.Outcomes.{value}
 use Rattle.matrix_file.specs.Job.{Job}
 use Rattle.matrix_file.specs.Reading.{readAnswer}
 use Rattle.matrix_file.proofs.File.Accepted.{accepted-exactly}
-use Rattle.difference.specs.Rows.{difference, plain}
 use Rattle.prim.specs.Network.{networkLength}
 use Rattle.branching.specs.RowLengths.{lengthUnder}
 use Rattle.wagner.specs.Build.{wagnerLength}
 use Rattle.fitting.specs.Fit.{chosenState, range, fittedLength, fittedTotal, marked}
 use Rattle.rivals.specs.Demand.{NoRivalDoesBetter}
 use Rattle.rivals.proofs.InWords.{for-every-file}
-use Rattle.listing.specs.Meant.{orderMeant}
+use Rattle.listing.specs.Meant.{orderMeant, measureMeant}
 use Rattle.listing.specs.Lines.{joined}
 use Rattle.listing.specs.Blocks.{fittedLine, fittedLines, rangeLine, rangeLines}
 use Rattle.listing.specs.Listing.{primBlock, wagnerBlock, fittedBlock, rangeBlock, blocks, listing, printed}
@@ -28,15 +27,15 @@ use Rattle.listing.proofs.Printed.{output-printed}
 -- the numbers that are printed for a job
 abbrev numbersOf : Job → PrintedNumbers
 numbersOf job =
-    let tree = builtOf plain job .tree in
+    let tree = builtOf (measureMeant job) job .tree in
     record {
-      links = linksOf plain job;
-      p = networkLength (linksOf plain job);
-      built = builtOf plain job;
-      w = wagnerLength difference (job .n) (builtOf plain job);
-      lengths = fittedLength (plain .step) tree (job .rows) (job .n) (job .m);
-      marks = marked (plain .step) tree (job .rows) (job .n) (job .m);
-      t = fittedTotal (plain .step) tree (job .rows) (job .n) (job .m);
+      links = linksOf (measureMeant job) job;
+      p = networkLength (linksOf (measureMeant job) job);
+      built = builtOf (measureMeant job) job;
+      w = wagnerLength (measureMeant job .rows) (job .n) (builtOf (measureMeant job) job);
+      lengths = fittedLength (measureMeant job .step) tree (job .rows) (job .n) (job .m);
+      marks = marked (measureMeant job .step) tree (job .rows) (job .n) (job .m);
+      t = fittedTotal (measureMeant job .step) tree (job .rows) (job .n) (job .m);
       low = λ v j. range tree (job .rows) (job .n) v j .low;
       high = λ v j. range tree (job .rows) (job .n) v j .high;
       chosen = chosenState tree (job .rows) (job .n);
@@ -50,18 +49,18 @@ unfolding flatMap
 in-line a b c d x y z = simp (append-nil, append-assoc)
 
 -- the listing of a job prints them
-numbers-listed : (job : Job) → listing plain job ≡ linesWith job (numbersOf job)
+numbers-listed : (job : Job) → listing (measureMeant job) job ≡ linesWith job (numbersOf job)
 unfolding listing blocks primBlock wagnerBlock fittedBlock rangeBlock fittedLines rangeLines fittedLine rangeLine linesWith
 numbers-listed job =
-    in-line (primLines plain job) (wagnerLines plain job) (treeLines plain job) (htuLines plain job) (primTotal plain job) (wagnerTotal plain job)
-    (treeTotal plain job)
+    in-line (primLines (measureMeant job) job) (wagnerLines (measureMeant job) job) (treeLines (measureMeant job) job) (htuLines (measureMeant job) job) (primTotal (measureMeant job) job) (wagnerTotal (measureMeant job) job)
+    (treeTotal (measureMeant job) job)
 
 -- for every file that a read accepts, no rival does better than the numbers that its listing prints
 pub no-rival-in-print : (file : List ℕ) (job : Job) → readAnswer file ≡ value job → NoRivalInPrint file job
 unfolding printed wagnerLength lengthUnder fittedTotal fittedLength
 no-rival-in-print file job e =
-    let claim : NoRivalDoesBetter plain (job .n) (job .m) (job .rows) = for-every-file file job e in
-    let fit = claim .fit (builtOf plain job .tree) (claim .whole (orderMeant (job .order))) in
+    let claim : NoRivalDoesBetter (measureMeant job) (job .n) (job .m) (job .rows) = for-every-file file job e in
+    let fit = claim .fit (builtOf (measureMeant job) job .tree) (claim .whole (orderMeant (job .order))) in
     record {
       printed = numbersOf job;
       lines = output-printed file (value job) e ∙ ap joined (numbers-listed job);

@@ -9,9 +9,9 @@ use Rattle.matrix_file.specs.Decimal.{digitsOf}
 use Rattle.matrix_file.specs.Text.{bytes}
 use Rattle.matrix_file.specs.Job.{Job}
 use Rattle.matrix_file.specs.Reading.{readAnswer}
-use Rattle.difference.specs.Rows.{plain}
 use Rattle.listing.specs.Lines.{joined}
 use Rattle.listing.specs.Blocks.{totalLine}
+use Rattle.listing.specs.Meant.{measureMeant}
 use Rattle.listing.specs.Listing.{listing, refusalLine, printed, output}
 use Rattle.listing.proofs.Joined.{joined-one}
 use Rattle.listing.proofs.LineFields.{sizes, line-size}
@@ -21,7 +21,7 @@ use Rattle.listing.proofs.Printed.{output-printed}
 
 module _ (file : List ℕ) (job : Job) (read : readAnswer file ≡ value job) where
   -- an accepted file's output is its job's listing
-  accepted-output : output file ≡ joined (listing plain job)
+  accepted-output : output file ≡ joined (listing (measureMeant job) job)
   unfolding printed
   accepted-output = output-printed file (value job) read
 
@@ -29,12 +29,22 @@ module _ (file : List ℕ) (job : Job) (read : readAnswer file ≡ value job) wh
   pub one-taxon-file : job .n ≡ 1 → output file ≡ joined (totalLine "p" 0 ∷ totalLine "w" 0 ∷ totalLine "t" 0 ∷ [])
   one-taxon-file e =
       accepted-output
-      ∙ ap (λ (n : ℕ). joined (listing plain (record { n = n; m = job .m; order = job .order; names = job .names; rows = job .rows }))) e
-      ∙ ap joined (one-taxon plain (job .m) (job .order) (job .names) (job .rows))
+      ∙ ap
+      (λ (n : ℕ). joined (listing (measureMeant job) (record {
+        n = n;
+        m = job .m;
+        order = job .order;
+        weighed = job .weighed;
+        weights = job .weights;
+        names = job .names;
+        rows = job .rows;
+      })))
+      e
+      ∙ ap joined (one-taxon (measureMeant job) (job .m) (job .order) (job .weighed) (job .weights) (job .names) (job .rows))
 
   -- of two taxa: one `P`, one `W` and one `T` line, and no `H`
-  pub two-taxa-file : job .n ≡ 2 → (output file ≡ joined (listing plain job)) × OneOfEach plain job
-  two-taxa-file e = (accepted-output, two-taxa plain job e)
+  pub two-taxa-file : job .n ≡ 2 → (output file ≡ joined (listing (measureMeant job) job)) × OneOfEach (measureMeant job) job
+  two-taxa-file e = (accepted-output, two-taxa (measureMeant job) job e)
 
 -- a text with bytes between others has some
 between-some : (a b c : List ℕ) → 1 ≤ length b → 1 ≤ length (a ++ (b ++ c))
@@ -46,8 +56,8 @@ unfolding totalLine sizes
 total-some total = omega (arith, line-size (bytes "p") (digitsOf total ∷ []))
 
 -- some byte is printed of a listing
-listing-some : (job : Job) → 1 ≤ length (joined (listing plain job))
-listing-some job = rw (listing-text plain job) (between-some (joined (primLines plain job)) (primTotal plain job) _ (total-some _))
+listing-some : (job : Job) → 1 ≤ length (joined (listing (measureMeant job) job))
+listing-some job = rw (listing-text (measureMeant job) job) (between-some (joined (primLines (measureMeant job) job)) (primTotal (measureMeant job) job) _ (total-some _))
 
 -- and of a refusal
 refusal-some : (number line : ℕ) → 1 ≤ length (joined (refusalLine number line ∷ []))

@@ -1,5 +1,6 @@
 -- One taxon: no network, no tree, no HTU. Whatever its name, its codes and their number, the listing is `p 0`, `w 0`, `t 0`.
 use mathlib.Core.Path.{_≡_, refl}
+use mathlib.Core.Bool.{Bool}
 use mathlib.Core.List.{List, [], _∷_, flatMap}
 use Prim.Native.Nat.{ℕ}
 use lib.IntN.{ℤ}
@@ -19,9 +20,9 @@ use Rattle.listing.specs.Blocks.{totalLine, fittedLines, rangeLines}
 use Rattle.listing.specs.Listing.{primBlock, wagnerBlock, fittedBlock, rangeBlock, blocks, listing}
 
 -- one taxon: three totals of 0
-pub one-taxon : (measure : Measure) (m : ℕ) (word : OrderWord) (names : List (List ℕ)) (rows : List (List ℤ))
-    → listing measure (record { n = 1; m = m; order = word; names = names; rows = rows })
+pub one-taxon : (measure : Measure) (m : ℕ) (word : OrderWord) (weighed : Bool) (weights : List ℕ) (names : List (List ℕ)) (rows : List (List ℤ))
+    → listing measure (record { n = 1; m = m; order = word; weighed = weighed; weights = weights; names = names; rows = rows })
     ≡ totalLine "p" 0 ∷ totalLine "w" 0 ∷ totalLine "t" 0 ∷ []
 unfolding listing blocks primBlock wagnerBlock fittedBlock rangeBlock network networkLength grow wagner wagnerLength build buildOn
     lengthUnder treeLength nodesIn otherNodes numbers keep sumOver fittedLines rangeLines fittedTotal total flatMap
-one-taxon measure m word names rows = refl
+one-taxon measure m word weighed weights names rows = refl

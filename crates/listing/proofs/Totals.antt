@@ -13,7 +13,7 @@ use Rattle.lists.proofs.Every.{every-at}
 use Rattle.matrix.specs.NodeRows.{rowOf}
 use Rattle.matrix.specs.Questions.{oneTo, withinLimits}
 use Rattle.matrix_file.specs.Job.{Job, JobWithinLimits, hasCodes}
-use Rattle.difference.specs.Rows.{Measure, plain}
+use Rattle.difference.specs.Rows.{Measure}
 use Rattle.prim.specs.Network.{Link, networkLength}
 use Rattle.branching.specs.declared.placement.Placement.{Placement}
 use Rattle.branching.specs.Nodes.{otherNodes}
@@ -22,7 +22,7 @@ use Rattle.wagner.specs.Build.{wagnerLength, addedLength}
 use Rattle.wagner.proofs.Difference.{wagner-length}
 use Rattle.fitting.specs.Fit.{fittedLength, fittedTotal}
 use Rattle.fitting.proofs.Matrix.EachFitted.{lengths-total}
-use Rattle.listing.specs.Meant.{orderMeant}
+use Rattle.listing.specs.Meant.{orderMeant, measureMeant}
 use Rattle.listing.proofs.Parts.{linksOf, builtOf}
 
 -- the limits of n and m, from the question that asks for them
@@ -66,9 +66,9 @@ module _ (job : Job) (within : JobWithinLimits job) where
       (every-at (hasCodes (job .m)) (job .rows) (within .rows-full) (v - 1) [] (omega arith))
 
   -- `w` is the sum of the lengths that the `W` lines say are added
-  pub wagner-total : wagnerLength (plain .rows) (job .n) (builtOf plain job)
-      ≡ sumOver (λ (p : Placement). p .added) (builtOf plain job .placements)
+  pub wagner-total : wagnerLength (measureMeant job .rows) (job .n) (builtOf (measureMeant job) job)
+      ≡ sumOver (λ (p : Placement). p .added) (builtOf (measureMeant job) job .placements)
   unfolding addedLength
   wagner-total =
       let known = limits (job .n) (job .m) (within .limits) in
-      wagner-length (orderMeant (job .order)) (job .n) (job .m) (known .taxon) (known .taxa) (job .rows) (within .row-count) rows-sized
+      wagner-length (orderMeant (job .order)) (job .weights) (job .n) (job .m) (known .taxon) (known .taxa) (job .rows) (within .row-count) rows-sized

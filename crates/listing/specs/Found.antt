@@ -8,7 +8,7 @@ use Rattle.matrix.specs.Shape.{columns, matrixSize, row}
 use Rattle.matrix.specs.NodeRows.{rowsOf}
 use Rattle.matrix_file.specs.declared.answer.Header.{Header}
 use Rattle.matrix_file.specs.Job.{Job}
-use Rattle.difference.specs.Rows.{difference, nodeDifference, plain}
+use Rattle.difference.specs.Rows.{difference, nodeDifference, weighing}
 use Rattle.prim.specs.Network.{network}
 use Rattle.prim.specs.Answers.{mostLinks, Holds}
 use Rattle.branching.specs.Ancestors.{ancestors}
@@ -37,15 +37,15 @@ pub record Listable (n m : ℕ) (r : Results) : Type 0 where
   pub placements : r .built .count ≤ mostPlacements
 
 -- what was found of a lent matrix: its Prim Network, its Wagner tree, the fit of that tree, and its states in three lists
-pub record ResultsOf (order : Order) (codes : List ℤ) (n m : ℕ) (low high chosen : List ℤ) (r : Results) : Type 0 where
+pub record ResultsOf (order : Order) (codes : List ℤ) (weights : List ℕ) (n m : ℕ) (low high chosen : List ℤ) (r : Results) : Type 0 where
   pub listable : Listable n m r
   pub full : StateLists low high chosen
-  pub network : Holds (network (nodeDifference difference (row codes m)) n) (r .network)
-  pub tree : ancestors (r .built .tree) ≡ wagnerIn order codes n m .tree
-  pub placements : HoldsPlacements (wagnerIn order codes n m .placements) (r .built .placements) (r .built .count)
-  pub whole : r .built .length ≡ wagnerLength difference n (wagnerIn order codes n m)
-  pub fit : FitOf (plain .step) (wagnerIn order codes n m .tree) (rowsOf codes m n) n m (r .fit)
-  pub states : HoldsStates (wagnerIn order codes n m .tree) (rowsOf codes m n) n m low high chosen
+  pub network : Holds (network (nodeDifference (difference weights) (row codes m)) n) (r .network)
+  pub tree : ancestors (r .built .tree) ≡ wagnerIn order codes weights n m .tree
+  pub placements : HoldsPlacements (wagnerIn order codes weights n m .placements) (r .built .placements) (r .built .count)
+  pub whole : r .built .length ≡ wagnerLength (difference weights) n (wagnerIn order codes weights n m)
+  pub fit : FitOf (weighing weights .step) (wagnerIn order codes weights n m .tree) (rowsOf codes m n) n m (r .fit)
+  pub states : HoldsStates (wagnerIn order codes weights n m .tree) (rowsOf codes m n) n m low high chosen
 
 -- the text put for what was found: the blocks of network, build and fitted tree, and the `H` lines
 unfoldable pub resultTexts : ℕ → List (List ℕ) → ℕ → Results → List ℤ → List ℤ → List ℤ → List ℕ
@@ -53,17 +53,19 @@ resultTexts n names m r low high chosen =
     primTexts n names (r .network)
     ++ (wagnerTexts n names (r .built) ++ (fittedTexts n names (r .built .tree) (r .fit) ++ stateTexts n names low high chosen m))
 
--- the job with this header, these names and the taxa's rows of a matrix
-abbrev pub heldJob : Header → List (List ℕ) → List ℤ → Job
-heldJob header names codes = record {
+-- the job with this header, these weights and names and the taxa's rows of a matrix
+abbrev pub heldJob : Header → List ℕ → List (List ℕ) → List ℤ → Job
+heldJob header weights names codes = record {
   n = header .n;
   m = header .m;
   order = header .order;
+  weighed = header .weighed;
+  weights = weights;
   names = names;
   rows = rowsOf codes (header .m) (header .n);
 }
 
--- the listing of the job that lent lists hold was put in front of a list
-pub record ListsJob (header : Header) (lent : List ℕ) (codes : List ℤ) (old new : List ℕ) (next : ℕ) : Type 0 where
-  pub is : (names : List (List ℕ)) → HoldsNames (header .n) names lent
-      → Put (joined (listing plain (heldJob header names codes))) old 0 new next
+-- the listing of the job that lent lists hold was put in front of a list: that of all names and weights that they hold
+pub record ListsJob (header : Header) (lent : List ℕ) (codes : List ℤ) (lentWeights old new : List ℕ) (next : ℕ) : Type 0 where
+  pub is : (names : List (List ℕ)) → HoldsNames (header .n) names lent → (weights : List ℕ) → weighing lentWeights ≡ weighing weights
+      → Put (joined (listing (weighing weights) (heldJob header weights names codes))) old 0 new next

@@ -11,7 +11,7 @@ use Rattle.lists.specs.Numbers.{numbers}
 use Rattle.lists.specs.Sums.{sumOver}
 use Rattle.matrix.specs.NodeRows.{rowOf}
 use Rattle.matrix_file.specs.Job.{Job}
-use Rattle.difference.specs.Rows.{difference, nodeDifference, plain}
+use Rattle.difference.specs.Rows.{nodeDifference}
 use Rattle.prim.specs.Network.{Link}
 use Rattle.prim.specs.Rival.{Connected, linkEnds, linksLength}
 use Rattle.branching.specs.declared.placement.Placement.{Placement}
@@ -22,7 +22,7 @@ use Rattle.branching.specs.RowLengths.{lengthUnder}
 use Rattle.wagner.specs.Build.{Built}
 use Rattle.fitting.specs.Assignments.{branchLength, total, IsAssignment, Occurs}
 use Rattle.rivals.specs.Demand.{BuildIsLeast}
-use Rattle.listing.specs.Meant.{orderMeant}
+use Rattle.listing.specs.Meant.{orderMeant, measureMeant}
 use Rattle.listing.specs.Lines.{joined}
 use Rattle.listing.specs.Blocks.{totalLine, primLine, wagnerLine, branchLine, stateLine}
 use Rattle.listing.specs.Listing.{output}
@@ -63,22 +63,22 @@ pub record NoRivalInPrint (file : List ℕ) (job : Job) : Type 0 where
   pub lines : output file ≡ joined (linesWith job printed)
   -- the `P` lines are a connected network of the taxa, of length `p`, and no connected network of the taxa is shorter
   pub connected : Connected (job .n) (linkEnds (printed .links))
-  pub p-length : linksLength (nodeDifference difference (rowOf (job .rows))) (linkEnds (printed .links)) ≡ printed .p
+  pub p-length : linksLength (nodeDifference (measureMeant job .rows) (rowOf (job .rows))) (linkEnds (printed .links)) ≡ printed .p
   pub no-network-shorter : (rival : List (ℕ × ℕ)) → Connected (job .n) rival
-      → printed .p ≤ linksLength (nodeDifference difference (rowOf (job .rows))) rival
+      → printed .p ≤ linksLength (nodeDifference (measureMeant job .rows) (rowOf (job .rows))) rival
   -- each `W` line but the first is a hanging of its taxon of which none adds less, and in the order `closest` none of any taxon that is not
   -- placed; `w` is the length of the tree with the rows so made, and the sum of the lengths that the `W` lines add
-  pub no-hanging-adds-less : BuildIsLeast (orderMeant (job .order)) difference (job .n) (job .m) (job .rows) (printed .built)
-  pub w-length : lengthUnder difference (job .n) (printed .built .tree) (printed .built .rows) ≡ printed .w
+  pub no-hanging-adds-less : BuildIsLeast (orderMeant (job .order)) (measureMeant job .rows) (job .n) (job .m) (job .rows) (printed .built)
+  pub w-length : lengthUnder (measureMeant job .rows) (job .n) (printed .built .tree) (printed .built .rows) ≡ printed .w
   pub w-sum : sumOver (λ (placement : Placement). placement .added) (printed .built .placements) ≡ printed .w
   -- the tree is a branching of all taxa; the chosen states are an assignment, of total `t`, whose branches have the lengths of the `T` lines
   pub whole : branching (job .n) (printed .built .tree) ≡ true
   pub assigns : IsAssignment (job .rows) (job .n) (job .m) (printed .chosen)
-  pub t-length : total (plain .step) (printed .built .tree) (job .n) (job .m) (printed .chosen) ≡ printed .t
-  pub branch-lengths : (v : ℕ) → printed .lengths v ≡ branchLength (plain .step) (printed .built .tree) (job .m) (printed .chosen) v
+  pub t-length : total (measureMeant job .step) (printed .built .tree) (job .n) (job .m) (printed .chosen) ≡ printed .t
+  pub branch-lengths : (v : ℕ) → printed .lengths v ≡ branchLength (measureMeant job .step) (printed .built .tree) (job .m) (printed .chosen) v
   -- no assignment has a lower total
   pub no-states-shorter : (rival : ℕ → ℕ → ℤ) → IsAssignment (job .rows) (job .n) (job .m) rival
-      → printed .t ≤ total (plain .step) (printed .built .tree) (job .n) (job .m) rival
+      → printed .t ≤ total (measureMeant job .step) (printed .built .tree) (job .n) (job .m) rival
   -- a state lies from the lowest to the highest of an `H` line exactly if the HTU has it in some assignment of least length
   pub range-exactly : (v j : ℕ) (s : ℤ) → job .n < v → v ≤ 2 * job .n - 2 → 1 ≤ j → j ≤ job .m
-      → ((printed .low v j ≤ℤ s) × (s ≤ℤ printed .high v j)) ↔ Occurs (plain .step) (printed .built .tree) (job .rows) (job .n) (job .m) v j s
+      → ((printed .low v j ≤ℤ s) × (s ≤ℤ printed .high v j)) ↔ Occurs (measureMeant job .step) (printed .built .tree) (job .rows) (job .n) (job .m) v j s

@@ -7,11 +7,11 @@ use Rattle.matrix_file.specs.Decimal.{digitsOf}
 use Rattle.matrix_file.specs.Text.{bytes}
 use Rattle.matrix_file.specs.Job.{Job}
 use Rattle.matrix_file.specs.Reading.{readAnswer}
-use Rattle.difference.specs.Rows.{Measure, plain, nodeDifference}
+use Rattle.difference.specs.Rows.{Measure, nodeDifference}
 use Rattle.prim.specs.Network.{network, networkLength}
 use Rattle.wagner.specs.Build.{Built, wagner, wagnerLength}
 use Rattle.fitting.specs.Fit.{fittedTotal}
-use Rattle.listing.specs.Meant.{orderMeant}
+use Rattle.listing.specs.Meant.{orderMeant, measureMeant}
 use Rattle.listing.specs.Lines.{line, joined}
 use Rattle.listing.specs.Blocks.{totalLine, primLine, wagnerLine, fittedLines, rangeLines}
 
@@ -57,7 +57,7 @@ refusalLine number at = line (bytes "R" ∷ digitsOf number ∷ digitsOf at ∷ 
 
 -- the lines printed for what a file brings
 unfoldable pub printed : Outcome Job → List (List ℕ)
-printed (value job) = listing plain job
+printed (value job) = listing (measureMeant job) job
 printed (refused number at) = refusalLine number at ∷ []
 
 -- the lines printed for a file's bytes

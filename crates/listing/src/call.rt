@@ -2,6 +2,7 @@
 use crate::job::put_job;
 use crate::lines::put_refusal_line;
 use matrix::COLUMNS;
+use matrix::LIGHTEST;
 use matrix::ROWS;
 use matrix::refusal::Refusal;
 use matrix::refusal::number;
@@ -9,8 +10,8 @@ use matrix_file::NAMES_SIZE;
 use matrix_file::answer::Read;
 use matrix_file::reading::read;
 ghost use mathlib.Core.Path.{_≡_};
-ghost use lib.ListN.{length};
-ghost use Rattle.matrix.specs.Shape.{matrixSize};
+ghost use lib.ListN.{length, replicate};
+ghost use Rattle.matrix.specs.Shape.{matrixSize, columns};
 ghost use Rattle.matrix_file.specs.Written.{namesSize};
 ghost use Rattle.listing.specs.Listing.{output};
 ghost use Rattle.listing.specs.Put.{Put};
@@ -26,23 +27,27 @@ pub enum Listed {
     Refused(Refusal),
 }
 
-// Puts what is printed for a file in front of a list: its listing, or the line of its refusal. The other lists are room to compute in.
+// Puts what is printed for a file in front of a list: its listing, or the line of its refusal. The other lists are room to compute in; the
+// weights are 1 before.
 fn put_file(
     out: &mut [u8],
     file: &[u8],
     matrix: &mut [i32],
+    weights: &mut [u8],
     names: &mut [u8],
     low: &mut [i32],
     high: &mut [i32],
     chosen: &mut [i32],
 ) -> usize
-    requires { ⌜ (length (now matrix) ≡ matrixSize) × (length (now names) ≡ namesSize) ⌝ }
+    requires { ⌜ (length (now matrix) ≡ matrixSize) × (now weights ≡ replicate columns 1) × (length (now names) ≡ namesSize) ⌝ }
     requires { ⌜ StateLists (now low) (now high) (now chosen) ⌝ }
     ensures { λ r. ⌜ Put (output (now (file .entry))) (now (out .entry)) 0 (now (out .exit)) r ⌝ }
 {
-    match read(file, matrix, names) {
+    match read(file, matrix, weights, names) {
         Read::Refused { refusal, line } => put_refusal_line(out, 0, number(refusal), line),
-        Read::Accepted(header) => { put_job(out, header, names, matrix, low, high, chosen) }
+        Read::Accepted(header) => {
+            put_job(out, header, names, matrix, weights, low, high, chosen)
+        }
     }
 }
 
@@ -54,6 +59,7 @@ pub fn list(file: &[u8], out: &mut [u8]) -> Listed
         return Listed::Refused(Refusal::ListSize);
     }
     let mut matrix = [0i32; ROWS * COLUMNS];
+    let mut weights = [LIGHTEST; COLUMNS];
     let mut names = [0u8; NAMES_SIZE];
     let mut low = [0i32; ROWS * COLUMNS];
     let mut high = [0i32; ROWS * COLUMNS];
@@ -62,6 +68,7 @@ pub fn list(file: &[u8], out: &mut [u8]) -> Listed
         out,
         file,
         &mut matrix,
+        &mut weights,
         &mut names,
         &mut low,
         &mut high,

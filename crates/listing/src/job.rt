@@ -17,7 +17,7 @@ use wagner::build::WagnerTree;
 use wagner::build::build;
 use wagner::order::Order;
 ghost use Prim.Native.Nat.{_≤_};
-ghost use Rattle.matrix.specs.Questions.{LentMatrix};
+ghost use Rattle.matrix.specs.Questions.{LentMatrix, LentWeights};
 ghost use Rattle.prim.specs.Answers.{mostLinks};
 ghost use Rattle.wagner.specs.Answers.{mostPlacements};
 ghost use Rattle.listing.specs.Put.{Put};
@@ -97,6 +97,7 @@ fn put_results(
 // states into three lists of its shape.
 fn results_of(
     matrix: &mut [i32],
+    weights: &[u8],
     n: usize,
     m: usize,
     order: Order,
@@ -104,15 +105,15 @@ fn results_of(
     high: &mut [i32],
     chosen: &mut [i32],
 ) -> Results
-    requires { ⌜ LentMatrix (now matrix) n m ⌝ }
+    requires { ⌜ LentMatrix (now matrix) n m × LentWeights (now weights) m ⌝ }
     requires { ⌜ StateLists (now low) (now high) (now chosen) ⌝ }
-    ensures { λ r. ⌜ ResultsOf order (now (matrix .entry)) n m (now (low .exit)) (now (high .exit)) (now (chosen .exit)) r ⌝ }
+    ensures { λ r. ⌜ ResultsOf order (now (matrix .entry)) (now (weights .entry)) n m (now (low .exit)) (now (high .exit)) (now (chosen .exit)) r ⌝ }
 {
-    let answer = network(matrix, n, m);
+    let answer = network(matrix, weights, n, m);
     let links = answer.network;
-    let built = build(matrix, n, m, order);
+    let built = build(matrix, weights, n, m, order);
     let tree = built.tree;
-    let fit = fit_tree(matrix, n, m, tree, low, high, chosen);
+    let fit = fit_tree(matrix, weights, n, m, tree, low, high, chosen);
     Results {
         network: links,
         built,
@@ -126,18 +127,19 @@ pub(crate) fn put_job(
     header: Header,
     names: &[u8],
     matrix: &mut [i32],
+    weights: &[u8],
     low: &mut [i32],
     high: &mut [i32],
     chosen: &mut [i32],
 ) -> usize
-    requires { ⌜ LentMatrix (now matrix) (header .n) (header .m) ⌝ }
+    requires { ⌜ LentMatrix (now matrix) (header .n) (header .m) × LentWeights (now weights) (header .m) ⌝ }
     requires { ⌜ StateLists (now low) (now high) (now chosen) ⌝ }
-    ensures { λ r. ⌜ ListsJob header (now (names .entry)) (now (matrix .entry)) (now (out .entry)) (now (out .exit)) r ⌝ }
+    ensures { λ r. ⌜ ListsJob header (now (names .entry)) (now (matrix .entry)) (now (weights .entry)) (now (out .entry)) (now (out .exit)) r ⌝ }
 {
     let n = header.n;
     let m = header.m;
     let word = header.order;
     let order = order_meant(word);
-    let found = results_of(matrix, n, m, order, low, high, chosen);
+    let found = results_of(matrix, weights, n, m, order, low, high, chosen);
     put_results(out, n, m, names, found, low, high, chosen)
 }

@@ -1,18 +1,22 @@
 -- A build by the difference of rows: the nodes that its placements and its tree name are at most 2n, and each length added is at most
 -- the largest difference of two rows.
+use mathlib.Core.Path.{_≡_}
 use mathlib.Core.Logic.{⊎-elim}
+use mathlib.Core.Bool.{true}
 use mathlib.Core.List.{List, [], _∷_, List·Memᴰ, List·Memᴰ·not-nil, List·Memᴰ·cases-cons}
 use Prim.Native.Nat.{ℕ, zero, suc, _-_, _*_, _≤_}
 use native.Mathlib.Omega.{arith}
 use lib.IntN.{ℤ}
 use lib.ListN.{set}
+use Rattle.lists.specs.Tests.{every}
 use Rattle.lists.specs.Least.{leastOf}
 use Rattle.lists.specs.Numbers.{numbers}
 use Rattle.lists.proofs.Keep.{keep-mem, length-keep-le}
 use Rattle.lists.proofs.Least.{firstLeast-mem}
 use Rattle.lists.proofs.Numbers.{numbers-within, length-numbers}
 use Rattle.lists.proofs.Filled.{getD-replicate}
-use Rattle.difference.specs.Rows.{difference}
+use Rattle.matrix.specs.Shape.{isWeight}
+use Rattle.difference.specs.Rows.{difference, mostDifference}
 use Rattle.branching.specs.declared.placement.Placement.{Placement}
 use Rattle.branching.specs.Ancestors.{ancestor, places}
 use Rattle.branching.specs.Nodes.{inTree, nodesIn, nodesOut, otherNodes, taxaPlaced}
@@ -23,7 +27,7 @@ use Rattle.wagner.specs.declared.order.Order.the-variants.{Advance, Closest}
 use Rattle.wagner.specs.Next.{advancement, byAdvancement, nextBy}
 use Rattle.wagner.specs.Build.{Built, buildOn, build, wagner}
 use Rattle.wagner.proofs.Closest.{adds, closeness-least}
-use Rattle.listing.proofs.Bounds.Rows.{mostApart, AllNear, near-more, near-medians, node-apart, interval-apart}
+use Rattle.listing.proofs.Bounds.Rows.{AllNear, near-more, near-medians, node-apart, interval-apart}
 
 -- the first of the least of numbers within a bound is within it
 least-within : (key : ℕ → ℕ) (most : ℕ) (vs : List ℕ) → ((v : ℕ) → List·Memᴰ v vs → v ≤ most) → leastOf key vs ≤ most
@@ -50,7 +54,7 @@ pub record Small (n : ℕ) (p : Placement) : Type 0 where
   pub lower : p .lower ≤ 2 * n
   pub upper : p .upper ≤ 2 * n
   pub htu : p .htu ≤ 2 * n
-  pub added : p .added ≤ mostApart
+  pub added : p .added ≤ mostDifference
 
 -- what comes out of a placement is within these bounds
 pub record SmallAfter (n : ℕ) (placed : AfterPlacing) : Type 0 where
@@ -58,7 +62,7 @@ pub record SmallAfter (n : ℕ) (placed : AfterPlacing) : Type 0 where
   pub rows : AllNear (placed .rows)
   pub placement : Small n (placed .placement)
 
-module _ (n : ℕ) (taxa : 1 ≤ n) where
+module _ (weights : List ℕ) (weighed : every isWeight weights ≡ true) (n : ℕ) (taxa : 1 ≤ n) where
   -- the next HTU is at most 2n
   next-within : (tree : List ℕ) → nextHtu n tree ≤ 2 * n
   unfolding nextHtu taxaPlaced nodesIn
@@ -88,12 +92,12 @@ module _ (n : ℕ) (taxa : 1 ≤ n) where
 
   module _ (tree : List ℕ) (rows : List (List ℤ)) (inside : AncestorsWithin (2 * n) tree) (near : AllNear rows) (b : ℕ) (taxon : b ≤ 2 * n) where
     -- a taxon placed on any interval
-    placed-small : (c : ℕ) → c ≤ 2 * n → SmallAfter n (placeOn difference n tree rows b c)
+    placed-small : (c : ℕ) → c ≤ 2 * n → SmallAfter n (placeOn (difference weights) n tree rows b c)
     unfolding placeOn linkFirst hang linked hung
     placed-small zero h = record {
       ancestors = set-within (2 * n) tree b 1 inside (omega arith);
       rows = near;
-      placement = record { taxon = taxon; lower = omega arith; upper = omega arith; htu = omega arith; added = node-apart rows near b 1 };
+      placement = record { taxon = taxon; lower = omega arith; upper = omega arith; htu = omega arith; added = node-apart weights weighed rows near b 1 };
     }
     placed-small (suc c) h =
         let y = nextHtu n tree in
@@ -102,14 +106,14 @@ module _ (n : ℕ) (taxa : 1 ≤ n) where
         let below = set-within (2 * n) (set tree y (ancestor tree (suc c))) (suc c) y above new in
         record {
           ancestors = set-within (2 * n) (set (set tree y (ancestor tree (suc c))) (suc c) y) b y below new;
-          rows = near-more rows (medianRow rows b (suc c) (ancestor tree (suc c))) near (near-medians rows near b (suc c) (ancestor tree (suc c)));
-          placement = record { taxon = taxon; lower = h; upper = inside (suc c); htu = new; added = interval-apart rows near tree b (suc c) };
+          rows = near-more rows (medianRow rows b (suc c) (ancestor tree (suc c))) near (near-medians weights weighed rows near b (suc c) (ancestor tree (suc c)));
+          placement = record { taxon = taxon; lower = h; upper = inside (suc c); htu = new; added = interval-apart weights weighed rows near tree b (suc c) };
         }
 
     -- a taxon placed on its interval
-    place-small : SmallAfter n (place difference n tree rows b)
+    place-small : SmallAfter n (place (difference weights) n tree rows b)
     unfolding place
-    place-small = placed-small (nearestInterval difference n tree rows b) (nearest-within difference tree rows b)
+    place-small = placed-small (nearestInterval (difference weights) n tree rows b) (nearest-within (difference weights) tree rows b)
 
   -- what comes out of a build is within these bounds
   pub record SmallBuilt (built : Built) : Type 0 where
@@ -118,13 +122,13 @@ module _ (n : ℕ) (taxa : 1 ≤ n) where
 
   -- so many placements in turn
   build-small : (order : Order) (count : ℕ) (tree : List ℕ) (rows : List (List ℤ)) → AncestorsWithin (2 * n) tree → AllNear rows
-      → SmallBuilt (buildOn difference (nextBy difference order) n count tree rows)
+      → SmallBuilt (buildOn (difference weights) (nextBy (difference weights) order) n count tree rows)
   unfolding buildOn
   build-small order zero tree rows inside near = record { ancestors = inside; placements = λ p m. absurd (List·Memᴰ·not-nil m) }
   build-small order (suc count) tree rows inside near =
-      let b = nextBy difference order n tree rows in
-      let now = place-small tree rows inside near b (taxon-within difference order tree rows) in
-      let rest = build-small order count (place difference n tree rows b .tree) (place difference n tree rows b .rows)
+      let b = nextBy (difference weights) order n tree rows in
+      let now = place-small tree rows inside near b (taxon-within (difference weights) order tree rows) in
+      let rest = build-small order count (place (difference weights) n tree rows b .tree) (place (difference weights) n tree rows b .rows)
       (now .ancestors) (now .rows) in
       record {
         ancestors = rest .ancestors;
@@ -132,7 +136,7 @@ module _ (n : ℕ) (taxa : 1 ≤ n) where
       }
 
   -- the Wagner tree
-  pub wagner-small : (order : Order) (rows : List (List ℤ)) → AllNear rows → SmallBuilt (wagner difference order n rows)
+  pub wagner-small : (order : Order) (rows : List (List ℤ)) → AllNear rows → SmallBuilt (wagner (difference weights) order n rows)
   unfolding wagner build noBranches ancestor
   wagner-small order rows near =
       build-small order (n - 1) noBranches rows (λ v. rw (getD-replicate {A = ℕ} 0 places v) (omega arith)) near

@@ -21,12 +21,12 @@ use Rattle.listing.proofs.Fields.{node-taxon, node-htu}
 use Rattle.listing.proofs.Unpadded.{name-short}
 use Rattle.listing.proofs.Totals.{limits}
 
--- a number below a hundred million has at most 8 digits
-pub number-size : (n : ℕ) → n < 100000000 → length (digitsOf n) ≤ 8
-number-size n h = digits-length n 7 h
+-- a number below a thousand million has at most 9 digits
+pub number-size : (n : ℕ) → n < 1000000000 → length (digitsOf n) ≤ 9
+number-size n h = digits-length n 8 h
 
--- a code from -999 to 999 has at most 9 bytes
-pub code-size : (z : ℤ) → inRange z ≡ true → length (decimal z) ≤ 9
+-- a code from -999 to 999 has at most 10 bytes
+pub code-size : (z : ℤ) → inRange z ≡ true → length (decimal z) ≤ 10
 unfolding decimal inRange
 code-size (pos n) e = let small = leb-true n 999 e in omega (arith, number-size n (omega arith))
 code-size (negsuc n) e = let small = leb-true (suc n) 999 e in omega (arith, number-size (suc n) (omega arith))
@@ -37,8 +37,8 @@ unfolding mark bytes
 mark-size true = refl
 mark-size false = refl
 
--- an HTU of a small number has at most 9 bytes
-htu-size : (number : ℕ) → number < 100000000 → length (htuName number) ≤ 9
+-- an HTU of a small number has at most 10 bytes
+htu-size : (number : ℕ) → number < 1000000000 → length (htuName number) ≤ 10
 unfolding htuName bytes
 htu-size number h = omega (arith, number-size number h)
 
@@ -60,6 +60,6 @@ node-size job within (suc v) h =
     rw (node-taxon (job .n) (job .names) (suc v) (omega arith) taxon) name)
     (λ htu.
     let above : job .n < suc v = omega arith in
-    let number : suc v - job .n < 100000000 = omega arith in
+    let number : suc v - job .n < 1000000000 = omega arith in
     let size = htu-size (suc v - job .n) number in
     rw (node-htu (job .n) (job .names) (suc v) above) (omega arith))

@@ -10,11 +10,11 @@ use Rattle.lists.specs.Numbers.{numbers}
 use Rattle.lists.proofs.Every.{every-head, every-tail}
 use Rattle.lists.proofs.Numbers.{length-numbers}
 use Rattle.lists.proofs.Sums.{sum-most}
-use Rattle.matrix.specs.Shape.{inRange}
+use Rattle.matrix.specs.Shape.{inRange, weightOf}
 use Rattle.matrix.specs.Questions.{allInRange}
 use Rattle.matrix_file.specs.Job.{Job, JobWithinLimits}
-use Rattle.difference.specs.Rows.{plain, difference, apart}
-use Rattle.difference.proofs.Laws.Codes.{apart-inRange}
+use Rattle.difference.specs.Rows.{mostDifference, part}
+use Rattle.difference.proofs.Laws.Weights.{part-inRange}
 use Rattle.branching.specs.Ancestors.{ancestor}
 use Rattle.branching.specs.Facts.{Branching, Grown}
 use Rattle.branching.proofs.Whole.{branching-nodes, branching-grown, growing-ancestor-le}
@@ -22,10 +22,10 @@ use Rattle.wagner.proofs.Whole.{wagner-branching}
 use Rattle.fitting.specs.Assignments.{character, branchLength}
 use Rattle.fitting.specs.Fit.{chosenState, range, fittedLength}
 use Rattle.fitting.proofs.Matrix.OnlyCodes.{Each, chosenState-each, range-each}
-use Rattle.listing.specs.Meant.{orderMeant}
+use Rattle.listing.specs.Meant.{orderMeant, measureMeant}
 use Rattle.listing.proofs.Parts.{builtOf}
 use Rattle.listing.proofs.Totals.{Limits, limits}
-use Rattle.listing.proofs.Bounds.Rows.{mostApart, near-job}
+use Rattle.listing.proofs.Bounds.Rows.{near-job, weight-known}
 
 -- a code from -999 to 999
 abbrev pub IsNear : ℤ → Type 0
@@ -41,7 +41,7 @@ code-near (code ∷ codes) e (suc i) = code-near codes (every-tail inRange code 
 module _ (job : Job) (within : JobWithinLimits job) (two : 2 ≤ job .n) where
   -- the job's Wagner tree
   abbrev tree : List ℕ
-  tree = builtOf plain job .tree
+  tree = builtOf (measureMeant job) job .tree
 
   -- n and m are within their limits
   abbrev known : Limits (job .n) (job .m)
@@ -49,7 +49,7 @@ module _ (job : Job) (within : JobWithinLimits job) (two : 2 ≤ job .n) where
 
   -- it is a branching
   whole : Branching (job .n) tree
-  whole = wagner-branching difference (orderMeant (job .order)) (job .n) (known .taxon) (known .taxa) (job .rows)
+  whole = wagner-branching (measureMeant job .rows) (orderMeant (job .order)) (job .n) (known .taxon) (known .taxa) (job .rows)
 
   -- of two taxa at least
   grown : Grown (job .n) (job .n) tree
@@ -70,12 +70,13 @@ module _ (job : Job) (within : JobWithinLimits job) (two : 2 ≤ job .n) where
   range-near v j first last = range-each IsNear (job .n) tree grown (job .rows) j (λ u p q. codes-near j u) v first last
 
   -- a fitted length
-  pub fitted-apart : (v : ℕ) → 2 ≤ v → v ≤ 2 * job .n - 2 → fittedLength (plain .step) tree (job .rows) (job .n) (job .m) v ≤ mostApart
+  pub fitted-apart : (v : ℕ) → 2 ≤ v → v ≤ 2 * job .n - 2 → fittedLength (measureMeant job .step) tree (job .rows) (job .n) (job .m) v ≤ mostDifference
   unfolding fittedLength branchLength
   fitted-apart v first last =
       let some : 1 ≤ ancestor tree v = branching-nodes (job .n) tree whole v first last in
       let above : ancestor tree v ≤ 2 * job .n - 2 = growing-ancestor-le (job .n) tree whole v in
       let own = chosenState tree (job .rows) (job .n) in
-      let sum = sum-most (λ j. apart (own v j) (own (ancestor tree v) j)) 1998 (numbers 1 (job .m)) (λ j m.
-      apart-inRange (own v j) (own (ancestor tree v) j) (state-near v j (omega arith) last) (state-near (ancestor tree v) j some above)) in
+      let sum = sum-most (λ j. part (weightOf (job .weights) j) (own v j) (own (ancestor tree v) j)) 17982 (numbers 1 (job .m)) (λ j m.
+      part-inRange (weightOf (job .weights) j) (own v j) (own (ancestor tree v) j) (weight-known (job .weights) (within .weights-known) j)
+      (state-near v j (omega arith) last) (state-near (ancestor tree v) j some above)) in
       omega (arith, sum, length-numbers 1 (job .m), known .characters)

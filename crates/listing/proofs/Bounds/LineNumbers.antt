@@ -1,10 +1,11 @@
--- The line that a refusal gives is at most 66, two behind the last row of 64.
+-- The line that a refusal gives is at most 67: a line behind the 64 rows, line 1 and the `V` line.
 use mathlib.Core.Path.{_≡_, refl}
-use mathlib.Core.Bool.{true}
+use mathlib.Core.Bool.{Bool, true, false}
 use mathlib.Core.List.{List, [], _∷_}
 use Prim.Native.Nat.{ℕ, zero, suc, _+_, _≤_}
 use native.Mathlib.Nat.{add-zero}
 use native.Mathlib.Omega.{arith}
+use lib.ListN.{drop}
 use Rattle.matrix.specs.Outcomes.{ask, Outcome, value, refused, onLine, thenWith}
 use Rattle.matrix.specs.Questions.{withinLimits}
 use Rattle.matrix.specs.declared.refusal.Refusal.the-variants.{FirstLine, UnknownOrder, BeyondLimits, FileGoesOn}
@@ -12,11 +13,17 @@ use Rattle.matrix.specs.declared.refusal.Asked.{Asked}
 use Rattle.matrix.specs.declared.refusal.Asked.the-variants.{Passed, Refused}
 use Rattle.matrix_file.specs.declared.answer.Header.{Header}
 use Rattle.matrix_file.specs.Lines.{linesOf}
-use Rattle.matrix_file.specs.Header.{headerIn, rowLine, behindHeader, firstLineForm, firstFields, orderKnown, askFirstLine, askHeader}
+use Rattle.matrix_file.specs.Header.{headerIn, rowLine, behindHeader, firstLineForm, firstFields, orderKnown, askFirstLine, askWeights}
+use Rattle.matrix_file.specs.Header.{askHeader}
+use Rattle.matrix_file.specs.Optional.{linesTaken}
 use Rattle.matrix.proofs.Passing.{ask-passed}
 use Rattle.matrix_file.specs.Rows.{nameIn, askRow, askRows}
 use Rattle.matrix_file.specs.Reading.{jobOf, nothingMore, askEnd, askBehind, askFile, askLength, readAnswer}
 use Rattle.listing.proofs.Totals.{Limits, limits}
+
+-- the highest line that a refusal gives
+abbrev pub mostLines : ℕ
+mostLines = 67
 
 -- the line of a refusal, if there is one, is within a bound
 pub data LineWithin {A : Type 0} (most : ℕ) : Outcome A → Type 0 where
@@ -28,12 +35,6 @@ on-line : {A : Type 0} (most line : ℕ) (asked : Asked) (rest : Outcome A) → 
     → LineWithin most (onLine line asked rest)
 on-line most line Passed rest h later = later refl
 on-line most line (Refused refusal) rest h later = some h
-
--- a line's questions with what they bring, and what follows it
-then-line : {A B : Type 0} (most line : ℕ) (asked : Asked) (a : A) (follow : A → Outcome B) → line ≤ most
-    → (asked ≡ Passed → LineWithin most (follow a)) → LineWithin most (thenWith (onLine line asked (value a)) follow)
-then-line most line Passed a follow h later = later refl
-then-line most line (Refused refusal) a follow h later = some h
 
 -- the questions on the rows: no line behind the last row's, if none is given by what follows them
 rows-lines : {A : Type 0} (most : ℕ) (header : Header) (earlier : List (List ℕ)) (line left : ℕ) (lines : List (List ℕ))
@@ -56,23 +57,38 @@ first-limits lines passed =
     let order = ask-passed (orderKnown (firstFields lines)) UnknownOrder _ (form .1) in
     ask-passed (withinLimits (headerIn lines .n) (headerIn lines .m)) BeyondLimits Passed (order .1) .0
 
+-- an optional line takes at most one
+taken-most : (there : Bool) → linesTaken there ≤ 1
+taken-most true = omega arith
+taken-most false = omega arith
+
 -- the questions on what stands behind a header of at most 64 taxa
-behind-lines : (header : Header) (lines : List (List ℕ)) → header .n ≤ 64 → LineWithin 66 (askBehind header lines)
+behind-lines : (header : Header) (lines : List (List ℕ)) → header .n ≤ 64 → LineWithin mostLines (askBehind header lines)
 unfolding askBehind askEnd
 behind-lines header lines h =
-    rows-lines 66 header [] (rowLine header 1) (header .n) lines (askEnd (value (jobOf header lines))) (omega arith)
-    (λ others. on-line 66 (rowLine header 1 + header .n) (ask (nothingMore others) FileGoesOn Passed) (value (jobOf header lines)) (omega arith)
+    let taken = taken-most (header .weighed) in
+    rows-lines mostLines header [] (rowLine header 1) (header .n) (behindHeader header lines) (askEnd (value (jobOf header lines)))
+    (omega arith)
+    (λ others.
+    on-line mostLines (rowLine header 1 + header .n) (ask (nothingMore others) FileGoesOn Passed) (value (jobOf header lines)) (omega arith)
     (λ e. none))
 
+-- two lines' questions with what they bring, and what follows it
+then-lines : {A B : Type 0} (most : ℕ) (first second : Asked) (a : A) (follow : A → Outcome B) → 2 ≤ most
+    → (first ≡ Passed → LineWithin most (follow a)) → LineWithin most (thenWith (onLine 1 first (onLine 2 second (value a))) follow)
+then-lines most Passed Passed a follow h later = later refl
+then-lines most Passed (Refused refusal) a follow h later = some {line = 2} h
+then-lines most (Refused refusal) second a follow h later = some {line = 1} (omega arith)
+
 -- the questions on a file
-pub file-line : (file : List ℕ) → LineWithin 66 (readAnswer file)
+pub file-line : (file : List ℕ) → LineWithin mostLines (readAnswer file)
 unfolding readAnswer askFile askHeader
 file-line file =
     let lines : List (List ℕ) = linesOf file in
     let header : Header = headerIn lines in
     let first : Asked = askFirstLine lines in
-    on-line 66 0 (askLength file) (askFile lines) (omega arith) λ e.
-    then-line 66 1 first header (λ header. askBehind header (behindHeader header lines)) (omega arith) λ passed.
+    on-line mostLines 0 (askLength file) (askFile lines) (omega arith) λ e.
+    then-lines mostLines first (askWeights header (drop 1 lines)) header (λ header. askBehind header lines) (omega arith) λ passed.
     let inside : Limits (header .n) (header .m) =
     limits (header .n) (header .m) (first-limits lines passed) in
-    behind-lines header (behindHeader header lines) (inside .taxa)
+    behind-lines header lines (inside .taxa)

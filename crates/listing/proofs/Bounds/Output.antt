@@ -17,11 +17,11 @@ use Rattle.listing.specs.Call.{outputSize}
 use Rattle.listing.proofs.Joined.{joined-one}
 use Rattle.listing.proofs.LineFields.{sizes, line-size}
 use Rattle.listing.proofs.Bounds.Fields.{number-size}
-use Rattle.listing.proofs.Bounds.LineNumbers.{LineWithin, none, some, file-line}
+use Rattle.listing.proofs.Bounds.LineNumbers.{mostLines, LineWithin, none, some, file-line}
 use Rattle.listing.proofs.Bounds.Room.{job-room}
 
 -- the line of a refusal
-refusal-room : (number at : ℕ) → number ≤ highestNumber → at ≤ 66 → length (joined (refusalLine number at ∷ [])) ≤ outputSize
+refusal-room : (number at : ℕ) → number ≤ highestNumber → at ≤ mostLines → length (joined (refusalLine number at ∷ [])) ≤ outputSize
 unfolding refusalLine sizes bytes
 refusal-room number at few h =
     omega (
@@ -37,6 +37,6 @@ pub output-room : (file : List ℕ) → length (output file) ≤ outputSize
 unfolding output listingOf printed
 output-room file = by (readAnswer file) refl (file-line file)
   where
-    by : (outcome : Outcome Job) → readAnswer file ≡ outcome → LineWithin 66 outcome → length (joined (printed outcome)) ≤ outputSize
+    by : (outcome : Outcome Job) → readAnswer file ≡ outcome → LineWithin mostLines outcome → length (joined (printed outcome)) ≤ outputSize
     by (value job) e none = job-room job (accepted-exactly file job .0 e .0)
     by (refused number line) e (some h) = refusal-room number line (refused-bounds file number line e .1) h

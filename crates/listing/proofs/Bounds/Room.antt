@@ -13,7 +13,7 @@ use Rattle.matrix.specs.NodeRows.{rowOf}
 use Rattle.matrix_file.specs.Decimal.{digitsOf, decimal}
 use Rattle.matrix_file.specs.Job.{Job, JobWithinLimits}
 use Rattle.matrix_file.specs.Text.{bytes}
-use Rattle.difference.specs.Rows.{plain, difference, nodeDifference}
+use Rattle.difference.specs.Rows.{mostDifference, nodeDifference}
 use Rattle.prim.specs.Network.{Link, networkLength}
 use Rattle.prim.proofs.Connected.{network-between, network-total-le}
 use Rattle.prim.proofs.Placing.{network-link, network-length}
@@ -22,7 +22,7 @@ use Rattle.branching.specs.Ancestors.{ancestor}
 use Rattle.branching.specs.Nodes.{otherNodes}
 use Rattle.wagner.specs.Build.{wagnerLength}
 use Rattle.fitting.specs.Fit.{chosenState, range, fittedLength, fittedTotal, marked}
-use Rattle.listing.specs.Meant.{orderMeant}
+use Rattle.listing.specs.Meant.{orderMeant, measureMeant}
 use Rattle.listing.specs.Lines.{nodeName, joined}
 use Rattle.listing.specs.Blocks.{mark, totalLine, primLine, wagnerLine, branchLine, stateLine, fittedLine, fittedLines, rangeLine, rangeLines}
 use Rattle.listing.specs.Listing.{listing}
@@ -43,7 +43,7 @@ use Rattle.listing.proofs.Parts.{
   wagner-count,
 }
 use Rattle.listing.proofs.Totals.{Limits, limits, wagner-total, tree-total}
-use Rattle.listing.proofs.Bounds.Rows.{mostApart, near-job, node-apart}
+use Rattle.listing.proofs.Bounds.Rows.{near-job, node-apart}
 use Rattle.listing.proofs.Bounds.Build.{SmallBuilt, wagner-small}
 use Rattle.listing.proofs.Bounds.Fields.{number-size, code-size, mark-size, node-size}
 use Rattle.listing.proofs.Bounds.Fit.{state-near, range-near, fitted-apart}
@@ -53,7 +53,7 @@ abbrev pub mostLine : ℕ
 mostLine = 128
 
 -- the line of a total
-total-size : (letter : String) (total : ℕ) → length (bytes letter) ≡ 1 → total < 100000000 → length (totalLine letter total) ≤ mostLine
+total-size : (letter : String) (total : ℕ) → length (bytes letter) ≡ 1 → total < 1000000000 → length (totalLine letter total) ≤ mostLine
 unfolding totalLine sizes
 total-size letter total one small = omega (arith, line-size (bytes letter) (digitsOf total ∷ []), number-size total small)
 
@@ -68,22 +68,22 @@ module _ (job : Job) (within : JobWithinLimits job) where
 
   -- the difference of the job's taxa
   abbrev d : ℕ → ℕ → ℕ
-  d = nodeDifference difference (rowOf (job .rows))
+  d = nodeDifference (measureMeant job .rows) (rowOf (job .rows))
 
   -- the job's Wagner tree
   abbrev tree : List ℕ
-  tree = builtOf plain job .tree
+  tree = builtOf (measureMeant job) job .tree
 
   -- its placements and ancestors are within bounds
-  small : SmallBuilt (job .n) (known .taxon) (builtOf plain job)
-  small = wagner-small (job .n) (known .taxon) (orderMeant (job .order)) (job .rows) (near-job job within)
+  small : SmallBuilt (job .weights) (within .weights-known) (job .n) (known .taxon) (builtOf (measureMeant job) job)
+  small = wagner-small (job .weights) (within .weights-known) (job .n) (known .taxon) (orderMeant (job .order)) (job .rows) (near-job job within)
 
   -- a `P` line
-  prim-size : (l : Link) → List·Memᴰ l (linksOf plain job) → length (primLine (job .n) (job .names) l) ≤ mostLine
+  prim-size : (l : Link) → List·Memᴰ l (linksOf (measureMeant job) job) → length (primLine (job .n) (job .names) l) ≤ mostLine
   unfolding primLine sizes bytes
   prim-size l m =
       let ends = network-between d (job .n) l m in
-      let apart : l .length ≤ mostApart = rw (network-link d (job .n) l m) (node-apart (job .rows) (near-job job within) (l .taxon) (l .joined)) in
+      let apart : l .length ≤ mostDifference = rw (network-link d (job .n) l m) (node-apart (job .weights) (within .weights-known) (job .rows) (near-job job within) (l .taxon) (l .joined)) in
       omega (
         arith,
         line-size (bytes "P") (name (l .taxon) ∷ name (l .joined) ∷ digitsOf (l .length) ∷ []),
@@ -93,11 +93,11 @@ module _ (job : Job) (within : JobWithinLimits job) where
       )
 
   -- a `W` line
-  wagner-size : (p : Placement) → List·Memᴰ p (builtOf plain job .placements) → length (wagnerLine (job .n) (job .names) p) ≤ mostLine
+  wagner-size : (p : Placement) → List·Memᴰ p (builtOf (measureMeant job) job .placements) → length (wagnerLine (job .n) (job .names) p) ≤ mostLine
   unfolding wagnerLine sizes bytes
   wagner-size p m =
       let bounds = small .placements p m in
-      let added : p .added < 100000000 = omega (arith, bounds .added) in
+      let added : p .added < 1000000000 = omega (arith, bounds .added) in
       omega (
         arith,
         line-size (bytes "W") (name (p .taxon) ∷ name (p .lower) ∷ name (p .upper) ∷ name (p .htu) ∷ digitsOf (p .added) ∷ []),
@@ -110,19 +110,19 @@ module _ (job : Job) (within : JobWithinLimits job) where
 
   -- a `T` line
   tree-size : (v : ℕ) → 2 ≤ v → v ≤ 2 * job .n - 2
-      → length (fittedLine (job .n) (job .names) tree (job .rows) (job .m) (plain .step) v) ≤ mostLine
+      → length (fittedLine (job .n) (job .names) tree (job .rows) (job .m) (measureMeant job .step) v) ≤ mostLine
   unfolding fittedLine branchLine sizes bytes
   tree-size v first last =
-      let size = fittedLength (plain .step) tree (job .rows) (job .n) (job .m) v in
-      let sign = mark (marked (plain .step) tree (job .rows) (job .n) (job .m) v) in
-      let apart : size ≤ mostApart = fitted-apart job within (omega arith) v first last in
+      let size = fittedLength (measureMeant job .step) tree (job .rows) (job .n) (job .m) v in
+      let sign = mark (marked (measureMeant job .step) tree (job .rows) (job .n) (job .m) v) in
+      let apart : size ≤ mostDifference = fitted-apart job within (omega arith) v first last in
       omega (
         arith,
         line-size (bytes "T") (name v ∷ name (ancestor tree v) ∷ digitsOf size ∷ sign ∷ []),
         node-size job within v (omega arith),
         node-size job within (ancestor tree v) (small .ancestors v),
         number-size size (omega arith),
-        mark-size (marked (plain .step) tree (job .rows) (job .n) (job .m) v),
+        mark-size (marked (measureMeant job .step) tree (job .rows) (job .n) (job .m) v),
       )
 
   -- an `H` line
@@ -134,7 +134,7 @@ module _ (job : Job) (within : JobWithinLimits job) where
       let own = chosenState tree (job .rows) (job .n) v j in
       let two : 2 ≤ job .n = omega arith in
       let near = range-near job within two v j (omega arith) last in
-      let few : j < 100000000 = omega (arith, known .characters) in
+      let few : j < 1000000000 = omega (arith, known .characters) in
       omega (
         arith,
         line-size (bytes "H") (name v ∷ digitsOf j ∷ decimal (span .low) ∷ decimal (span .high) ∷ decimal own ∷ []),
@@ -146,48 +146,48 @@ module _ (job : Job) (within : JobWithinLimits job) where
       )
 
   -- the `P` lines together
-  prim-room : length (joined (primLines plain job)) ≤ (job .n - 1) * mostLine
+  prim-room : length (joined (primLines (measureMeant job) job)) ≤ (job .n - 1) * mostLine
   prim-room =
       omega (
         arith,
-        ap length (joined-map (primLine (job .n) (job .names)) (linksOf plain job)),
-        texts-room (primLine (job .n) (job .names)) mostLine (linksOf plain job) prim-size,
+        ap length (joined-map (primLine (job .n) (job .names)) (linksOf (measureMeant job) job)),
+        texts-room (primLine (job .n) (job .names)) mostLine (linksOf (measureMeant job) job) prim-size,
         network-length d (job .n),
       )
 
   -- `p`
-  prim-total-size : length (primTotal plain job) ≤ mostLine
+  prim-total-size : length (primTotal (measureMeant job) job) ≤ mostLine
   unfolding bytes
   prim-total-size =
-      let most = network-total-le d (job .n) mostApart (λ x y p q. node-apart (job .rows) (near-job job within) x y) in
-      let below : networkLength (linksOf plain job) < 100000000 = omega (arith, most, known .taxa) in
-      total-size "p" (networkLength (linksOf plain job)) refl below
+      let most = network-total-le d (job .n) mostDifference (λ x y p q. node-apart (job .weights) (within .weights-known) (job .rows) (near-job job within) x y) in
+      let below : networkLength (linksOf (measureMeant job) job) < 1000000000 = omega (arith, most, known .taxa) in
+      total-size "p" (networkLength (linksOf (measureMeant job) job)) refl below
 
   -- the `W` lines together
-  wagner-room : length (joined (wagnerLines plain job)) ≤ (job .n - 1) * mostLine
+  wagner-room : length (joined (wagnerLines (measureMeant job) job)) ≤ (job .n - 1) * mostLine
   wagner-room =
       omega (
         arith,
-        ap length (joined-map (wagnerLine (job .n) (job .names)) (builtOf plain job .placements)),
-        texts-room (wagnerLine (job .n) (job .names)) mostLine (builtOf plain job .placements) wagner-size,
-        wagner-count difference (orderMeant (job .order)) (job .n) (job .rows),
+        ap length (joined-map (wagnerLine (job .n) (job .names)) (builtOf (measureMeant job) job .placements)),
+        texts-room (wagnerLine (job .n) (job .names)) mostLine (builtOf (measureMeant job) job .placements) wagner-size,
+        wagner-count (measureMeant job .rows) (orderMeant (job .order)) (job .n) (job .rows),
       )
 
   -- `w`
-  wagner-total-size : length (wagnerTotal plain job) ≤ mostLine
+  wagner-total-size : length (wagnerTotal (measureMeant job) job) ≤ mostLine
   unfolding bytes
   wagner-total-size =
-      let total = wagnerLength difference (job .n) (builtOf plain job) in
-      let most = sum-most (λ (p : Placement). p .added) mostApart (builtOf plain job .placements) (λ p m. small .placements p m .added) in
-      let below : total < 100000000 =
-      omega (arith, wagner-total job within, most, wagner-count difference (orderMeant (job .order)) (job .n) (job .rows), known .taxa) in
+      let total = wagnerLength (measureMeant job .rows) (job .n) (builtOf (measureMeant job) job) in
+      let most = sum-most (λ (p : Placement). p .added) mostDifference (builtOf (measureMeant job) job .placements) (λ p m. small .placements p m .added) in
+      let below : total < 1000000000 =
+      omega (arith, wagner-total job within, most, wagner-count (measureMeant job .rows) (orderMeant (job .order)) (job .n) (job .rows), known .taxa) in
       total-size "w" total refl below
 
   -- the `T` lines together
-  tree-room : length (joined (treeLines plain job)) ≤ (2 * job .n - 3) * mostLine
+  tree-room : length (joined (treeLines (measureMeant job) job)) ≤ (2 * job .n - 3) * mostLine
   unfolding fittedLines otherNodes
   tree-room =
-      let text = fittedLine (job .n) (job .names) tree (job .rows) (job .m) (plain .step) in
+      let text = fittedLine (job .n) (job .names) tree (job .rows) (job .m) (measureMeant job .step) in
       omega (
         arith,
         ap length (joined-map text (numbers 2 (2 * job .n - 3))),
@@ -198,14 +198,14 @@ module _ (job : Job) (within : JobWithinLimits job) where
       )
 
   -- `t`
-  tree-total-size : length (treeTotal plain job) ≤ mostLine
+  tree-total-size : length (treeTotal (measureMeant job) job) ≤ mostLine
   unfolding otherNodes bytes
   tree-total-size =
-      let total = fittedTotal (plain .step) tree (job .rows) (job .n) (job .m) in
-      let most = sum-most (fittedLength (plain .step) tree (job .rows) (job .n) (job .m)) mostApart (numbers 2 (2 * job .n - 3)) (λ v m.
+      let total = fittedTotal (measureMeant job .step) tree (job .rows) (job .n) (job .m) in
+      let most = sum-most (fittedLength (measureMeant job .step) tree (job .rows) (job .n) (job .m)) mostDifference (numbers 2 (2 * job .n - 3)) (λ v m.
       let at = numbers-within 2 (2 * job .n - 3) v m in
       fitted-apart job within (omega arith) v (omega arith) (omega arith)) in
-      let below : total < 100000000 = omega (arith, tree-total plain job, most, length-numbers 2 (2 * job .n - 3), known .taxa) in
+      let below : total < 1000000000 = omega (arith, tree-total (measureMeant job) job, most, length-numbers 2 (2 * job .n - 3), known .taxa) in
       total-size "t" total refl below
 
   -- the `H` lines of a node together
@@ -224,7 +224,7 @@ module _ (job : Job) (within : JobWithinLimits job) where
       )
 
   -- the `H` lines together
-  htu-room : length (joined (htuLines plain job)) ≤ (job .n - 2) * (128 * mostLine)
+  htu-room : length (joined (htuLines (measureMeant job) job)) ≤ (job .n - 2) * (128 * mostLine)
   unfolding rangeLines
   htu-room =
       let texts : ℕ → List (List ℕ) = λ v. map (rangeLine (job .n) (job .names) tree (job .rows) (job .m) v) (numbers 1 (job .m)) in
@@ -238,11 +238,11 @@ module _ (job : Job) (within : JobWithinLimits job) where
       )
 
   -- the whole listing of a job within the limits
-  pub job-room : length (joined (listing plain job)) ≤ outputSize
+  pub job-room : length (joined (listing (measureMeant job) job)) ≤ outputSize
   job-room =
       omega (
         arith,
-        simp length-append at (ap length (listing-text plain job)),
+        simp length-append at (ap length (listing-text (measureMeant job) job)),
         prim-room,
         prim-total-size,
         wagner-room,

@@ -12,21 +12,18 @@ use borrow.Author.Tests.{eqb-true}
 use Rattle.lists.specs.Tests.{every}
 use Rattle.lists.proofs.Both.{and-both}
 use Rattle.lists.proofs.Every.{every-head, every-tail, every-at}
-use Rattle.matrix.specs.Shape.{inRange}
+use Rattle.matrix.specs.Shape.{inRange, isWeight, weightOf}
 use Rattle.matrix.specs.NodeRows.{rowOf}
-use Rattle.matrix.specs.Questions.{allInRange}
+use Rattle.matrix.specs.Questions.{allInRange, areWeights}
 use Rattle.matrix_file.specs.Job.{Job, JobWithinLimits, hasCodes}
-use Rattle.difference.specs.Rows.{difference, medians, intervalBy, nodeDifference}
+use Rattle.difference.specs.Rows.{difference, mostDifference, medians, intervalBy, nodeDifference}
 use Rattle.difference.proofs.Laws.Order.{median-keeps}
 use Rattle.difference.proofs.Laws.Rows.{difference-limit}
+use Rattle.difference.proofs.Laws.Weights.{areWeights-at}
 use Rattle.branching.specs.Ancestors.{ancestor}
 use Rattle.branching.specs.Placing.{medianRow, fromInterval}
 use Rattle.branching.specs.RowLengths.{nodeInterval}
 use Rattle.listing.proofs.Totals.{limits}
-
--- the largest difference of two rows
-abbrev pub mostApart : ℕ
-mostApart = 255744
 
 -- a row has at most 128 codes, each from -999 to 999
 pub record Near (r : List ℤ) : Type 0 where
@@ -84,19 +81,34 @@ near-job job within i =
     let past : length (job .rows) ≤ i = omega arith in
     rw (List·getD-eq-default (job .rows) [] past) near-none)
 
-module _ (rows : List (List ℤ)) (all : AllNear rows) where
+-- of weights from 1 to 9 so many of the first are
+first-known : (weights : List ℕ) → every isWeight weights ≡ true → (count : ℕ) → areWeights weights count ≡ true
+unfolding areWeights every
+first-known [] e zero = refl
+first-known [] e (suc count) = refl
+first-known (w ∷ weights) e zero = refl
+first-known (w ∷ weights) e (suc count) =
+    and-both (every-head isWeight w weights e) (first-known weights (every-tail isWeight w weights e) count)
+
+-- and each character's is
+pub weight-known : (weights : List ℕ) → every isWeight weights ≡ true → (j : ℕ) → isWeight (weightOf weights j) ≡ true
+weight-known weights e j =
+    unfold weightOf in areWeights-at weights (suc (j - 1)) (j - 1) (first-known weights e (suc (j - 1))) (omega arith)
+
+module _ (weights : List ℕ) (weighed : every isWeight weights ≡ true) (rows : List (List ℤ)) (all : AllNear rows) where
   -- the row of a node
   pub near-row : (v : ℕ) → Near (rowOf rows v)
   unfolding rowOf
   near-row v = all (v - 1)
 
   -- the difference of two nodes
-  pub node-apart : (u v : ℕ) → nodeDifference difference (rowOf rows) u v ≤ mostApart
+  pub node-apart : (u v : ℕ) → nodeDifference (difference weights) (rowOf rows) u v ≤ mostDifference
   unfolding nodeDifference
-  node-apart u v = difference-limit (rowOf rows u) (rowOf rows v) (near-row u .known) (near-row v .known) (near-row u .narrow)
+  node-apart u v =
+      difference-limit weights (rowOf rows u) (rowOf rows v) (first-known weights weighed (length (rowOf rows u))) (near-row u .known) (near-row v .known) (near-row u .narrow)
 
   -- the interval difference of a node from an interval
-  pub interval-apart : (tree : List ℕ) (b c : ℕ) → fromInterval difference tree rows b c ≤ mostApart
+  pub interval-apart : (tree : List ℕ) (b c : ℕ) → fromInterval (difference weights) tree rows b c ≤ mostDifference
   unfolding fromInterval nodeInterval intervalBy nodeDifference
   interval-apart tree b c = omega (arith, node-apart b c, node-apart b (ancestor tree c))
 

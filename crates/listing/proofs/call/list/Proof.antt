@@ -22,6 +22,9 @@ slice-aggregate-put-file-4 c = search needs
 slice-aggregate-put-file-5 : tie.Need-slice-aggregate-put-file-5
 slice-aggregate-put-file-5 c = search needs
 
+slice-aggregate-put-file-6 : tie.Need-slice-aggregate-put-file-6
+slice-aggregate-put-file-6 c = search needs
+
 put-file-requires : tie.Need-put-file-requires
 put-file-requires c κs = search needs
 
@@ -30,8 +33,8 @@ same-length c = search needs
 
 returns-2 : tie.Need-returns-2
 returns-2 c =
-    let put = c .before .before .before .before .before .before .before in
-    let test = put .before .before .before .before .before .before .before in
+    let put = c .before .before .before .before .before .before .before .before in
+    let test = put .before .before .before .before .before .before .before .before in
     list-written _ _ _ _ (test .if1 .left) (put .put-file .ensures)
 
 pub list-spec : {M : Type 1} → statement M
@@ -44,6 +47,7 @@ list-spec =
     slice-aggregate-put-file-3
     slice-aggregate-put-file-4
     slice-aggregate-put-file-5
+    slice-aggregate-put-file-6
     put-file-requires
     same-length
     returns-2)

@@ -34,10 +34,10 @@ returns c =
     let put = c .before .before in
     let found = put .before .before .before .before .before .before .before .before .before in
     record {
-      is = λ names named.
+      is = λ names named weights same.
           put-same
           (results-listed _ _ (found .before .before .before .before .before .order-meant .ensures)
-          _ _ _ _ _ (found .results-of .ensures) names _ named)
+          _ _ _ _ _ _ (found .results-of .ensures) names _ named weights same)
           (put .put-results .ensures);
     }
 

@@ -28,11 +28,11 @@ same-length-4 c = search needs
 returns : tie.Need-returns
 returns c =
     let fit = c .before .before .before in
-    let kept = fit .fit-tree .kept .1 .1 .1 .1 in
+    let kept = fit .fit-tree .kept .1 .1 .1 .1 .1 in
     let build = fit .before .before .before .before .before .before .before in
     let network = build .before .before .before in
-    let start = network .before .before in
-    results-found _ _ _ _ _ (start .pre .0) _ _ _ _ _ _ (start .pre .1) _ (network .network .ensures)
+    let start = network .before .before .before in
+    results-found _ _ _ _ _ _ (start .pre .0 .0) (start .pre .0 .1) _ _ _ _ _ _ (start .pre .1) _ (network .network .ensures)
     _ (build .build .ensures) _ (fit .fit-tree .ensures)
     (kept .0) (kept .1 .0) (kept .1 .1 .0)
 
