@@ -27,6 +27,30 @@ name-taken : computed ("W\t2\t1\n" ∷ "A\t3\n" ∷ "A\t3\n" ∷ []) ≡ text ("
 unfolding computed text flatMap bytes
 name-taken = refl
 
+-- three taxa with weights 3 and 2: every length is weighted, and the `H` lines are not
+weighed : computed ("W\t3\t2\n" ∷ "V\t3\t2\n" ∷ "A\t0\t0\n" ∷ "B\t2\t1\n" ∷ "C\t2\t-1\n" ∷ [])
+    ≡ text
+    ("P\tB\tA\t8\n"
+    ∷ "P\tC\tB\t4\n"
+    ∷ "p\t12\n"
+    ∷ "W\tB\t-\tA\t-\t8\n"
+    ∷ "W\tC\tB\tA\t#1\t2\n"
+    ∷ "w\t10\n"
+    ∷ "T\tB\t#1\t2\t+\n"
+    ∷ "T\tC\t#1\t2\t+\n"
+    ∷ "T\t#1\tA\t6\t+\n"
+    ∷ "t\t10\n"
+    ∷ "H\t#1\t1\t2\t2\t2\n"
+    ∷ "H\t#1\t2\t0\t0\t0\n"
+    ∷ [])
+unfolding computed text flatMap bytes
+weighed = refl
+
+-- a weight of 10: refusal 16 with line 2
+weight-ten : computed ("W\t2\t1\n" ∷ "V\t10\n" ∷ "A\t3\n" ∷ "B\t3\n" ∷ []) ≡ text ("R\t16\t2\n" ∷ [])
+unfolding computed text flatMap bytes
+weight-ten = refl
+
 -- five taxa: the fitted total is below the length under the median codes, states are negative, a chosen state is below the highest of its
 -- range, and the lower end of an interval is an HTU
 abbrev fiveTaxa : List String

@@ -1,14 +1,20 @@
--- What is printed, said of every file: for one taxon and for two, and that something is.
+-- What is printed, said of every file: without weights, for one taxon and for two, and that something is.
 use mathlib.Core.Path.{_≡_, refl, ap, _∙_}
+use mathlib.Core.Bool.{false}
 use mathlib.Core.List.{List, [], _∷_, _++_}
 use Prim.Native.Nat.{ℕ, _≤_}
 use native.Mathlib.Omega.{arith}
 use lib.ListN.{length, length-append}
+use Rattle.lists.proofs.Filled.{getD-replicate}
+use Rattle.matrix.specs.Shape.{weightAt}
 use Rattle.matrix.specs.Outcomes.{Outcome, value, refused}
 use Rattle.matrix_file.specs.Decimal.{digitsOf}
 use Rattle.matrix_file.specs.Text.{bytes}
 use Rattle.matrix_file.specs.Job.{Job}
 use Rattle.matrix_file.specs.Reading.{readAnswer}
+use Rattle.matrix_file.proofs.File.FileOfRead.{file-of-read}
+use Rattle.difference.specs.Rows.{Measure, plain}
+use Rattle.difference.proofs.Laws.Measure.{measure-alike}
 use Rattle.listing.specs.Lines.{joined}
 use Rattle.listing.specs.Blocks.{totalLine}
 use Rattle.listing.specs.Meant.{measureMeant}
@@ -24,6 +30,18 @@ module _ (file : List ℕ) (job : Job) (read : readAnswer file ≡ value job) wh
   accepted-output : output file ≡ joined (listing (measureMeant job) job)
   unfolding printed
   accepted-output = output-printed file (value job) read
+
+  -- where every character weighs 1 it is the listing by document 01's measure
+  pub alike-output : ((i : ℕ) → weightAt (job .weights) i ≡ 1) → output file ≡ joined (listing plain job)
+  alike-output alike = accepted-output ∙ ap (λ (measure : Measure). joined (listing measure job)) (measure-alike (job .weights) alike)
+
+  -- and so without a `V` line
+  pub unweighed-output : job .weighed ≡ false → output file ≡ joined (listing plain job)
+  unfolding weightAt
+  unweighed-output none =
+      alike-output (λ i.
+      ap (λ (weights : List ℕ). weightAt weights i) (file-of-read file job read .0 .weights-unsaid none)
+      ∙ getD-replicate 1 (job .m) i)
 
   -- of one taxon: `p 0`, `w 0`, `t 0`, whatever its name, its codes and their number
   pub one-taxon-file : job .n ≡ 1 → output file ≡ joined (totalLine "p" 0 ∷ totalLine "w" 0 ∷ totalLine "t" 0 ∷ [])
