@@ -44,8 +44,8 @@ lent size = replicate size (pos 0)
 
 -- what the questions of the call for medians say
 unfoldable pub says : List ℤ → List ℕ → ℕ → ℕ → ℕ → ℕ → ℕ → ℕ → Outcome (Unit {0})
-unfolding numbers every row inRange lastNode oneTo withinLimits allInRange rowsInRange isWeight areWeights askMatrix nodesExist htuInRange htusInRange askNodes
-    askMedians
+unfolding numbers every row inRange lastNode oneTo withinLimits allInRange rowsInRange isWeight areWeights askMatrix
+    nodesExist htuInRange htusInRange askNodes askMedians
 says codes weights n m a b c size = askedSays (askMedians codes weights n m a b c (lent size))
 
 -- the questions of the call for medians
@@ -121,9 +121,21 @@ pub record IntervalExamples : Type 0 where
 
 -- they answer so
 pub interval-examples : IntervalExamples
-unfolding numbers every row inRange lastNode oneTo withinLimits allInRange rowsInRange isWeight areWeights askMatrix nodesExist htuInRange htusInRange askNodes
-    intervalAnswer differenceAnswer intervalBy difference weightAt part apart
-interval-examples = record { taxon = refl; lower = refl; upper = refl; ours = refl; one = refl; other = refl; five = refl; weighed = refl; weighed-interval = refl; second = refl }
+unfolding numbers every row inRange lastNode oneTo withinLimits allInRange rowsInRange isWeight areWeights askMatrix
+    nodesExist htuInRange htusInRange askNodes intervalAnswer differenceAnswer intervalBy difference weightAt part apart
+interval-examples =
+    record {
+      taxon = refl;
+      lower = refl;
+      upper = refl;
+      ours = refl;
+      one = refl;
+      other = refl;
+      five = refl;
+      weighed = refl;
+      weighed-interval = refl;
+      second = refl;
+    }
 
 -- what weights multiply, and what not
 pub record WeighedExamples : Type 0 where
