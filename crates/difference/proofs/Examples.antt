@@ -1,17 +1,17 @@
 -- Computed: which question of a call on a matrix of two taxa and one character refuses, and that the earlier one does where two would.
 use mathlib.Core.Path.{_≡_, refl}
-use mathlib.Core.List.{List, [], _∷_}
+use mathlib.Core.List.{List, [], _∷_, map}
 use Prim.Native.Nat.{ℕ}
 use lib.IntN.{ℤ, pos, negsuc}
 use lib.ListN.{replicate, set}
 use Rattle.lists.specs.Numbers.{numbers}
 use Rattle.lists.specs.Tests.{every}
-use Rattle.matrix.specs.Shape.{matrixSize, columns, row, inRange, isWeight, weightAt, lastNode}
+use Rattle.matrix.specs.Shape.{matrixSize, columns, row, inRange, isWeight, weightAt, weightOf, lastNode}
 use Rattle.matrix.specs.declared.refusal.Refusal.the-variants.{BeyondLimits, CodeRange, ListSize, NotThere, WeightForm}
 use Rattle.matrix.specs.Outcomes.{Outcome, value, refused, askedSays}
 use Rattle.matrix.specs.Questions.{oneTo, withinLimits, allInRange, rowsInRange, areWeights, askMatrix, nodesExist, htuInRange, htusInRange}
 use Rattle.matrix.specs.Questions.{askNodes}
-use Rattle.difference.specs.Rows.{apart, part, difference, intervalBy}
+use Rattle.difference.specs.Rows.{apart, part, lower, higher, median, medians, difference, intervalBy, weighing}
 use Rattle.difference.specs.Calls.{lengthSays, differenceAnswer, intervalAnswer, askMedians}
 use Rattle.difference.specs.declared.calls.Length.the-variants.{Is, Refused}
 
@@ -44,8 +44,8 @@ lent size = replicate size (pos 0)
 
 -- what the questions of the call for medians say
 unfoldable pub says : List ℤ → List ℕ → ℕ → ℕ → ℕ → ℕ → ℕ → ℕ → Outcome (Unit {0})
-unfolding numbers every row inRange lastNode oneTo withinLimits allInRange rowsInRange isWeight areWeights askMatrix nodesExist htuInRange htusInRange askNodes
-    askMedians
+unfolding numbers every row inRange lastNode oneTo withinLimits allInRange rowsInRange isWeight areWeights askMatrix
+    nodesExist htuInRange htusInRange askNodes askMedians
 says codes weights n m a b c size = askedSays (askMedians codes weights n m a b c (lent size))
 
 -- the questions of the call for medians
@@ -121,6 +121,30 @@ pub record IntervalExamples : Type 0 where
 
 -- they answer so
 pub interval-examples : IntervalExamples
-unfolding numbers every row inRange lastNode oneTo withinLimits allInRange rowsInRange isWeight areWeights askMatrix nodesExist htuInRange htusInRange askNodes
-    intervalAnswer differenceAnswer intervalBy difference weightAt part apart
-interval-examples = record { taxon = refl; lower = refl; upper = refl; ours = refl; one = refl; other = refl; five = refl; weighed = refl; weighed-interval = refl; second = refl }
+unfolding numbers every row inRange lastNode oneTo withinLimits allInRange rowsInRange isWeight areWeights askMatrix
+    nodesExist htuInRange htusInRange askNodes intervalAnswer differenceAnswer intervalBy difference weightAt part apart
+interval-examples =
+    record {
+      taxon = refl;
+      lower = refl;
+      upper = refl;
+      ours = refl;
+      one = refl;
+      other = refl;
+      five = refl;
+      weighed = refl;
+      weighed-interval = refl;
+      second = refl;
+    }
+
+-- what weights multiply, and what not
+pub record WeighedExamples : Type 0 where
+  -- a step costs its difference as often as the weight of its own character says, and once where there is none
+  pub steps : map (λ j. weighing (3 ∷ 2 ∷ []) .step j (pos 1) (negsuc 3)) (1 ∷ 2 ∷ 3 ∷ []) ≡ 15 ∷ 10 ∷ 5 ∷ []
+  -- a median is one of the three codes
+  pub middle : medians (pos 0 ∷ negsuc 4 ∷ []) (pos 3 ∷ pos 7 ∷ []) (pos 9 ∷ pos 2 ∷ []) ≡ pos 3 ∷ pos 2 ∷ []
+
+-- they are as said
+pub weighed-examples : WeighedExamples
+unfolding weightOf weightAt part apart lower higher median medians
+weighed-examples = record { steps = refl; middle = refl }

@@ -1,8 +1,14 @@
--- Computed: the numbers of all refusals, what answers say, and what lent memory then holds.
+-- Computed: the numbers of all refusals, what answers say, what lent memory then holds, and the questions put to weights.
 use mathlib.Core.Path.{_≡_, refl}
 use mathlib.Core.Bool.{true, false}
 use mathlib.Core.List.{List, [], _∷_, map}
 use Prim.Native.Nat.{ℕ}
+use lib.IntN.{ℤ, pos}
+use lib.ListN.{replicate, set}
+use Rattle.lists.specs.Numbers.{numbers}
+use Rattle.lists.specs.Tests.{every}
+use Rattle.matrix.specs.Shape.{matrixSize, columns, row, inRange, isWeight, weightAt, weightOf}
+use Rattle.matrix.specs.Questions.{oneTo, withinLimits, allInRange, rowsInRange, areWeights, askMatrix}
 use Rattle.matrix.specs.Refusals.{refusalNumber}
 use Rattle.matrix.specs.Outcomes.{ask, andThen, Outcome, value, refused, onLine, answered, askedSays, afterwards}
 use Rattle.matrix.specs.declared.refusal.Refusal.{Refusal}
@@ -61,4 +67,53 @@ examples =
       line = refl;
       written = refl;
       kept = refl;
+    }
+
+-- a matrix of zeros
+abbrev zeros : List ℤ
+zeros = replicate matrixSize (pos 0)
+
+-- a matrix with a code out of range in row 1
+abbrev badCode : List ℤ
+badCode = set zeros 0 (pos 1000)
+
+-- lent weights of 1, of a number
+abbrev ones : ℕ → List ℕ
+ones size = replicate size 1
+
+-- lent weights of which the first is 0
+abbrev badWeight : List ℕ
+badWeight = set (ones columns) 0 0
+
+-- weights, and their questions among those on a matrix of two taxa and one character
+pub record WeightExamples : Type 0 where
+  -- 1 and 9 are weights, 0 and 10 are none
+  pub known : map isWeight (0 ∷ 1 ∷ 9 ∷ 10 ∷ []) ≡ false ∷ true ∷ true ∷ false ∷ []
+  -- a weight past m is not asked
+  pub unread : areWeights (9 ∷ 0 ∷ []) 1 ≡ true
+  -- each character has its own weight, and one without has weight 1
+  pub own : map (weightOf (3 ∷ 2 ∷ [])) (1 ∷ 2 ∷ 3 ∷ []) ≡ 3 ∷ 2 ∷ 1 ∷ []
+  -- 128 weights pass, fewer and more are 12
+  pub full : askMatrix zeros (ones 128) 2 1 ≡ Passed
+  pub fewer : askMatrix zeros (ones 127) 2 1 ≡ Refused ListSize
+  pub more : askMatrix zeros (ones 129) 2 1 ≡ Refused ListSize
+  -- 4 comes before 16 and before 10, and 16 before 10
+  pub limits-first : askMatrix zeros badWeight 65 1 ≡ Refused BeyondLimits
+  pub limits-before : askMatrix badCode (ones columns) 65 1 ≡ Refused BeyondLimits
+  pub weights-before : askMatrix badCode badWeight 2 1 ≡ Refused WeightForm
+
+-- they are as said
+pub weight-examples : WeightExamples
+unfolding numbers every row inRange oneTo withinLimits allInRange rowsInRange isWeight areWeights weightAt weightOf askMatrix
+weight-examples =
+    record {
+      known = refl;
+      unread = refl;
+      own = refl;
+      full = refl;
+      fewer = refl;
+      more = refl;
+      limits-first = refl;
+      limits-before = refl;
+      weights-before = refl;
     }
