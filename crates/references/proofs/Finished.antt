@@ -33,11 +33,13 @@ module _ (order : Order) (codes : List ℤ) (weights : List ℕ) (n m : ℕ) (le
   after = matrixAfter codes n ours
 
   -- what the call writes are the branches of the finished tree, over the first 2n-3 records
-  pub built-written : (old new : List Branch) (r : Asked) → length old ≡ branchesSize → RecordsWritten after weights n m (ours .tree) old new r
+  pub built-written : (old new : List Branch) (r : Asked) → length old ≡ branchesSize
+      → RecordsWritten after weights n m (ours .tree) old new r
       → (askedSays r ≡ value tt) × (new ≡ over 0 (wagnerBranches (difference weights) n ours) old)
   unfolding recordsSay
   built-written old new r size written =
-      let says : recordsSay after weights n m (ours .tree) (length old) ≡ value tt = rw (size, built-passes order codes weights n m lent weighted) in
+      let says : recordsSay after weights n m (ours .tree) (length old) ≡ value tt =
+      rw (size, built-passes order codes weights n m lent weighted) in
       let records : new ≡ withRecords (codeDifference after weights m) n (ours .tree) old = rw says at (written .records) in
       (written .says ∙ says, records ∙ same ∙ built-branches order codes weights n m lent old size)
     where

@@ -15,8 +15,8 @@ use Rattle.references.specs.Kept.{PlacementKept}
 same-tree : (tree other : Tree) → ancestors tree ≡ ancestors other → tree ≡ other
 same-tree tree other e = ap {B = Tree} (λ (list : List ℕ). record { ancestors = list }) e
 
-module _ (codes new : List ℤ) (weights : List ℕ) (n m : ℕ) (before after : Tree) (b : ℕ) (r : PlacedIn) (kept : PlacementKept codes new weights n m before after b
-    r) where
+module _ (codes new : List ℤ) (weights : List ℕ) (n m : ℕ) (before after : Tree) (b : ℕ) (r : PlacedIn)
+    (kept : PlacementKept codes new weights n m before after b r) where
   -- after a refusal the tree and the matrix are as before
   pub kept-refused : (number line : ℕ) → placementSays codes weights n m (ancestors before) b ≡ refused number line
       → (after ≡ before) × (new ≡ codes)

@@ -71,8 +71,8 @@ module _ (codes : List ℤ) (weights : List ℕ) (n m : ℕ) (tree : List ℕ) (
   lists-refusal refusal records told = record { says = rw told; records = rw told refl; most = omega arith; fits = omega arith }
 
   -- where the questions pass, the first 2n-3 records over zeros are those of the tree
-  pub lists-records : (count : ℕ) (blank records : List Branch) → askRecords codes weights n m tree room ≡ Passed → count ≡ min (2 * n - 3) 125
-      → blank ≡ noRecords → records ≡ withRecords (lengthIn codes weights m) n tree blank
+  pub lists-records : (count : ℕ) (blank records : List Branch) → askRecords codes weights n m tree room ≡ Passed
+      → count ≡ min (2 * n - 3) 125 → blank ≡ noRecords → records ≡ withRecords (lengthIn codes weights m) n tree blank
       → Recorded codes weights n m tree room (record { asked = Passed; count = count; records = records })
   unfolding recordsSay
   lists-records count blank records told many zeros are =
@@ -95,10 +95,12 @@ module _ (codes : List ℤ) (weights : List ℕ) (n m : ℕ) (tree : List ℕ) (
       first : RecordsAsked → count ≡ 2 * n - 3 → take count records ≡ branchRecords (codeDifference codes weights m) n tree
       first asked few =
           ap₂ take few (same asked)
-          ∙ records-first (codeDifference codes weights m) n tree noRecords (omega (arith, length-replicate 125 noBranch, asked .lent .taxa))
+          ∙ records-first (codeDifference codes weights m) n tree noRecords
+          (omega (arith, length-replicate 125 noBranch, asked .lent .taxa))
 
 -- what was listed, written over the first records of the lent list
-pub writes : (codes : List ℤ) (weights : List ℕ) (n m : ℕ) (tree : List ℕ) (old : List Branch) (r : BranchList) → Recorded codes weights n m tree (length old) r
+pub writes : (codes : List ℤ) (weights : List ℕ) (n m : ℕ) (tree : List ℕ) (old : List Branch) (r : BranchList)
+    → Recorded codes weights n m tree (length old) r
     → RecordsWritten codes weights n m tree old (over 0 (take (r .count) (r .records)) old) (r .asked)
 writes codes weights n m tree old r listed = record {
   says = listed .says;

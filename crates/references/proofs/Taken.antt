@@ -28,8 +28,8 @@ either-size true = refl
 either-size false = refl
 
 -- a list of another size than 125 is 12
-other-size : (codes : List ℤ) (weights : List ℕ) (n m : ℕ) (lent : List Branch) (low high chosen : List ℤ) → (length lent ≡ branchesSize → ⊥)
-    → askFit codes weights n m lent low high chosen ≡ Refused ListSize
+other-size : (codes : List ℤ) (weights : List ℕ) (n m : ℕ) (lent : List Branch) (low high chosen : List ℤ)
+    → (length lent ≡ branchesSize → ⊥) → askFit codes weights n m lent low high chosen ≡ Refused ListSize
 unfolding askFit askBranching
 other-size codes weights n m lent low high chosen other =
     rw (ne-eqb _ _ other) (either-size (listsFull (length low) (length high) (length chosen)))
@@ -59,8 +59,8 @@ module _ (codes : List ℤ) (weights : List ℕ) (n m : ℕ) (records : List Bra
   }
 
 -- the records taken out of a lent list, over zeros, answer for it
-pub taken-answer : (codes : List ℤ) (weights : List ℕ) (n m : ℕ) (lent zeros : List Branch) (count : ℕ) (low low′ high high′ chosen chosen′ : List ℤ)
-    (r : Fitted)
+pub taken-answer : (codes : List ℤ) (weights : List ℕ) (n m : ℕ) (lent zeros : List Branch) (count : ℕ)
+    (low low′ high high′ chosen chosen′ : List ℤ) (r : Fitted)
     → length zeros ≡ branchesSize → Readable (length lent) count
     → FitOfLent codes weights n m (over 0 (take count lent) zeros) (length lent) low low′ high high′ chosen chosen′ r
     → FitAnswer codes weights n m lent low low′ high high′ chosen chosen′ r

@@ -25,7 +25,8 @@ recordsSay codes weights n m tree room = askedSays (askRecords codes weights n m
 -- and length under the codes and weights of the matrix; the others are as before. After a refusal all are as before.
 pub record RecordsWritten (codes : List ℤ) (weights : List ℕ) (n m : ℕ) (tree : List ℕ) (old new : List Branch) (r : Asked) : Type 0 where
   pub says : askedSays r ≡ recordsSay codes weights n m tree (length old)
-  pub records : new ≡ afterwards (recordsSay codes weights n m tree (length old)) (withRecords (codeDifference codes weights m) n tree old) old
+  pub records : new ≡ afterwards (recordsSay codes weights n m tree (length old))
+      (withRecords (codeDifference codes weights m) n tree old) old
 
 -- what follows is cited by private contracts alone: a record of zeros, and a list of them
 abbrev pub noBranch : Branch
@@ -37,6 +38,7 @@ noRecords = replicate branchesSize noBranch
 -- what is listed before it is written: the answer, and the records, as many as are to be written
 pub record Recorded (codes : List ℤ) (weights : List ℕ) (n m : ℕ) (tree : List ℕ) (room : ℕ) (r : BranchList) : Type 0 where
   pub says : askedSays (r .asked) ≡ recordsSay codes weights n m tree room
-  pub records : take (r .count) (r .records) ≡ afterwards (recordsSay codes weights n m tree room) (branchRecords (codeDifference codes weights m) n tree) []
+  pub records : take (r .count) (r .records) ≡ afterwards (recordsSay codes weights n m tree room)
+      (branchRecords (codeDifference codes weights m) n tree) []
   pub most : r .count ≤ branchesSize
   pub fits : r .count ≤ room

@@ -20,8 +20,8 @@ use prog.Wp.{Heap, Calls, Loops, WpFn, Tables}
 use ghost.Atoms.{Atoms, sem}
 use contract.Monad.{Fun, fact}
 use contract.Running.{givenOf, tables, tablesOf}
-use types.Kit.{Given, Item, ‵, raw, _⊛_, ⋆, some, later, _$_, _∵_, !, qed, by, move, keep, drop, use1, use3, split, join, pick, rewrite, fsplit}
-use types.Kit.{fsplit3, fjoin, fjoin3, feqI, feqL, suffices, frame, await, done}
+use types.Kit.{Given, Item, ‵, raw, _⊛_, ⋆, some, later, _$_, _∵_, !, qed, by, move, keep, drop, use1, use3, split, join, pick, rewrite}
+use types.Kit.{fsplit, fsplit3, fjoin, fjoin3, feqI, feqL, suffices, frame, await, done}
 use types.Run.{look, look-raw, init, store-raw, forget, stop, hop, fld, from, load, addr, and-then, no-more, of-opd, assigns, land}
 use types.Run.{returns, enter, alloc1, alloc0, params1, pass1, pass0, free1, free0}
 use types.Part.{whole, sub, look-in, agg}
@@ -100,7 +100,8 @@ Place 𝓤 H A mem run = tripleOf 𝓤 H A place.signature (place.spec 𝓤 H A 
 
 module _ {M : Type 1} (𝓤 : URA M) (H : Heap 𝓤) (A : Atoms 𝓤) (W : Given 𝓤 H A) (at-mem : Memory → SProp 𝓤) (run : Routine → Fun 𝓤)
     (κ κ′ κ″ : Lft) (q q′ q″ : Share) (b o : ℕ) (γ : GName) (h : Tree) (b′ o′ : ℕ) (γ′ : GName) (codes : List ℤ) (weights : RefT (List ℕ))
-    (n m v : ℕ) (room : Room i32 (length codes)) (room″ : Room u8 (length (weights .now))) (n-fits : n < 2 ^ 64) (m-fits : m < 2 ^ 64) (v-fits : v < 2 ^ 64) where
+    (n m v : ℕ) (room : Room i32 (length codes)) (room″ : Room u8 (length (weights .now))) (n-fits : n < 2 ^ 64)
+    (m-fits : m < 2 ^ 64) (v-fits : v < 2 ^ 64) where
   -- the matrix
   abbrev lent : RefT (List ℤ)
   lent = record { ptr = (b′, o′); name = γ′; now = codes }

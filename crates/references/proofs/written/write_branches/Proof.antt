@@ -1,7 +1,8 @@
 -- `references::written::write_branches` meets its contract: a walk of its MIR, by hand, with two calls and a loop. `list_branches` puts
 -- the questions and says how many records are to be written, which is none on a refusal, so the walk has no branch of its own. What the
--- matrix and its weights own is had twice: one copy goes to `list_branches`, one is kept for the exit. The lent slice is opened once, before the loop,
--- and closed once, after it; the array is taken apart into its elements before the loop, and put together after it. Assumes nothing.
+-- matrix and its weights own is had twice: one copy goes to `list_branches`, one is kept for the exit. The lent slice is opened
+-- once, before the loop, and closed once, after it; the array is taken apart into its elements before the loop, and put together after it.
+-- Assumes nothing.
 mod Callees
 mod Loop
 use mathlib.Core.Path.{_≡_, refl, sym, ap}
@@ -135,8 +136,8 @@ module _ {M : Type 1} (𝓤 : URA M) (H : Heap 𝓤) (A : Atoms 𝓤) (W : Given
       (val lent ∷ val weights ∷ vint w64 n ∷ vint w64 m ∷ only (tvals h) ∷ val (x ys) ∷ []) Post)
   walk 𝓣 known-ask known-records =
       qed W ((‵ (flft κ′ q′) ⊛ ‵ (flft κ″ q″) ⊛ ‵ (flft κ q) ⊛ ‵ ftrue) ∷ ‵ (owns (ShrSlice (named 0) κ′ i32 ∷ ShrSlice (named 1) κ″
-      u8 ∷ usize ∷ usize ∷ T.the-row ∷ MutSlice (named 2) κ R ∷ []) a vals) ∷ []) ∵ enter ! (𝓣 .C) (𝓣 .Λ) code.function (val lent ∷ val weights ∷ vint w64 n ∷ vint w64 m ∷ only (tvals h) ∷
-      val (x ys) ∷ []) _ $
+      u8 ∷ usize ∷ usize ∷ T.the-row ∷ MutSlice (named 2) κ R ∷ []) a vals) ∷ []) ∵
+      enter ! (𝓣 .C) (𝓣 .Λ) code.function (val lent ∷ val weights ∷ vint w64 n ∷ vint w64 m ∷ only (tvals h) ∷ val (x ys) ∷ []) _ $
       alloc1 ! (λ l₀. alloc1 ! (λ l₁. alloc1 !
       (λ l₂. alloc1 ! (λ l₃. alloc1 !
       (λ l₄. alloc1 ! (λ l₅. alloc1 !
@@ -148,8 +149,8 @@ module _ {M : Type 1} (𝓤 : URA M) (H : Heap 𝓤) (A : Atoms 𝓤) (W : Given
       pass1 ! (init ! 32 refl (tt, (tt, (record { fits = room″ .0 }, tt)))) $ pass1 ! (init ! 30 refl (tt, record { fits = n-fits })) $
       pass1 ! (init ! 28 refl (tt, record { fits = m-fits })) $ pass1 ! (init ! 26 refl (typed-tree 𝓤 H A W h h-is)) $
       pass1 ! (init ! 24 refl (tt, (tt, (record { fits = room .0 }, tt)))) $ pass0 ! $
-      -- [_18; …; _17; …; _16; …; _15; …; _14; …; _13; …; _12; …; _11; …; _10; …; _9; …; _8; …; _7; …; _6; …; _5; …; _4; …; _3; …; _2; …; _1; …;
-      -- room for _0; …; the tokens; what the parameters own]
+      -- [_18; …; _17; …; _16; …; _15; …; _14; …; _13; …; _12; …; _11; …; _10; …; _9; …; _8; …; _7; …; _6; …; _5; …; _4; …; _3; …; _2; …;
+      -- _1; …; room for _0; …; the tokens; what the parameters own]
       assigns ! (of-opd ! (load ! (from ! (fld ! refl (stop !))) (look-in ! 24 (sub ! 1 refl (whole !))))) (from ! (stop !))
       (init ! 16 refl (tt, record { fits = room .0 })) $
       -- what the matrix and its weights own is had twice
@@ -184,7 +185,8 @@ module _ {M : Type 1} (𝓤 : URA M) (H : Heap 𝓤) (A : Atoms 𝓤) (W : Given
       split ! $ move ! (1 ∷ []) $ use1 W (raw (fact 𝓤 (rs ≡ r .records))) (records-of 𝓤 H A at-mem run r rs) $
       heard ! (rs ≡ r .records) (λ e. split ! $ drop ! $
       peeks ! (Array R 125) (Is (Array R 125)) (shows 𝓤 H A (Array R 125)) rs (w₂ ∷ []) (λ all.
-      -- [what the array owns; the tokens of matrix and weights; the slice's token; what matrix and weights own; what the others own; _18; …]
+      -- [what the array owns; the tokens of matrix and weights; the slice's token; what matrix and weights own; what the others own; _18;
+      -- …]
       land ! (from ! (stop !)) (init ! 19 refl (typed-all 𝓤 H A W rs w₂ all)) $
       assigns ! (of-opd ! (load ! (from ! (stop !)) (look ! 19 refl))) (from ! (stop !)) (init ! 25 refl (typed-all 𝓤 H A W rs w₂ all)) $
       assigns ! (of-opd ! (lit ! tt)) (from ! (stop !)) (init ! 23 refl (tt, record { fits = lit< tt })) $

@@ -212,7 +212,8 @@ module _ {M : Type 1} (𝓤 : URA M) (H : Heap 𝓤) (A : Atoms 𝓤) (W : Given
           subst (Room R) (sym length-now) room,
         ) $ fjoin ! $ keep ! (2 ∷ 1 ∷ 3 ∷ 0 ∷ []) $
         by ! (exits (lain (i .0)) (r .asked) asked-is (subst (λ (m′ : ℕ). RecordsWritten (lent .now) (weights .now) n m (ancestors h) ys
-        (lain m′) (r .asked)) (sym (le-antisymm (i .1) (nltb→le (i .0) k past))) (answers (lent .now) (weights .now) n m h ys rs r c same)) length-now))
+        (lain m′) (r .asked)) (sym (le-antisymm (i .1) (nltb→le (i .0) k past))) (answers (lent .now) (weights .now) n m h ys rs r c
+        same)) length-now))
       where
         -- the answer among what is listed
         asked-is : Is Q.the-row (r .asked) (qvals (r .asked))
