@@ -6,7 +6,7 @@ use lib.IntN.{ℤ}
 use lib.ListN.{length}
 use Rattle.lists.specs.Over.{over}
 use Rattle.matrix.specs.Outcomes.{value, askedSays}
-use Rattle.matrix.specs.Questions.{LentMatrix}
+use Rattle.matrix.specs.Questions.{LentMatrix, LentWeights}
 use Rattle.matrix.specs.declared.refusal.Asked.{Asked}
 use Rattle.difference.specs.Rows.{difference}
 use Rattle.branching.specs.declared.branch.Branch.{Branch}
@@ -22,25 +22,28 @@ use Rattle.wagner.proofs.Lengths.{records-agree, lengthIn-plain, built-branches
 use Rattle.wagner.proofs.Finished.{built-passes}
 use Rattle.references.specs.Written.{codeDifference, recordsSay, RecordsWritten}
 
--- the Wagner tree of a lent matrix
-module _ (order : Order) (codes : List ℤ) (n m : ℕ) (lent : LentMatrix codes n m) where
+-- the Wagner tree of a lent matrix with its weights
+module _ (order : Order) (codes : List ℤ) (weights : List ℕ) (n m : ℕ) (lent : LentMatrix codes n m)
+    (weighted : LentWeights weights m) where
   -- the build, and the matrix after it
   abbrev ours : Built
-  ours = wagnerIn order codes n m
+  ours = wagnerIn order codes weights n m
 
   abbrev after : List ℤ
   after = matrixAfter codes n ours
 
   -- what the call writes are the branches of the finished tree, over the first 2n-3 records
-  pub built-written : (old new : List Branch) (r : Asked) → length old ≡ branchesSize → RecordsWritten after n m (ours .tree) old new r
-      → (askedSays r ≡ value tt) × (new ≡ over 0 (wagnerBranches difference n ours) old)
+  pub built-written : (old new : List Branch) (r : Asked) → length old ≡ branchesSize
+      → RecordsWritten after weights n m (ours .tree) old new r
+      → (askedSays r ≡ value tt) × (new ≡ over 0 (wagnerBranches (difference weights) n ours) old)
   unfolding recordsSay
   built-written old new r size written =
-      let says : recordsSay after n m (ours .tree) (length old) ≡ value tt = rw (size, built-passes order codes n m lent) in
-      let records : new ≡ withRecords (codeDifference after m) n (ours .tree) old = rw says at (written .records) in
-      (written .says ∙ says, records ∙ same ∙ built-branches order codes n m lent old size)
+      let says : recordsSay after weights n m (ours .tree) (length old) ≡ value tt =
+      rw (size, built-passes order codes weights n m lent weighted) in
+      let records : new ≡ withRecords (codeDifference after weights m) n (ours .tree) old = rw says at (written .records) in
+      (written .says ∙ says, records ∙ same ∙ built-branches order codes weights n m lent old size)
     where
-      same : withRecords (codeDifference after m) n (ours .tree) old ≡ withRecords (lengthIn after m) n (ours .tree) old
+      same : withRecords (codeDifference after weights m) n (ours .tree) old ≡ withRecords (lengthIn after weights m) n (ours .tree) old
       same =
-          records-agree (codeDifference after m) (lengthIn after m) n (ours .tree) old size
-          (λ v low h high. unfold codeDifference in sym (lengthIn-plain after m v (ancestor (ours .tree) v) (lent .characters)))
+          records-agree (codeDifference after weights m) (lengthIn after weights m) n (ours .tree) old size
+          (λ v low h high. unfold codeDifference in sym (lengthIn-plain after weights m v (ancestor (ours .tree) v) (lent .characters)))

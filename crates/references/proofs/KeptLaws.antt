@@ -15,20 +15,20 @@ use Rattle.references.specs.Kept.{PlacementKept}
 same-tree : (tree other : Tree) → ancestors tree ≡ ancestors other → tree ≡ other
 same-tree tree other e = ap {B = Tree} (λ (list : List ℕ). record { ancestors = list }) e
 
-module _ (codes new : List ℤ) (n m : ℕ) (before after : Tree) (b : ℕ) (r : PlacedIn) (kept : PlacementKept codes new n m before after b
-    r) where
+module _ (codes new : List ℤ) (weights : List ℕ) (n m : ℕ) (before after : Tree) (b : ℕ) (r : PlacedIn)
+    (kept : PlacementKept codes new weights n m before after b r) where
   -- after a refusal the tree and the matrix are as before
-  pub kept-refused : (number line : ℕ) → placementSays codes n m (ancestors before) b ≡ refused number line
+  pub kept-refused : (number line : ℕ) → placementSays codes weights n m (ancestors before) b ≡ refused number line
       → (after ≡ before) × (new ≡ codes)
   kept-refused number line told = (
     same-tree after before
         (kept .tree
-        ∙ ap (λ (say : Outcome (Unit {0})). afterwards say (placeIn codes n m (ancestors before) b .tree) (ancestors before)) told),
-    kept .matrix ∙ ap (λ (say : Outcome (Unit {0})). afterwards say (matrixPlaced codes n m (ancestors before) b) codes) told,
+        ∙ ap (λ (say : Outcome (Unit {0})). afterwards say (placeIn codes weights n m (ancestors before) b .tree) (ancestors before)) told),
+    kept .matrix ∙ ap (λ (say : Outcome (Unit {0})). afterwards say (matrixPlaced codes weights n m (ancestors before) b) codes) told,
   )
 
   -- the answer, the tree, the placement and the matrix are those of the placement by value
-  pub kept-by-value : (value : Placed) (written : List ℤ) → PlacementDone codes written n m (ancestors before) b value
+  pub kept-by-value : (value : Placed) (written : List ℤ) → PlacementDone codes written weights n m (ancestors before) b value
       → (askedSays (r .asked) ≡ askedSays (value .asked)) × (after ≡ value .tree) × (r .placement ≡ value .placement) × (new ≡ written)
   kept-by-value value written done = (
     kept .says ∙ sym (done .says),

@@ -16,7 +16,7 @@ use Rattle.matrix.specs.Questions.{LentMatrix, askMatrix, htusInRange}
 use Rattle.matrix.specs.declared.refusal.Refusal.{Refusal}
 use Rattle.matrix.specs.declared.refusal.Refusal.the-variants.{CodeRange, ListSize, NotBranching}
 use Rattle.matrix.specs.declared.refusal.Asked.the-variants.{Passed, Refused}
-use Rattle.matrix.proofs.Passing.{ask-passed, andThen-passed, matrix-passes}
+use Rattle.matrix.proofs.Passing.{ask-passed, andThen-passed, matrix-passed}
 use Rattle.branching.specs.declared.branch.Branch.{Branch}
 use Rattle.branching.specs.Ancestors.{ancestor}
 use Rattle.branching.specs.Nodes.{otherNodes}
@@ -47,7 +47,7 @@ written-or-not : (say : Outcome (Unit {0})) (records old : List Branch)
 written-or-not (value answer) records old = refl
 written-or-not (refused number line) records old = over-nothing 0 old
 
-module _ (codes : List ℤ) (n m : ℕ) (tree : List ℕ) (room : ℕ) where
+module _ (codes : List ℤ) (weights : List ℕ) (n m : ℕ) (tree : List ℕ) (room : ℕ) where
   -- what passed questions of a finished tree tell
   pub record RecordsAsked : Type 0 where
     pub size : room ≡ branchesSize
@@ -55,25 +55,25 @@ module _ (codes : List ℤ) (n m : ℕ) (tree : List ℕ) (room : ℕ) where
     pub whole : branching n tree ≡ true
     pub htus : htusInRange codes n m (htusOf n tree) ≡ true
 
-  pub records-asked : askRecords codes n m tree room ≡ Passed → RecordsAsked
+  pub records-asked : askRecords codes weights n m tree room ≡ Passed → RecordsAsked
   unfolding askRecords
   records-asked e =
       let full = ask-passed (eqb room branchesSize) ListSize _ e in
-      let both = andThen-passed (askMatrix codes n m) _ (full .1) in
+      let both = andThen-passed (askMatrix codes weights n m) _ (full .1) in
       let whole = ask-passed (branching n tree) NotBranching _ (both .1) in
       let known = ask-passed (htusInRange codes n m (htusOf n tree)) CodeRange Passed (whole .1) in
-      record { size = eqb-true _ _ (full .0); lent = matrix-passes codes n m .0 (both .0); whole = whole .0; htus = known .0 }
+      record { size = eqb-true _ _ (full .0); lent = matrix-passed codes weights n m (both .0); whole = whole .0; htus = known .0 }
 
   -- a refusal lists nothing
-  pub lists-refusal : (refusal : Refusal) (records : List Branch) → askRecords codes n m tree room ≡ Refused refusal
-      → Recorded codes n m tree room (record { asked = Refused refusal; count = 0; records = records })
+  pub lists-refusal : (refusal : Refusal) (records : List Branch) → askRecords codes weights n m tree room ≡ Refused refusal
+      → Recorded codes weights n m tree room (record { asked = Refused refusal; count = 0; records = records })
   unfolding recordsSay
   lists-refusal refusal records told = record { says = rw told; records = rw told refl; most = omega arith; fits = omega arith }
 
   -- where the questions pass, the first 2n-3 records over zeros are those of the tree
-  pub lists-records : (count : ℕ) (blank records : List Branch) → askRecords codes n m tree room ≡ Passed → count ≡ min (2 * n - 3) 125
-      → blank ≡ noRecords → records ≡ withRecords (lengthIn codes m) n tree blank
-      → Recorded codes n m tree room (record { asked = Passed; count = count; records = records })
+  pub lists-records : (count : ℕ) (blank records : List Branch) → askRecords codes weights n m tree room ≡ Passed
+      → count ≡ min (2 * n - 3) 125 → blank ≡ noRecords → records ≡ withRecords (lengthIn codes weights m) n tree blank
+      → Recorded codes weights n m tree room (record { asked = Passed; count = count; records = records })
   unfolding recordsSay
   lists-records count blank records told many zeros are =
       let asked = records-asked told in
@@ -85,25 +85,27 @@ module _ (codes : List ℤ) (n m : ℕ) (tree : List ℕ) (room : ℕ) where
         fits = omega (arith, many, asked .size);
       }
     where
-      same : RecordsAsked → records ≡ withRecords (codeDifference codes m) n tree noRecords
+      same : RecordsAsked → records ≡ withRecords (codeDifference codes weights m) n tree noRecords
       same asked =
           are
-          ∙ ap (λ (list : List Branch). withRecords (lengthIn codes m) n tree list) zeros
-          ∙ records-agree (lengthIn codes m) (codeDifference codes m) n tree noRecords (length-replicate 125 noBranch)
-          (λ v low h high. unfold codeDifference in lengthIn-plain codes m v (ancestor tree v) (asked .lent .characters))
+          ∙ ap (λ (list : List Branch). withRecords (lengthIn codes weights m) n tree list) zeros
+          ∙ records-agree (lengthIn codes weights m) (codeDifference codes weights m) n tree noRecords (length-replicate 125 noBranch)
+          (λ v low h high. unfold codeDifference in lengthIn-plain codes weights m v (ancestor tree v) (asked .lent .characters))
 
-      first : RecordsAsked → count ≡ 2 * n - 3 → take count records ≡ branchRecords (codeDifference codes m) n tree
+      first : RecordsAsked → count ≡ 2 * n - 3 → take count records ≡ branchRecords (codeDifference codes weights m) n tree
       first asked few =
           ap₂ take few (same asked)
-          ∙ records-first (codeDifference codes m) n tree noRecords (omega (arith, length-replicate 125 noBranch, asked .lent .taxa))
+          ∙ records-first (codeDifference codes weights m) n tree noRecords
+          (omega (arith, length-replicate 125 noBranch, asked .lent .taxa))
 
 -- what was listed, written over the first records of the lent list
-pub writes : (codes : List ℤ) (n m : ℕ) (tree : List ℕ) (old : List Branch) (r : BranchList) → Recorded codes n m tree (length old) r
-    → RecordsWritten codes n m tree old (over 0 (take (r .count) (r .records)) old) (r .asked)
-writes codes n m tree old r listed = record {
+pub writes : (codes : List ℤ) (weights : List ℕ) (n m : ℕ) (tree : List ℕ) (old : List Branch) (r : BranchList)
+    → Recorded codes weights n m tree (length old) r
+    → RecordsWritten codes weights n m tree old (over 0 (take (r .count) (r .records)) old) (r .asked)
+writes codes weights n m tree old r listed = record {
   says = listed .says;
   records =
       ap (λ (list : List Branch). over 0 list old) (listed .records)
-      ∙ written-or-not (recordsSay codes n m tree (length old)) (branchRecords (codeDifference codes m) n tree) old
+      ∙ written-or-not (recordsSay codes weights n m tree (length old)) (branchRecords (codeDifference codes weights m) n tree) old
       ∙ unfold withRecords in refl;
 }

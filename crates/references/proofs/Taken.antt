@@ -28,10 +28,10 @@ either-size true = refl
 either-size false = refl
 
 -- a list of another size than 125 is 12
-other-size : (codes : List ℤ) (n m : ℕ) (lent : List Branch) (low high chosen : List ℤ) → (length lent ≡ branchesSize → ⊥)
-    → askFit codes n m lent low high chosen ≡ Refused ListSize
+other-size : (codes : List ℤ) (weights : List ℕ) (n m : ℕ) (lent : List Branch) (low high chosen : List ℤ)
+    → (length lent ≡ branchesSize → ⊥) → askFit codes weights n m lent low high chosen ≡ Refused ListSize
 unfolding askFit askBranching
-other-size codes n m lent low high chosen other =
+other-size codes weights n m lent low high chosen other =
     rw (ne-eqb _ _ other) (either-size (listsFull (length low) (length high) (length chosen)))
 
 -- a list written over one of its length is that list
@@ -39,32 +39,32 @@ all-over : (new old : List Branch) → length new ≡ length old → over 0 new 
 all-over new old same =
     sym (take-all (length new) (over 0 new old) (omega (arith, same, length-over 0 new old))) ∙ over-item 0 new old (omega (arith, same))
 
-module _ (codes : List ℤ) (n m : ℕ) (records : List Branch) (room : ℕ) (low high chosen : List ℤ) where
+module _ (codes : List ℤ) (weights : List ℕ) (n m : ℕ) (records : List Branch) (room : ℕ) (low high chosen : List ℤ) where
   -- of a list of another size there is no fit, and the three lists are as before
   pub sized-not : (fit : Fit) → (room ≡ branchesSize → ⊥) → fit ≡ noFit
-      → FitOfLent codes n m records room low low high high chosen chosen (record { asked = Refused ListSize; fit = fit })
+      → FitOfLent codes weights n m records room low low high high chosen chosen (record { asked = Refused ListSize; fit = fit })
   sized-not fit other none = record {
     each = λ lent size same.
-        refused-answer codes n m lent low high chosen ListSize fit (other-size codes n m lent low high chosen
+        refused-answer codes weights n m lent low high chosen ListSize fit (other-size codes weights n m lent low high chosen
         (λ e. other (sym size ∙ e))) none;
   }
 
   -- of a list of 125 it is that of the records by value
   pub sized-all : (low′ high′ chosen′ : List ℤ) (r : Fitted) → room ≡ branchesSize
-      → FitAnswer codes n m records low low′ high high′ chosen chosen′ r
-      → FitOfLent codes n m records room low low′ high high′ chosen chosen′ r
+      → FitAnswer codes weights n m records low low′ high high′ chosen chosen′ r
+      → FitOfLent codes weights n m records room low low′ high high′ chosen chosen′ r
   sized-all low′ high′ chosen′ r full answer = record {
     each = λ lent size same.
-        subst (λ (list : List Branch). FitAnswer codes n m list low low′ high high′ chosen chosen′ r) (sym (same full)) answer;
+        subst (λ (list : List Branch). FitAnswer codes weights n m list low low′ high high′ chosen chosen′ r) (sym (same full)) answer;
   }
 
 -- the records taken out of a lent list, over zeros, answer for it
-pub taken-answer : (codes : List ℤ) (n m : ℕ) (lent zeros : List Branch) (count : ℕ) (low low′ high high′ chosen chosen′ : List ℤ)
-    (r : Fitted)
+pub taken-answer : (codes : List ℤ) (weights : List ℕ) (n m : ℕ) (lent zeros : List Branch) (count : ℕ)
+    (low low′ high high′ chosen chosen′ : List ℤ) (r : Fitted)
     → length zeros ≡ branchesSize → Readable (length lent) count
-    → FitOfLent codes n m (over 0 (take count lent) zeros) (length lent) low low′ high high′ chosen chosen′ r
-    → FitAnswer codes n m lent low low′ high high′ chosen chosen′ r
-taken-answer codes n m lent zeros count low low′ high high′ chosen chosen′ r size read of = of .each lent refl all
+    → FitOfLent codes weights n m (over 0 (take count lent) zeros) (length lent) low low′ high high′ chosen chosen′ r
+    → FitAnswer codes weights n m lent low low′ high high′ chosen chosen′ r
+taken-answer codes weights n m lent zeros count low low′ high high′ chosen chosen′ r size read of = of .each lent refl all
   where
     all : length lent ≡ branchesSize → lent ≡ over 0 (take count lent) zeros
     all full =

@@ -14,5 +14,5 @@ withTree r tree = record { asked = r .asked; tree = tree; placement = r .placeme
 
 -- the placement on a tree that the caller keeps is the one by value, the tree handed back being the one that the caller then has: on a
 -- refusal the tree that he had
-abbrev pub PlacementKept : List ℤ → List ℤ → ℕ → ℕ → Tree → Tree → ℕ → PlacedIn → Type 0
-PlacementKept codes new n m before after b r = PlacementDone codes new n m (ancestors before) b (withTree r after)
+abbrev pub PlacementKept : List ℤ → List ℤ → List ℕ → ℕ → ℕ → Tree → Tree → ℕ → PlacedIn → Type 0
+PlacementKept codes new weights n m before after b r = PlacementDone codes new weights n m (ancestors before) b (withTree r after)

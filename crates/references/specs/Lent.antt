@@ -16,7 +16,7 @@ pub record Readable (room r : ℕ) : Type 0 where
   pub all : room ≡ branchesSize → r ≡ branchesSize
 
 -- the fit of a lent list of so many records, which come by value if there are 125 of them: what the call answers for such a list
-pub record FitOfLent (codes : List ℤ) (n m : ℕ) (records : List Branch) (room : ℕ) (low low′ high high′ chosen chosen′ : List ℤ) (r : Fitted)
-    : Type 0 where
+pub record FitOfLent (codes : List ℤ) (weights : List ℕ) (n m : ℕ) (records : List Branch) (room : ℕ)
+    (low low′ high high′ chosen chosen′ : List ℤ) (r : Fitted) : Type 0 where
   pub each : (lent : List Branch) → length lent ≡ room → (room ≡ branchesSize → lent ≡ records)
-      → FitAnswer codes n m lent low low′ high high′ chosen chosen′ r
+      → FitAnswer codes weights n m lent low low′ high high′ chosen chosen′ r

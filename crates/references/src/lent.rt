@@ -22,6 +22,7 @@ fn readable(room: usize) -> usize
 // The fit of a lent list of `room` records, which come by value if there are 125 of them.
 fn fit_sized(
     matrix: &[i32],
+    weights: &[u8],
     n: usize,
     m: usize,
     records: [Branch; 125],
@@ -30,7 +31,7 @@ fn fit_sized(
     high: &mut [i32],
     chosen: &mut [i32],
 ) -> Fitted
-    ensures { λ r. ⌜ FitOfLent (now (matrix .entry)) n m records room (now (low .entry)) (now (low .exit)) (now (high .entry)) (now (high .exit)) (now (chosen .entry)) (now (chosen .exit)) r ⌝ }
+    ensures { λ r. ⌜ FitOfLent (now (matrix .entry)) (now (weights .entry)) n m records room (now (low .entry)) (now (low .exit)) (now (high .entry)) (now (high .exit)) (now (chosen .entry)) (now (chosen .exit)) r ⌝ }
 {
     if room != BRANCHES {
         return Fitted {
@@ -38,12 +39,13 @@ fn fit_sized(
             fit: no_fit(),
         };
     }
-    fit(matrix, n, m, records, low, high, chosen)
+    fit(matrix, weights, n, m, records, low, high, chosen)
 }
 
 // Fits a branching that is lent as a list of 125 branch records: `calls::fit`, with the records taken out of the list.
 pub fn fit_lent(
     matrix: &[i32],
+    weights: &[u8],
     n: usize,
     m: usize,
     records: &[Branch],
@@ -51,7 +53,7 @@ pub fn fit_lent(
     high: &mut [i32],
     chosen: &mut [i32],
 ) -> Fitted
-    ensures { λ r. ⌜ FitAnswer (now (matrix .entry)) n m (now (records .entry)) (now (low .entry)) (now (low .exit)) (now (high .entry)) (now (high .exit)) (now (chosen .entry)) (now (chosen .exit)) r ⌝ }
+    ensures { λ r. ⌜ FitAnswer (now (matrix .entry)) (now (weights .entry)) n m (now (records .entry)) (now (low .entry)) (now (low .exit)) (now (high .entry)) (now (high .exit)) (now (chosen .entry)) (now (chosen .exit)) r ⌝ }
 {
     let many = readable(records.len());
     let mut taken = [Branch {
@@ -64,5 +66,15 @@ pub fn fit_lent(
         taken[i] = records[i];
         i = i + 1;
     }
-    fit_sized(matrix, n, m, taken, records.len(), low, high, chosen)
+    fit_sized(
+        matrix,
+        weights,
+        n,
+        m,
+        taken,
+        records.len(),
+        low,
+        high,
+        chosen,
+    )
 }

@@ -30,10 +30,17 @@ fn no_records() -> [Branch; 125]
 }
 
 // The records of a finished tree of n taxa, for a lent list of `room` records, with the questions of the call.
-fn list_branches(matrix: &[i32], n: usize, m: usize, tree: Tree, room: usize) -> BranchList
-    ensures { λ r. ⌜ Recorded (now (matrix .entry)) n m (ancestors tree) room r ⌝ }
+fn list_branches(
+    matrix: &[i32],
+    weights: &[u8],
+    n: usize,
+    m: usize,
+    tree: Tree,
+    room: usize,
+) -> BranchList
+    ensures { λ r. ⌜ Recorded (now (matrix .entry)) (now (weights .entry)) n m (ancestors tree) room r ⌝ }
 {
-    match ask_records(matrix, n, m, tree, room) {
+    match ask_records(matrix, weights, n, m, tree, room) {
         Asked::Refused(refusal) => BranchList {
             asked: Asked::Refused(refusal),
             count: 0,
@@ -42,7 +49,7 @@ fn list_branches(matrix: &[i32], n: usize, m: usize, tree: Tree, room: usize) ->
         Asked::Passed => BranchList {
             asked: Asked::Passed,
             count: record_count(n),
-            records: branches(matrix, n, m, tree, no_records()),
+            records: branches(matrix, weights, n, m, tree, no_records()),
         },
     }
 }
@@ -56,11 +63,18 @@ fn records_of(listed: BranchList) -> [Branch; 125]
 }
 
 // Writes the branch records of a finished tree of n taxa over the first 2n-3 of a lent list of 125: node, immediate ancestor, and length
-// under the codes of the matrix. A refusal writes nothing.
-pub fn write_branches(matrix: &[i32], n: usize, m: usize, tree: Tree, out: &mut [Branch]) -> Asked
-    ensures { λ r. ⌜ RecordsWritten (now (matrix .entry)) n m (ancestors tree) (now (out .entry)) (now (out .exit)) r ⌝ }
+// under the codes and weights of the matrix. A refusal writes nothing.
+pub fn write_branches(
+    matrix: &[i32],
+    weights: &[u8],
+    n: usize,
+    m: usize,
+    tree: Tree,
+    out: &mut [Branch],
+) -> Asked
+    ensures { λ r. ⌜ RecordsWritten (now (matrix .entry)) (now (weights .entry)) n m (ancestors tree) (now (out .entry)) (now (out .exit)) r ⌝ }
 {
-    let listed = list_branches(matrix, n, m, tree, out.len());
+    let listed = list_branches(matrix, weights, n, m, tree, out.len());
     let records = records_of(listed);
     let mut i = 0;
     while i < listed.count {

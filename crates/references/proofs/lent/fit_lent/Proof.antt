@@ -22,7 +22,8 @@ use prog.Wp.{Heap, WpFn, Tables}
 use ghost.Atoms.{Atoms}
 use contract.Monad.{Fun, fact}
 use contract.Running.{givenOf, tables, tablesOf}
-use types.Kit.{Given, ‵, raw, _⊛_, some, later, _$_, _∵_, !, qed, move, keep, drop, use1, use2, split, pick, rewrite, fsplit, await}
+use types.Kit.{Given, ‵, raw, _⊛_, some, later, _$_, _∵_, !, qed, move, keep, drop, use1, use2, split, join, pick, rewrite, fsplit, fjoin}
+use types.Kit.{await}
 use types.Run.{look, init, forget, stop, fld, from, load, lit, and-then, no-more, of-opd, assigns, land, enter, alloc1, alloc0, params1}
 use types.Run.{pass1, pass0}
 use types.Part.{whole, sub, look-in, agg, rep}
@@ -31,7 +32,7 @@ use denote.RattleType.{owns}
 use denote.Laws.{Is, shows}
 use denote.Array.{Array, arrayVal, array-repeat}
 use denote.Plain.{uint-tells, uint-lawful}
-use denote.Builtin.{usize, i32}
+use denote.Builtin.{usize, i32, u8}
 use denote.Ref.{RefT, now}
 use denote.Slice.{ShrSlice, MutSlice, mut-slice-tells, Room, shr-slice-tells}
 use denote.Index.{row, looks-slice}
@@ -66,9 +67,9 @@ use Rattle.references.proofs.lent.fit_lent.Proof.Callees.{Reads, Sized,
 use Rattle.references.proofs.lent.fit_lent.Proof.Loop.{copies}
 
 module _ {M : Type 1} (𝓤 : URA M) (H : Heap 𝓤) (A : Atoms 𝓤) (W : Given 𝓤 H A) (at-mem : Memory → SProp 𝓤) (run : Routine → Fun 𝓤)
-    (κ₀ κ κ₂ κ₃ κ₄ : Lft) (q₀ q q₂ q₃ q₄ : Share)
-    (lent : RefT (List ℤ)) (n m : ℕ) (b o : ℕ) (γ : GName) (ys : List Branch) (y₂ y₃ y₄ : RefT (List ℤ))
-    (room₀ : Room i32 (length (lent .now))) (n-fits : n < 2 ^ 64) (m-fits : m < 2 ^ 64) (room : Room R (length ys))
+    (κ₀ κ₁ κ κ₂ κ₃ κ₄ : Lft) (q₀ q₁ q q₂ q₃ q₄ : Share) (lent : RefT (List ℤ)) (weights : RefT (List ℕ)) (n m : ℕ) (b o : ℕ) (γ : GName)
+    (ys : List Branch) (y₂ y₃ y₄ : RefT (List ℤ)) (room₀ : Room i32 (length (lent .now))) (room₁ : Room u8 (length (weights .now)))
+    (n-fits : n < 2 ^ 64) (m-fits : m < 2 ^ 64) (room : Room R (length ys))
     (room₂ : Room i32 (length (y₂ .now))) (room₃ : Room i32 (length (y₃ .now))) (room₄ : Room i32 (length (y₄ .now))) where
   -- the lent list
   abbrev x : RefT (List Branch)
@@ -76,26 +77,26 @@ module _ {M : Type 1} (𝓤 : URA M) (H : Heap 𝓤) (A : Atoms 𝓤) (W : Given
 
   -- as they are passed
   abbrev a : Arg
-  a = args lent n m x y₂ y₃ y₄
+  a = args lent weights n m x y₂ y₃ y₄
 
   -- their machine values
   abbrev vals : Vals
-  vals = machine lent n m x y₂ y₃ y₄
+  vals = machine lent weights n m x y₂ y₃ y₄
 
   -- what the walk ends in
   abbrev Post : Val → SProp 𝓤
-  Post = posts 𝓤 H A at-mem run (κ₀, (κ, (κ₂, (κ₃, (κ₄, tt))))) (q₀, (q, (q₂, (q₃, (q₄, tt))))) a vals
+  Post = posts 𝓤 H A at-mem run (κ₀, (κ₁, (κ, (κ₂, (κ₃, (κ₄, tt)))))) (q₀, (q₁, (q, (q₂, (q₃, (q₄, tt)))))) a vals
 
   -- the walk, from the parameters to the exit
   walk : (𝓣 : Tables 𝓤 H) → Triple 𝓤 (𝓣 .C #references·lent·readable) (Reads 𝓤 H A at-mem run)
       → Triple 𝓤 (𝓣 .C #references·lent·fit-sized) (Sized 𝓤 H A at-mem run)
-      → ent 𝓤 (onEntry 𝓤 H A fit.signature (κ₀, (κ, (κ₂, (κ₃, (κ₄, tt))))) (q₀, (q, (q₂, (q₃, (q₄, tt))))) a vals)
-      (WpFn 𝓤 H (𝓣 .C) (𝓣 .Λ) code.function (val lent ∷ vint w64 n ∷ vint w64 m ∷ val x ∷ val y₂ ∷ val y₃ ∷ val y₄ ∷ []) Post)
+      → ent 𝓤 (onEntry 𝓤 H A fit.signature (κ₀, (κ₁, (κ, (κ₂, (κ₃, (κ₄, tt)))))) (q₀, (q₁, (q, (q₂, (q₃, (q₄, tt)))))) a vals)
+      (WpFn 𝓤 H (𝓣 .C) (𝓣 .Λ) code.function (val lent ∷ val weights ∷ vint w64 n ∷ vint w64 m ∷ val x ∷ val y₂ ∷ val y₃ ∷ val y₄ ∷ []) Post)
   walk 𝓣 known-readable known-sized =
-      qed W ((‵ (flft κ₀ q₀) ⊛ ‵ (flft κ q) ⊛ ‵ (flft κ₂ q₂) ⊛ ‵ (flft κ₃ q₃) ⊛ ‵ (flft κ₄ q₄) ⊛ ‵ ftrue) ∷ ‵
-      (owns (ShrSlice (named 0) κ₀ i32 ∷ usize ∷ usize ∷ ShrSlice (named 1) κ R ∷ MutSlice (named 2) κ₂ i32 ∷ MutSlice (named 3) κ₃
-      i32 ∷ MutSlice (named 4) κ₄ i32 ∷ []) a vals) ∷ []) ∵
-      enter ! (𝓣 .C) (𝓣 .Λ) code.function (val lent ∷ vint w64 n ∷ vint w64 m ∷ val x ∷ val y₂ ∷ val y₃ ∷ val y₄ ∷ []) _ $
+      qed W ((‵ (flft κ₀ q₀) ⊛ ‵ (flft κ₁ q₁) ⊛ ‵ (flft κ q) ⊛ ‵ (flft κ₂ q₂) ⊛ ‵ (flft κ₃ q₃) ⊛ ‵ (flft κ₄ q₄) ⊛ ‵ ftrue) ∷ ‵
+      (owns (ShrSlice (named 0) κ₀ i32 ∷ ShrSlice (named 1) κ₁ u8 ∷ usize ∷ usize ∷ ShrSlice (named 2) κ R ∷ MutSlice (named 3) κ₂
+      i32 ∷ MutSlice (named 4) κ₃ i32 ∷ MutSlice (named 5) κ₄ i32 ∷ []) a vals) ∷ []) ∵
+      enter ! (𝓣 .C) (𝓣 .Λ) code.function (val lent ∷ val weights ∷ vint w64 n ∷ vint w64 m ∷ val x ∷ val y₂ ∷ val y₃ ∷ val y₄ ∷ []) _ $
       alloc1 ! (λ l₀. alloc1 ! (λ l₁. alloc1 !
       (λ l₂. alloc1 ! (λ l₃. alloc1 !
       (λ l₄. alloc1 ! (λ l₅. alloc1 !
@@ -106,14 +107,15 @@ module _ {M : Type 1} (𝓤 : URA M) (H : Heap 𝓤) (A : Atoms 𝓤) (W : Given
       (λ l₁₄. alloc1 ! (λ l₁₅. alloc1 !
       (λ l₁₆. alloc1 ! (λ l₁₇. alloc1 !
       (λ l₁₈. alloc1 ! (λ l₁₉. alloc1 !
-      (λ l₂₀. alloc1 ! (λ l₂₁. alloc1 ! (λ l₂₂. alloc1 ! (λ l₂₃. alloc1 ! (λ l₂₄. alloc1 ! (λ l₂₅. alloc1 ! (λ l₂₆. alloc0 ! $
-      params1 ! $
-      pass1 ! (init ! 50 refl (tt, (tt, (record { fits = room₀ .0 }, tt)))) $ pass1 ! (init ! 48 refl (tt, record { fits = n-fits })) $
+      (λ l₂₀. alloc1 ! (λ l₂₁. alloc1 ! (λ l₂₂. alloc1 ! (λ l₂₃. alloc1 ! (λ l₂₄. alloc1 ! (λ l₂₅. alloc1 ! (λ l₂₆. alloc1 ! (λ l₂₇.
+      alloc0 ! $ params1 ! $
+      pass1 ! (init ! 52 refl (tt, (tt, (record { fits = room₀ .0 }, tt)))) $
+      pass1 ! (init ! 50 refl (tt, (tt, (record { fits = room₁ .0 }, tt)))) $ pass1 ! (init ! 48 refl (tt, record { fits = n-fits })) $
       pass1 ! (init ! 46 refl (tt, record { fits = m-fits })) $ pass1 ! (init ! 44 refl (tt, (tt, (record { fits = room .0 }, tt)))) $
       pass1 ! (init ! 42 refl (tt, (tt, (record { fits = room₂ .0 }, tt)))) $
       pass1 ! (init ! 40 refl (tt, (tt, (record { fits = room₃ .0 }, tt)))) $
       pass1 ! (init ! 38 refl (tt, (tt, (record { fits = room₄ .0 }, tt)))) $ pass0 ! $
-      -- [_26; …; _25; …; to room for _0; …; the tokens (54); what the parameters own]
+      -- [_27; …; _26; …; to room for _0; …; the tokens (56); what the parameters own]
       assigns ! (of-opd ! (load ! (from ! (fld ! refl (stop !))) (look-in ! 44 (sub ! 1 refl (whole !))))) (from ! (stop !))
       (init ! 30 refl (tt, record { fits = room .0 })) $
       -- `readable`
@@ -127,7 +129,7 @@ module _ {M : Type 1} (𝓤 : URA M) (H : Heap 𝓤) (A : Atoms 𝓤) (W : Given
       heard ! (Readable (length ys) k) (λ k-is. split ! $ drop ! $
       peeks ! usize (Is usize) (shows 𝓤 H A usize) k (w ∷ []) (λ is.
       land ! (from ! (stop !)) (init ! 37 refl (uint-lawful 𝓤 H A W w64 .typed k _ is .0)) $
-      rewrite ! 37 (λ (u : Val). ‵ (fat fullShare word l₈ 0 u)) (ap only (is .0)) refl $ drop ! $
+      rewrite ! 37 (λ (u : Val). ‵ (fat fullShare word l₉ 0 u)) (ap only (is .0)) refl $ drop ! $
       -- the array of zeros
       assigns ! (agg ! (and-then ! (lit ! tt) (and-then ! (lit ! tt) (and-then ! (lit ! tt) (no-more !))))) (from ! (stop !))
       (init ! 28 refl (typed 𝓤 H A W z z-is)) $
@@ -139,23 +141,25 @@ module _ {M : Type 1} (𝓤 : URA M) (H : Heap 𝓤) (A : Atoms 𝓤) (W : Given
       $
       assigns ! (of-opd ! (lit ! tt)) (from ! (stop !)) (init ! 33 refl (tt, record { fits = lit< tt })) $ forget ! 29 refl $
       forget ! 31 refl $
-      move ! (35 ∷ 0 ∷ []) $ use2 W (‵ (row R fullShare zeros l₉ 0)) (apart 𝓤 H A W R 125 tt zeros (arrayVal (replicate 125 (bval z)))
-      l₉) $
-      -- [the array's row; _26; …; the tokens (54); what the parameters own]: what each owns, by itself; the lent list is looked into
-      move ! (55 ∷ []) $ fsplit ! $ move ! (1 ∷ []) $ fsplit ! $ drop ! $ fsplit ! $ drop ! $ fsplit ! $ fsplit ! $ move ! (1 ∷ []) $
-      fsplit ! $
-      -- [seen; shared; fact; what the three lists own; what the matrix owns; the array's row; _26; …; the tokens (59)]
-      move ! (59 ∷ []) $ split ! $ move ! (1 ∷ []) $ split ! $ move ! (4 ∷ 0 ∷ []) $
+      move ! (35 ∷ 0 ∷ []) $ use2 W (‵ (row R fullShare zeros l₁₀ 0)) (apart 𝓤 H A W R 125 tt zeros (arrayVal (replicate 125 (bval z)))
+      l₁₀) $
+      -- [the array's row; _27; …; the tokens (56); what the parameters own]: what each owns, by itself, the weights with the matrix; the
+      -- lent list is looked into
+      move ! (57 ∷ []) $ fsplit ! $ move ! (1 ∷ []) $ fsplit ! $ move ! (2 ∷ 0 ∷ []) $ fjoin ! $ move ! (1 ∷ []) $ fsplit ! $ drop ! $
+      fsplit ! $ drop ! $ fsplit ! $ fsplit ! $ move ! (1 ∷ []) $ fsplit ! $
+      -- [seen; shared; fact; what the three lists own; what matrix and weights own; the array's row; _27; …; the tokens (61)]
+      move ! (61 ∷ []) $ split ! $ move ! (1 ∷ []) $ split ! $ move ! (1 ∷ []) $ split ! $ move ! (2 ∷ 1 ∷ []) $ join ! $
+      move ! (4 ∷ 1 ∷ []) $
       looks-slice ! tt R (Is R) (shows 𝓤 H A R) bvals btells (LL.copy B.the-type B′.the-copy 𝓤 H A W) ys b o (λ p.
-      rewrite ! 9 (λ (zs : List Branch). ‵ (row R fullShare zs l₉ 0)) (sym (front-none ys zeros)) refl $
-      -- [the list's row; what shuts; shared; the three lists' tokens; the matrix's token; seen; fact; what the three lists own; what the
-      -- matrix owns; the array's row; _26 (10); …; _10 (42); …; _9's death (44); _8; …; room for _0 (61); …]
-      keep ! (0 ∷ 9 ∷ 36 ∷ 34 ∷ 32 ∷ 30 ∷ 28 ∷ 26 ∷ 24 ∷ 42 ∷ 53 ∷ 45 ∷ 61 ∷ 40 ∷ 38 ∷ 22 ∷ 59 ∷ 57 ∷ 55 ∷ 51 ∷ 49 ∷ 47 ∷ 20 ∷ 18 ∷ 16 ∷
-      14 ∷ 12 ∷ 10 ∷ 1 ∷ 2 ∷ 5 ∷ 6 ∷ 3 ∷ 4 ∷ 7 ∷ 8 ∷ 62 ∷ 60 ∷ 58 ∷ 56 ∷ 54 ∷ 52 ∷ 50 ∷ 48 ∷ 46 ∷ 44 ∷ 43 ∷ 41 ∷ 39 ∷ 37 ∷ 35 ∷ 33 ∷
-      31 ∷ 29 ∷ 27 ∷ 25 ∷ 23 ∷ 21 ∷ 19 ∷ 17 ∷ 15 ∷ 13 ∷ 11 ∷ []) $
-      copies 𝓤 H A W at-mem run κ₀ κ κ₂ κ₃ κ₄ q₀ q q₂ q₃ q₄ lent n m b o γ ys y₂ y₃ y₄ room₀ n-fits m-fits room room₂ room₃ room₄ 𝓣
-      known-sized k k-is p l₀ l₁ l₂ l₃ l₄ l₅ l₆ l₇ l₈ l₉ l₁₀ l₁₁ l₁₂ l₁₃ l₁₄ l₁₅ l₁₆ l₁₇ l₁₈ l₁₉ l₂₀ l₂₁ l₂₂ l₂₃ l₂₄ l₂₅
-      l₂₆)))))))))))))))))))))))))))))))))
+      rewrite ! 9 (λ (zs : List Branch). ‵ (row R fullShare zs l₁₀ 0)) (sym (front-none ys zeros)) refl $
+      -- [the list's row; what shuts; shared; the tokens of weights and three lists; the matrix's token; seen; fact; what the three lists
+      -- own; what matrix and weights own; the array's row; _27 (10); …; _11 (42); …; _10's death (44); _9; …; room for _0 (63); …]
+      keep ! (0 ∷ 9 ∷ 36 ∷ 34 ∷ 32 ∷ 30 ∷ 28 ∷ 26 ∷ 24 ∷ 42 ∷ 53 ∷ 45 ∷ 63 ∷ 40 ∷ 38 ∷ 22 ∷ 61 ∷ 59 ∷ 57 ∷ 55 ∷ 51 ∷ 49 ∷ 47 ∷ 20 ∷ 18 ∷
+      16 ∷ 14 ∷ 12 ∷ 10 ∷ 1 ∷ 2 ∷ 5 ∷ 6 ∷ 3 ∷ 4 ∷ 7 ∷ 8 ∷ 64 ∷ 62 ∷ 60 ∷ 58 ∷ 56 ∷ 54 ∷ 52 ∷ 50 ∷ 48 ∷ 46 ∷ 44 ∷ 43 ∷ 41 ∷ 39 ∷ 37 ∷
+      35 ∷ 33 ∷ 31 ∷ 29 ∷ 27 ∷ 25 ∷ 23 ∷ 21 ∷ 19 ∷ 17 ∷ 15 ∷ 13 ∷ 11 ∷ []) $
+      copies 𝓤 H A W at-mem run κ₀ κ₁ κ κ₂ κ₃ κ₄ q₀ q₁ q q₂ q₃ q₄ lent weights n m b o γ ys y₂ y₃ y₄ room₀ room₁ n-fits m-fits room room₂
+      room₃ room₄ 𝓣 known-sized k k-is p l₀ l₁ l₂ l₃ l₄ l₅ l₆ l₇ l₈ l₉ l₁₀ l₁₁ l₁₂ l₁₃ l₁₄ l₁₅ l₁₆ l₁₇ l₁₈ l₁₉ l₂₀ l₂₁ l₂₂ l₂₃ l₂₄ l₂₅
+      l₂₆ l₂₇))))))))))))))))))))))))))))))))))
 
 module _ {M : Type 1} (𝓤 : URA M) (H : Heap 𝓤) (A : Atoms 𝓤) (W : Given 𝓤 H A) (at-mem : Memory → SProp 𝓤) (run : Routine → Fun 𝓤)
     (𝓣 : Tables 𝓤 H) (known-readable : Triple 𝓤 (𝓣 .C #references·lent·readable) (Reads 𝓤 H A at-mem run)) (known-sized : Triple 𝓤
@@ -167,19 +171,18 @@ module _ {M : Type 1} (𝓤 : URA M) (H : Heap 𝓤) (A : Atoms 𝓤) (W : Given
       (λ κs. (
         shr-slice-tells (named 0) (κs .0) i32,
         (
-          uint-tells w64,
+          shr-slice-tells (named 1) (κs .1 .0) u8,
           (
             uint-tells w64,
             (
-              shr-slice-tells (named 1) (κs .1 .0) R,
+              uint-tells w64,
               (
-                mut-slice-tells (named 2) (κs .1 .1 .0) i32,
+                shr-slice-tells (named 2) (κs .1 .1 .0) R,
                 (
                   mut-slice-tells (named 3) (κs .1 .1 .1 .0) i32,
                   (
-                    mut-slice-tells (named 4)
-                        (κs .1 .1 .1 .1 .0) i32,
-                    tt,
+                    mut-slice-tells (named 4) (κs .1 .1 .1 .1 .0) i32,
+                    (mut-slice-tells (named 5) (κs .1 .1 .1 .1 .1 .0) i32, tt),
                   ),
                 ),
               ),
@@ -188,12 +191,12 @@ module _ {M : Type 1} (𝓤 : URA M) (H : Heap 𝓤) (A : Atoms 𝓤) (W : Given
         ),
       ))
       (λ κs qs bounds a g are. via 𝓤 _ (fst∗ 𝓤 _ (emp 𝓤))
-      (walk 𝓤 H A W at-mem run (κs .0) (κs .1 .0) (κs .1 .1 .0) (κs .1 .1 .1 .0) (κs .1 .1 .1 .1 .0) (qs .0) (qs .1 .0) (qs .1 .1 .0)
-      (qs .1 .1 .1 .0) (qs .1 .1 .1 .1 .0)
-      (a .0) (a .1 .0) (a .1 .1 .0) (a .1 .1 .1 .0 .ptr .0) (a .1 .1 .1 .0 .ptr .1) (a .1 .1 .1 .0 .name) (a .1 .1 .1 .0 .now)
-      (a .1 .1 .1 .1 .0) (a .1 .1 .1 .1 .1 .0) (a .1 .1 .1 .1 .1 .1 .0)
-      (are .0 .0 .1) (are .1 .0 .1) (are .1 .1 .0 .1) (are .1 .1 .1 .0 .0 .1) (are .1 .1 .1 .1 .0 .0 .1) (are .1 .1 .1 .1 .1 .0 .0 .1)
-      (are .1 .1 .1 .1 .1 .1 .0 .0 .1) 𝓣 known-readable known-sized))
+      (walk 𝓤 H A W at-mem run (κs .0) (κs .1 .0) (κs .1 .1 .0) (κs .1 .1 .1 .0) (κs .1 .1 .1 .1 .0) (κs .1 .1 .1 .1 .1 .0) (qs .0)
+      (qs .1 .0) (qs .1 .1 .0) (qs .1 .1 .1 .0) (qs .1 .1 .1 .1 .0) (qs .1 .1 .1 .1 .1 .0)
+      (a .0) (a .1 .0) (a .1 .1 .0) (a .1 .1 .1 .0) (a .1 .1 .1 .1 .0 .ptr .0) (a .1 .1 .1 .1 .0 .ptr .1) (a .1 .1 .1 .1 .0 .name)
+      (a .1 .1 .1 .1 .0 .now) (a .1 .1 .1 .1 .1 .0) (a .1 .1 .1 .1 .1 .1 .0) (a .1 .1 .1 .1 .1 .1 .1 .0)
+      (are .0 .0 .1) (are .1 .0 .0 .1) (are .1 .1 .0 .1) (are .1 .1 .1 .0 .1) (are .1 .1 .1 .1 .0 .0 .1) (are .1 .1 .1 .1 .1 .0 .0 .1)
+      (are .1 .1 .1 .1 .1 .1 .0 .0 .1) (are .1 .1 .1 .1 .1 .1 .1 .0 .0 .1) 𝓣 known-readable known-sized))
 
   -- so the body meets the contract
   fit-meets : Meets 𝓤 H A fit.signature (WpFn 𝓤 H (𝓣 .C) (𝓣 .Λ) code.function) (fit.spec 𝓤 H A at-mem run)

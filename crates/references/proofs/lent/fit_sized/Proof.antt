@@ -8,7 +8,7 @@ no-fit-requires : tie.Need-no-fit-requires
 no-fit-requires c κs = search needs
 
 returns : tie.Need-returns
-returns c = sized-not _ _ _ _ _ _ _ _ _ (c .before .if1 .taken) (c .no-fit .ensures)
+returns c = sized-not _ _ _ _ _ _ _ _ _ _ (c .before .if1 .taken) (c .no-fit .ensures)
 
 fit-requires : tie.Need-fit-requires
 fit-requires c κs = search needs
@@ -23,7 +23,7 @@ same-length-3 : tie.Need-same-length-3
 same-length-3 c = search needs
 
 returns-2 : tie.Need-returns-2
-returns-2 c = let done = c .before .before .before in sized-all _ _ _ _ _ _ _ _ _ _ _ _ (done .before .before .before .before .if1 .left)
+returns-2 c = let done = c .before .before .before in sized-all _ _ _ _ _ _ _ _ _ _ _ _ _ (done .before .before .before .before .if1 .left)
     (done .fit .ensures)
 
 pub fit-sized-spec : {M : Type 1} → statement M

@@ -29,14 +29,14 @@ branches-requires c κs = search needs
 returns : tie.Need-returns
 returns c =
     let told = c .before .before in
-    lists-refusal _ _ _ _ _ _ _ (sym (told .before .before .ask-records .ensures) ∙ told .refusal .given .1)
+    lists-refusal _ _ _ _ _ _ _ _ (sym (told .before .before .ask-records .ensures) ∙ told .refusal .given .1)
 
 returns-2 : tie.Need-returns-2
 returns-2 c =
     let blank = c .before in
     let counted = blank .before in
     let told = counted .before in
-    lists-records _ _ _ _ _ _ _ _ (sym (told .before .before .ask-records .ensures) ∙ told .enum-told .given .1) (counted .record-count
+    lists-records _ _ _ _ _ _ _ _ _ (sym (told .before .before .ask-records .ensures) ∙ told .enum-told .given .1) (counted .record-count
     .ensures)
     (blank .no-records2 .ensures) (c .branches .ensures)
 

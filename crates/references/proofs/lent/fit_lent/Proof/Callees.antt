@@ -19,7 +19,7 @@ use types.Kit.{Given, ‵, _$_, _∵_, !, qed, move, join, fjoin, frame, done}
 use denote.Laws.{Is}
 use denote.Memory.{pointee}
 use denote.Plain.{uint-vals, uint-makes}
-use denote.Builtin.{usize, i32}
+use denote.Builtin.{usize, i32, u8}
 use denote.Ref.{RefT}
 use denote.Slice.{sliceTy, slice-vals}
 use denote.Signature.{plain}
@@ -40,24 +40,25 @@ use Rattle.references.proofs.lent.readable as readable
 use Rattle.references.proofs.lent.fit_sized as sized
 use Rattle.references.proofs.lent.fit_lent as fit
 
--- what each parameter leaves at exit: the matrix and the lent list are as they were passed, the numbers are plain data, the three lists
--- were given
--- to the callee for good
+-- what each parameter leaves at exit: the matrix, its weights and the lent list are as they were passed, the numbers are plain data, the
+-- three lists were given to the callee for good
 abbrev pub stayed : Stays (fit.ended .signature .params) (fit.ended .kept)
 stayed = (
   stay-none-slice (0 ∷ []) tt (plain (λ _. i32)) yes,
   (
-    stay-none (λ _. usize) yes,
+    stay-none-slice (1 ∷ []) tt (plain (λ _. u8)) yes,
     (
       stay-none (λ _. usize) yes,
       (
-        stay-none-slice (1 ∷ []) tt (plain (λ _. R)) yes,
+        stay-none (λ _. usize) yes,
         (
-          gave-slice (2 ∷ []) tt (plain (λ _. i32)),
+          stay-none-slice (2 ∷ []) tt (plain (λ _. R)) yes,
           (
-            gave-slice (3 ∷ []) tt
-                (plain (λ _. i32)),
-            (gave-slice (4 ∷ []) tt (plain (λ _. i32)), tt),
+            gave-slice (3 ∷ []) tt (plain (λ _. i32)),
+            (
+              gave-slice (4 ∷ []) tt (plain (λ _. i32)),
+              (gave-slice (5 ∷ []) tt (plain (λ _. i32)), tt),
+            ),
           ),
         ),
       ),
@@ -67,23 +68,22 @@ stayed = (
 
 -- that each of them leaves it
 pub goes : {M : Type 1} (𝓤 : URA M) (H : Heap 𝓤) (A : Atoms 𝓤) (W : Given 𝓤 H A)
-    → AllGo 𝓤 H A W 5 (fit.signature .params) (fit.ended .kept) stayed
+    → AllGo 𝓤 H A W 6 (fit.signature .params) (fit.ended .kept) stayed
 goes 𝓤 H A W = (
-  goes-none-slice 𝓤 H A W 5 (0 ∷ []) tt (plain (λ _. i32)) yes,
+  goes-none-slice 𝓤 H A W 6 (0 ∷ []) tt (plain (λ _. i32)) yes,
   (
-    goes-none 𝓤 H A W 5 (λ _. usize) yes (λ κs x f. refl),
+    goes-none-slice 𝓤 H A W 6 (1 ∷ []) tt (plain (λ _. u8)) yes,
     (
-      goes-none 𝓤 H A W 5 (λ _. usize) yes (λ κs x f. refl),
+      goes-none 𝓤 H A W 6 (λ _. usize) yes (λ κs x f. refl),
       (
-        goes-none-slice 𝓤 H A W 5 (1 ∷ []) tt (plain (λ _. R)) yes,
+        goes-none 𝓤 H A W 6 (λ _. usize) yes (λ κs x f. refl),
         (
-          goes-gave-slice 𝓤 H A W 5 2 tt (plain (λ _. i32)),
+          goes-none-slice 𝓤 H A W 6 (2 ∷ []) tt (plain (λ _. R)) yes,
           (
-            goes-gave-slice 𝓤 H A W 5 3 tt (plain (λ _. i32)),
+            goes-gave-slice 𝓤 H A W 6 3 tt (plain (λ _. i32)),
             (
-              goes-gave-slice 𝓤 H A W 5 4
-                  tt (plain (λ _. i32)),
-              tt,
+              goes-gave-slice 𝓤 H A W 6 4 tt (plain (λ _. i32)),
+              (goes-gave-slice 𝓤 H A W 6 5 tt (plain (λ _. i32)), tt),
             ),
           ),
         ),
@@ -94,36 +94,48 @@ goes 𝓤 H A W = (
 
 -- how the parameters' machine values are spelled, and that they are told
 abbrev pub Spelt : Type 0
-Spelt = (RefT (List ℤ) → List Val) × ((ℕ → List Val) × ((ℕ → List Val) × ((RefT (List Branch) → List Val) × ((RefT (List ℤ) → List Val) ×
-    ((RefT (List ℤ) → List Val) × ((RefT (List ℤ) → List Val) × Unit {0}))))))
+Spelt = (RefT (List ℤ) → List Val) × ((RefT (List ℕ) → List Val) × ((ℕ → List Val) × ((ℕ → List Val) × ((RefT (List Branch) → List Val) ×
+    ((RefT (List ℤ) → List Val) × ((RefT (List ℤ) → List Val) × ((RefT (List ℤ) → List Val) × Unit {0})))))))
 
 -- as they are spelled
 abbrev pub spelt : Spelt
-spelt = (slice-vals, (uint-vals w64, (uint-vals w64, (slice-vals, (slice-vals, (slice-vals, (slice-vals, tt)))))))
+spelt = (slice-vals, (slice-vals, (uint-vals w64, (uint-vals w64, (slice-vals, (slice-vals, (slice-vals, (slice-vals, tt))))))))
 
 -- the parameters, and their machine values
 abbrev pub Arg : Type 0
-Arg = RefT (List ℤ) × (ℕ × (ℕ × (RefT (List Branch) × (RefT (List ℤ) × (RefT (List ℤ) × (RefT (List ℤ) × Unit {0}))))))
+Arg = RefT (List ℤ) × (RefT (List ℕ) × (ℕ × (ℕ × (RefT (List Branch) × (RefT (List ℤ) × (RefT (List ℤ) × (RefT (List ℤ) ×
+    Unit {0})))))))
 
 -- as they are passed
-abbrev pub args : (lent : RefT (List ℤ)) (n m : ℕ) (x : RefT (List Branch)) (y₂ y₃ y₄ : RefT (List ℤ)) → Arg
-args lent n m x y₂ y₃ y₄ = (lent, (n, (m, (x, (y₂, (y₃, (y₄, tt)))))))
+abbrev pub args : (lent : RefT (List ℤ)) (weights : RefT (List ℕ)) (n m : ℕ) (x : RefT (List Branch)) (y₂ y₃ y₄ : RefT (List ℤ)) → Arg
+args lent weights n m x y₂ y₃ y₄ = (lent, (weights, (n, (m, (x, (y₂, (y₃, (y₄, tt))))))))
 
 -- machine values of the parameters
 abbrev pub Vals : Type 0
-Vals = List Val × (List Val × (List Val × (List Val × (List Val × (List Val × (List Val × Unit {0}))))))
+Vals = List Val × (List Val × (List Val × (List Val × (List Val × (List Val × (List Val × (List Val × Unit {0})))))))
 
 -- as they are passed
-abbrev pub machine : (lent : RefT (List ℤ)) (n m : ℕ) (x : RefT (List Branch)) (y₂ y₃ y₄ : RefT (List ℤ)) → Vals
-machine lent n m x y₂ y₃ y₄ = (
+abbrev pub machine : (lent : RefT (List ℤ)) (weights : RefT (List ℕ)) (n m : ℕ) (x : RefT (List Branch)) (y₂ y₃ y₄ : RefT (List ℤ))
+    → Vals
+machine lent weights n m x y₂ y₃ y₄ = (
   val lent ∷ [],
-  (vint w64 n ∷ [], (vint w64 m ∷ [], (val x ∷ [], (val y₂ ∷ [], (val y₃ ∷ [], (val y₄ ∷ [], tt)))))),
+  (
+    val weights ∷ [],
+    (vint w64 n ∷ [], (vint w64 m ∷ [], (val x ∷ [], (val y₂ ∷ [], (val y₃ ∷ [], (val y₄ ∷ [], tt)))))),
+  ),
 )
+
+-- the lifetimes, and their shares
+abbrev pub Lfts : Type 0
+Lfts = Lft × (Lft × (Lft × (Lft × (Lft × (Lft × Unit {0})))))
+
+-- the shares
+abbrev pub Shares : Type 0
+Shares = Share × (Share × (Share × (Share × (Share × (Share × Unit {0})))))
 
 -- what the walk ends in, for lifetimes, shares and parameters
 abbrev pub posts : {M : Type 1} (𝓤 : URA M) (H : Heap 𝓤) (A : Atoms 𝓤) (mem : Memory → SProp 𝓤) (run : Routine → Fun 𝓤)
-    → Lft × (Lft × (Lft × (Lft × (Lft × Unit {0})))) → Share × (Share × (Share × (Share × (Share × Unit {0})))) → Arg → Vals → Val →
-    SProp 𝓤
+    → Lfts → Shares → Arg → Vals → Val → SProp 𝓤
 posts 𝓤 H A mem run κs qs a vals = walkOf 𝓤 H A fit.ended stayed (fit.clauses 𝓤 H A mem run) .post ((κs, qs, tt, a, vals), tt)
 
 -- a record of zeros is the value of its machine values
@@ -132,7 +144,7 @@ z-is = LL.owes B.the-type B′.the-laws z ((refl, lit< tt), ((refl, lit< tt), ((
 
 -- ---- the locals' types: the lent list
 abbrev pub slice : Ty
-slice = sliceTy (tyRef (named 1) imm (pointee (R .written)))
+slice = sliceTy (tyRef (named 2) imm (pointee (R .written)))
 
 -- a list for states
 abbrev pub given : ℕ → Ty

@@ -19,7 +19,7 @@ use contract.Monad.{Fun, fact}
 use types.Kit.{Given, ‵, _$_, _∵_, !, qed, move, join, fjoin, frame, done}
 use denote.Laws.{Is}
 use denote.Memory.{pointee}
-use denote.Builtin.{usize, i32}
+use denote.Builtin.{usize, i32, u8}
 use denote.Ref.{RefT, now}
 use denote.Slice.{sliceTy}
 use denote.Signature.{plain}
@@ -49,15 +49,19 @@ use Rattle.references.proofs.written.list_branches as ask
 use Rattle.references.proofs.written.records_of as records
 use Rattle.references.proofs.written.write_branches as write
 
--- what each parameter leaves at exit: the matrix is as it was passed, the numbers and the tree are plain data, the slice is still owned
+-- what each parameter leaves at exit: the matrix and its weights are as they were passed, the numbers and the tree are plain data, the
+-- slice is still owned
 abbrev pub stayed : Stays (write.ended .signature .params) (write.ended .kept)
 stayed = (
   stay-none-slice (0 ∷ []) tt (plain (λ _. i32)) yes,
   (
-    stay-none (λ _. usize) yes,
+    stay-none-slice (1 ∷ []) tt (plain (λ _. u8)) yes,
     (
       stay-none (λ _. usize) yes,
-      (stay-none (λ _. T.the-row) yes, (stay-slice (1 ∷ []) tt (plain (λ _. R)), tt)),
+      (
+        stay-none (λ _. usize) yes,
+        (stay-none (λ _. T.the-row) yes, (stay-slice (2 ∷ []) tt (plain (λ _. R)), tt)),
+      ),
     ),
   ),
 )
@@ -72,35 +76,38 @@ qvals = EL.vals Q.the-type Q′.the-laws
 
 -- the parameters, and their machine values
 abbrev pub Arg : Type 0
-Arg = RefT (List ℤ) × (ℕ × (ℕ × (Tree × (RefT (List Branch) × Unit {0}))))
+Arg = RefT (List ℤ) × (RefT (List ℕ) × (ℕ × (ℕ × (Tree × (RefT (List Branch) × Unit {0})))))
 
 -- as they are passed
-abbrev pub args : (lent : RefT (List ℤ)) (n m : ℕ) (h : Tree) (x : RefT (List Branch)) → Arg
-args lent n m h x = (lent, (n, (m, (h, (x, tt)))))
+abbrev pub args : (lent : RefT (List ℤ)) (weights : RefT (List ℕ)) (n m : ℕ) (h : Tree) (x : RefT (List Branch)) → Arg
+args lent weights n m h x = (lent, (weights, (n, (m, (h, (x, tt))))))
 
 -- machine values of the parameters
 abbrev pub Vals : Type 0
-Vals = List Val × (List Val × (List Val × (List Val × (List Val × Unit {0}))))
+Vals = List Val × (List Val × (List Val × (List Val × (List Val × (List Val × Unit {0})))))
 
 -- as they are passed
-abbrev pub machine : (lent : RefT (List ℤ)) (n m : ℕ) (h : Tree) (x : RefT (List Branch)) → Vals
-machine lent n m h x = (val lent ∷ [], (vint w64 n ∷ [], (vint w64 m ∷ [], (tvals h, (val x ∷ [], tt)))))
+abbrev pub machine : (lent : RefT (List ℤ)) (weights : RefT (List ℕ)) (n m : ℕ) (h : Tree) (x : RefT (List Branch)) → Vals
+machine lent weights n m h x = (
+  val lent ∷ [],
+  (val weights ∷ [], (vint w64 n ∷ [], (vint w64 m ∷ [], (tvals h, (val x ∷ [], tt))))),
+)
 
 -- what the walk ends in, for lifetimes, shares and parameters
 abbrev pub posts : {M : Type 1} (𝓤 : URA M) (H : Heap 𝓤) (A : Atoms 𝓤) (mem : Memory → SProp 𝓤) (run : Routine → Fun 𝓤)
-    → Lft × (Lft × Unit {0}) → Share × (Share × Unit {0}) → Arg → Vals → Val → SProp 𝓤
+    → Lft × (Lft × (Lft × Unit {0})) → Share × (Share × (Share × Unit {0})) → Arg → Vals → Val → SProp 𝓤
 posts 𝓤 H A mem run κs qs a vals = walkOf 𝓤 H A write.ended stayed (write.clauses 𝓤 H A mem run) .post ((κs, qs, tt, a, vals), tt)
 
 -- the MIR type of the lent list
 abbrev pub slice : Ty
-slice = sliceTy (tyRef (named 1) mut (pointee (R .written)))
+slice = sliceTy (tyRef (named 2) mut (pointee (R .written)))
 
 -- what was written, from what `list_branches` and `records_of` answered
-pub answers : (codes : List ℤ) (n m : ℕ) (tree : Tree) (ys rs : List Branch) (r : BranchList)
-    → Recorded codes n m (ancestors tree) (length ys) r → rs ≡ r .records → RecordsWritten codes n m (ancestors tree) ys
-    (over 0 (take (r .count) rs) ys) (r .asked)
-answers codes n m tree ys rs r c e = subst (λ (list : List Branch). RecordsWritten codes n m (ancestors tree) ys
-    (over 0 (take (r .count) list) ys) (r .asked)) (sym e) (writes codes n m (ancestors tree) ys r c)
+pub answers : (codes : List ℤ) (weights : List ℕ) (n m : ℕ) (tree : Tree) (ys rs : List Branch) (r : BranchList)
+    → Recorded codes weights n m (ancestors tree) (length ys) r → rs ≡ r .records
+    → RecordsWritten codes weights n m (ancestors tree) ys (over 0 (take (r .count) rs) ys) (r .asked)
+answers codes weights n m tree ys rs r c e = subst (λ (list : List Branch). RecordsWritten codes weights n m (ancestors tree) ys
+    (over 0 (take (r .count) list) ys) (r .asked)) (sym e) (writes codes weights n m (ancestors tree) ys r c)
 
 module _ {M : Type 1} (𝓤 : URA M) (H : Heap 𝓤) (A : Atoms 𝓤) (mem : Memory → SProp 𝓤) (run : Routine → Fun 𝓤) where
   -- the contracts that the proof cites
@@ -112,11 +119,11 @@ module _ {M : Type 1} (𝓤 : URA M) (H : Heap 𝓤) (A : Atoms 𝓤) (mem : Mem
   Records = tripleOf 𝓤 H A records.signature (records.spec 𝓤 H A mem run)
 
   -- of each callee's `ensured`, the clause alone
-  pub asked-of : (κ : Lft) (lent : RefT (List ℤ)) (n m : ℕ) (h : Tree) (room : ℕ) (r : BranchList)
-      → ent 𝓤 (ensured 𝓤 H A ask.ended (ask.clauses 𝓤 H A mem run) (κ, tt) (lent, (n, (m, (h, (room, tt))))) tt r)
-      (fact 𝓤 (Recorded (lent .now) n m (ancestors h) room r))
-  asked-of κ lent n m h room r = exE 𝓤 _ (λ ws. snd∗ 𝓤 (sem 𝓤 H A (lasts ask.ended (κ, tt) (lent, (n, (m, (h, (room, tt))))) ws))
-      (fact 𝓤 (Recorded (lent .now) n m (ancestors h) room r)))
+  pub asked-of : (κ κ′ : Lft) (lent : RefT (List ℤ)) (weights : RefT (List ℕ)) (n m : ℕ) (h : Tree) (room : ℕ) (r : BranchList)
+      → ent 𝓤 (ensured 𝓤 H A ask.ended (ask.clauses 𝓤 H A mem run) (κ, (κ′, tt)) (lent, (weights, (n, (m, (h, (room, tt)))))) tt r)
+      (fact 𝓤 (Recorded (lent .now) (weights .now) n m (ancestors h) room r))
+  asked-of κ κ′ lent weights n m h room r = exE 𝓤 _ (λ ws. snd∗ 𝓤 (sem 𝓤 H A (lasts ask.ended (κ, (κ′, tt))
+      (lent, (weights, (n, (m, (h, (room, tt)))))) ws)) (fact 𝓤 (Recorded (lent .now) (weights .now) n m (ancestors h) room r)))
 
   -- and of `records_of`
   pub records-of : (r : BranchList) (rs : List Branch)
