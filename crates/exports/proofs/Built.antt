@@ -18,23 +18,24 @@ use Rattle.exports.specs.Calls.{askBuild, BuildExported}
 use Rattle.exports.specs.declared.answers.Measured.{Measured}
 use Rattle.exports.proofs.Said.{passed-said, refused-said}
 
-module _ (order : Order) (codes new : List ℤ) (n m : ℕ) (built : WagnerTree) (done : BuildDone order codes new n m built) where
+module _ (order : Order) (codes new : List ℤ) (weights : List ℕ) (n m : ℕ) (built : WagnerTree)
+    (done : BuildDone order codes new weights n m built) where
   -- a build that refused wrote nothing, and says so
   pub build-refused : (refusal : Refusal) → built .asked ≡ Refused refusal → (r : Measured)
-      → r ≡ measured (refused (refusalNumber refusal) 0) → BuildExported order (askMatrix codes n m) codes new n m r
+      → r ≡ measured (refused (refusalNumber refusal) 0) → BuildExported order (askMatrix codes weights n m) codes new weights n m r
   unfolding buildSays
   build-refused refusal e r is =
-      let said : askedSays (Refused refusal) ≡ askedSays (askMatrix codes n m) = sym (ap askedSays e) ∙ done .says in
-      record { answers = is ∙ ap measured (sym (refused-said (askMatrix codes n m) refusal _ said)); matrix = done .matrix }
+      let said : askedSays (Refused refusal) ≡ askedSays (askMatrix codes weights n m) = sym (ap askedSays e) ∙ done .says in
+      record { answers = is ∙ ap measured (sym (refused-said (askMatrix codes weights n m) refusal _ said)); matrix = done .matrix }
 
   -- the questions on the matrix passed if the build says so
-  pub build-asked : built .asked ≡ Passed → askMatrix codes n m ≡ Passed
+  pub build-asked : built .asked ≡ Passed → askMatrix codes weights n m ≡ Passed
   unfolding buildSays
-  build-asked e = passed-said (askMatrix codes n m) (sym (ap askedSays e) ∙ done .says)
+  build-asked e = passed-said (askMatrix codes weights n m) (sym (ap askedSays e) ∙ done .says)
 
   -- a build that passed hands back the length of the Wagner tree
   pub build-passed : built .asked ≡ Passed → (r : Measured) → r ≡ measured (value (built .length))
-      → BuildExported order (askMatrix codes n m) codes new n m r
+      → BuildExported order (askMatrix codes weights n m) codes new weights n m r
   unfolding buildSays
   build-passed e r is =
       let pass = build-asked e in
@@ -44,18 +45,18 @@ module _ (order : Order) (codes new : List ℤ) (n m : ℕ) (built : WagnerTree)
       }
 
 -- a build in the order with a number
-module _ (codes : List ℤ) (n m number : ℕ) where
-  -- the size of the matrix or the number is refused
-  pub order-refused : (refusal : Refusal) → askOrder (length codes) number ≡ Refused refusal → (r : Measured)
+module _ (codes : List ℤ) (weights : List ℕ) (n m number : ℕ) where
+  -- a size or the number is refused
+  pub order-refused : (refusal : Refusal) → askOrder (length codes) (length weights) number ≡ Refused refusal → (r : Measured)
       → r ≡ measured (refused (refusalNumber refusal) 0)
-      → BuildExported (orderNumbered number) (askBuild codes n m number) codes codes n m r
+      → BuildExported (orderNumbered number) (askBuild codes weights n m number) codes codes weights n m r
   unfolding askBuild
   order-refused refusal told r is = record { answers = is ∙ rw told; matrix = rw told }
 
   -- they pass: the questions on the matrix decide
-  pub order-passed : askOrder (length codes) number ≡ Passed → (order : Order) → order ≡ orderNumbered number
+  pub order-passed : askOrder (length codes) (length weights) number ≡ Passed → (order : Order) → order ≡ orderNumbered number
       → (new : List ℤ) (r : Measured)
-      → BuildExported order (askMatrix codes n m) codes new n m r
-      → BuildExported (orderNumbered number) (askBuild codes n m number) codes new n m r
+      → BuildExported order (askMatrix codes weights n m) codes new weights n m r
+      → BuildExported (orderNumbered number) (askBuild codes weights n m number) codes new weights n m r
   unfolding askBuild
   order-passed told order is new r built = rw (told, sym is) built

@@ -14,16 +14,27 @@ use Rattle.exports.specs.Answers.{fileRead}
 use Rattle.exports.specs.Calls.{ReadExported}
 use Rattle.exports.specs.declared.answers.FileRead.{FileRead}
 
-module _ (file : List ℕ) (oldMatrix : List ℤ) (oldNames : List ℕ) (newMatrix : List ℤ) (newNames : List ℕ) (answer : Read)
-    (done : ReadDone file oldMatrix oldNames newMatrix newNames answer) where
+module _ (file : List ℕ) (oldMatrix : List ℤ) (oldWeights oldNames : List ℕ) (newMatrix : List ℤ) (newWeights newNames : List ℕ)
+    (answer : Read) (done : ReadDone file oldMatrix oldWeights oldNames newMatrix newWeights newNames answer) where
   -- a refusal
   pub read-refused : (refusal : Refusal) (line : ℕ) → answer ≡ Refused refusal line → (number : ℕ) → number ≡ refusalNumber refusal
-      → ReadExported file oldMatrix oldNames newMatrix newNames (record { refusal = number; line = line; n = 0; m = 0; order = 0 })
+      → ReadExported file oldMatrix oldWeights oldNames newMatrix newWeights newNames
+      (record { refusal = number; line = line; n = 0; m = 0; order = 0 })
   read-refused refusal line e number is =
-      record { answers = rw is (ap fileRead (sym (ap readSays e) ∙ done .says)); matrix = done .matrix; names = done .names }
+      record {
+        answers = rw is (ap fileRead (sym (ap readSays e) ∙ done .says));
+        matrix = done .matrix;
+        weights = done .weights;
+        names = done .names;
+      }
 
   -- a header
   pub read-accepted : (header : Header) → answer ≡ Accepted header → (r : FileRead) → r ≡ fileRead (value header)
-      → ReadExported file oldMatrix oldNames newMatrix newNames r
+      → ReadExported file oldMatrix oldWeights oldNames newMatrix newWeights newNames r
   read-accepted header e r is =
-      record { answers = is ∙ ap fileRead (sym (ap readSays e) ∙ done .says); matrix = done .matrix; names = done .names }
+      record {
+        answers = is ∙ ap fileRead (sym (ap readSays e) ∙ done .says);
+        matrix = done .matrix;
+        weights = done .weights;
+        names = done .names;
+      }

@@ -28,17 +28,18 @@ refused-said Passed refusal a e = absurd (let z : _≡_ {A = ℕ} 0 1 = cc in om
 refused-said (Refused other) refusal a e = let same : refusalNumber refusal ≡ refusalNumber other = cc in rw same
 
 -- what the exported call for a network hands back, from what the call below it answers
-module _ (codes : List ℤ) (n m : ℕ) (answer : Answer) (done : NetworkAnswer codes n m answer) (r : Measured) where
+module _ (codes : List ℤ) (weights : List ℕ) (n m : ℕ) (answer : Answer) (done : NetworkAnswer codes weights n m answer)
+    (r : Measured) where
   -- a refusal
   pub network-refused : (refusal : Refusal) → answer .asked ≡ Refused refusal → r ≡ measured (refused (refusalNumber refusal) 0)
-      → r ≡ networkExported codes n m
+      → r ≡ networkExported codes weights n m
   unfolding networkExported
   network-refused refusal e is =
-      is ∙ ap measured (sym (refused-said (askMatrix codes n m) refusal _ (sym (ap askedSays e) ∙ done .says)))
+      is ∙ ap measured (sym (refused-said (askMatrix codes weights n m) refusal _ (sym (ap askedSays e) ∙ done .says)))
 
   -- a length
-  pub network-passed : answer .asked ≡ Passed → r ≡ measured (value (answer .network .total)) → r ≡ networkExported codes n m
+  pub network-passed : answer .asked ≡ Passed → r ≡ measured (value (answer .network .total)) → r ≡ networkExported codes weights n m
   unfolding networkExported
   network-passed e is =
-      let pass = passed-said (askMatrix codes n m) (sym (ap askedSays e) ∙ done .says) in
+      let pass = passed-said (askMatrix codes weights n m) (sym (ap askedSays e) ∙ done .says) in
       is ∙ ap (λ length. measured (value length)) (rw pass at (done .network .total)) ∙ rw pass

@@ -11,7 +11,7 @@ use Rattle.matrix.specs.Refusals.{refusalNumber}
 use Rattle.matrix.specs.declared.refusal.Refusal.{Refusal}
 use Rattle.matrix.specs.declared.refusal.Refusal.the-variants.{FileTooLong, FileEmpty, FirstLine, BeyondLimits, LineMissing}
 use Rattle.matrix.specs.declared.refusal.Refusal.the-variants.{NameForm, NameTaken, FieldCount, CodeForm, CodeRange, FileGoesOn}
-use Rattle.matrix.specs.declared.refusal.Refusal.the-variants.{ListSize, NotThere, NotBranching, UnknownOrder}
+use Rattle.matrix.specs.declared.refusal.Refusal.the-variants.{ListSize, NotThere, NotBranching, UnknownOrder, WeightForm}
 use Rattle.matrix.specs.declared.refusal.Asked.{Asked}
 use Rattle.matrix.specs.declared.refusal.Asked.the-variants.{Passed, Refused}
 use Rattle.matrix_file.specs.Job.{Job}
@@ -37,6 +37,7 @@ numbered ListSize = omega arith
 numbered NotThere = omega arith
 numbered NotBranching = omega arith
 numbered UnknownOrder = omega arith
+numbered WeightForm = omega arith
 
 -- a call on a lent matrix hands back 0 exactly if its questions passed
 pub zero-passed : (asked : Asked) (length : ℕ) → (measured (answered asked length) .refusal ≡ 0) ↔ (asked ≡ Passed)
@@ -45,10 +46,10 @@ zero-passed (Refused refusal) length =
     (λ e. absurd (omega (arith, numbered refusal)), λ e. absurd (let z : _≡_ {A = ℕ} 0 1 = cc in omega arith))
 
 -- nor has any refusal of a read
-read-numbered : (file : List ℕ) (matrix : List ℤ) (names : List ℕ) (number line : ℕ) → readOutcome file matrix names ≡ refused number line
-    → 1 ≤ number
+read-numbered : (file : List ℕ) (matrix : List ℤ) (weights names : List ℕ) (number line : ℕ)
+    → readOutcome file matrix weights names ≡ refused number line → 1 ≤ number
 unfolding readOutcome
-read-numbered file matrix names number line e = go (fullSize matrix names) e
+read-numbered file matrix weights names number line e = go (fullSize matrix weights names) e
   where
     go : (full : Bool) → onLine 0 (ask full ListSize Passed) (readAnswer file) ≡ refused number line → 1 ≤ number
     go true e = refused-bounds file number line e .0
@@ -62,6 +63,8 @@ zero-value (refused number line) counts =
     (λ e. absurd (omega (arith, counts number line refl)), λ e. absurd (let same = e .1 in let z : _≡_ {A = ℕ} 0 1 = cc in omega arith))
 
 -- a read hands back 0 exactly if the file was accepted
-pub zero-accepted : (file : List ℕ) (matrix : List ℤ) (names : List ℕ)
-    → (fileRead (withHeader (readOutcome file matrix names)) .refusal ≡ 0) ↔ ((job : Job) × (readOutcome file matrix names ≡ value job))
-zero-accepted file matrix names = zero-value (readOutcome file matrix names) (read-numbered file matrix names)
+pub zero-accepted : (file : List ℕ) (matrix : List ℤ) (weights names : List ℕ)
+    → (fileRead (withHeader (readOutcome file matrix weights names)) .refusal ≡ 0)
+    ↔ ((job : Job) × (readOutcome file matrix weights names ≡ value job))
+zero-accepted file matrix weights names =
+    zero-value (readOutcome file matrix weights names) (read-numbered file matrix weights names)

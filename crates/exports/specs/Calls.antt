@@ -12,9 +12,9 @@ use Rattle.matrix.specs.Questions.{askMatrix}
 use Rattle.matrix.specs.declared.refusal.Refusal.the-variants.{ListSize}
 use Rattle.matrix.specs.declared.refusal.Asked.{Asked}
 use Rattle.matrix.specs.declared.refusal.Asked.the-variants.{Passed, Refused}
-use Rattle.difference.specs.Rows.{difference, nodeDifference, plain}
+use Rattle.difference.specs.Rows.{difference, nodeDifference, weighing}
 use Rattle.matrix_file.specs.Reading.{jobIn}
-use Rattle.matrix_file.specs.Written.{matrixWritten, namesWritten}
+use Rattle.matrix_file.specs.Written.{matrixWritten, weightsWritten, namesWritten}
 use Rattle.matrix_file.specs.Report.{withHeader, readOutcome}
 use Rattle.prim.specs.Network.{network, networkLength}
 use Rattle.wagner.specs.declared.order.Order.{Order}
@@ -48,40 +48,55 @@ pub record ListExported (file old new : List ℕ) (r : ℕ) : Type 0 where
 pub record ReadExported
     (file : List ℕ)
     (oldMatrix : List ℤ)
+    (oldWeights : List ℕ)
     (oldNames : List ℕ)
     (newMatrix : List ℤ)
+    (newWeights : List ℕ)
     (newNames : List ℕ)
     (r : FileRead) : Type 0 where
-  pub answers : r ≡ fileRead (withHeader (readOutcome file oldMatrix oldNames))
-  pub matrix : newMatrix ≡ afterwards (readOutcome file oldMatrix oldNames) (matrixWritten (jobIn file .rows) oldMatrix) oldMatrix
-  pub names : newNames ≡ afterwards (readOutcome file oldMatrix oldNames) (namesWritten (jobIn file .names) oldNames) oldNames
+  pub answers : r ≡ fileRead (withHeader (readOutcome file oldMatrix oldWeights oldNames))
+  pub matrix :
+      newMatrix ≡ afterwards (readOutcome file oldMatrix oldWeights oldNames) (matrixWritten (jobIn file .rows) oldMatrix) oldMatrix
+  pub weights :
+      newWeights ≡ afterwards (readOutcome file oldMatrix oldWeights oldNames) (weightsWritten (jobIn file .weights) oldWeights) oldWeights
+  pub names :
+      newNames ≡ afterwards (readOutcome file oldMatrix oldWeights oldNames) (namesWritten (jobIn file .names) oldNames) oldNames
 
--- the length of the Prim Network, or the refusal
-unfoldable pub networkExported : List ℤ → ℕ → ℕ → Measured
-networkExported codes n m = measured (answered (askMatrix codes n m) (networkLength (network (nodeDifference difference (row codes m)) n)))
+-- the length of the Prim Network by the weighted difference, or the refusal
+unfoldable pub networkExported : List ℤ → List ℕ → ℕ → ℕ → Measured
+networkExported codes weights n m =
+    measured
+    (answered (askMatrix codes weights n m) (networkLength (network (nodeDifference (difference weights) (row codes m)) n)))
 
--- the questions of a build in an order with a number: the size of the matrix, the number, then n and m and the codes
-unfoldable pub askBuild : List ℤ → ℕ → ℕ → ℕ → Asked
-askBuild codes n m number = andThen (askOrder (length codes) number) (askMatrix codes n m)
+-- the questions of a build in an order with a number: the sizes of the matrix and of the weights, the number, then n and m, the weights
+-- and the codes
+unfoldable pub askBuild : List ℤ → List ℕ → ℕ → ℕ → ℕ → Asked
+askBuild codes weights n m number = andThen (askOrder (length codes) (length weights) number) (askMatrix codes weights n m)
 
 -- after questions: the length of the Wagner tree under the median codes, or the refusal; the matrix then has the rows of the HTUs, or is as
 -- before
-pub record BuildExported (order : Order) (asked : Asked) (codes new : List ℤ) (n m : ℕ) (r : Measured) : Type 0 where
-  pub answers : r ≡ measured (answered asked (wagnerLength difference n (wagnerIn order codes n m)))
-  pub matrix : new ≡ afterwards (askedSays asked) (matrixAfter codes n (wagnerIn order codes n m)) codes
+pub record BuildExported
+    (order : Order)
+    (asked : Asked)
+    (codes new : List ℤ)
+    (weights : List ℕ)
+    (n m : ℕ)
+    (r : Measured) : Type 0 where
+  pub answers : r ≡ measured (answered asked (wagnerLength (difference weights) n (wagnerIn order codes weights n m)))
+  pub matrix : new ≡ afterwards (askedSays asked) (matrixAfter codes n (wagnerIn order codes weights n m)) codes
 
 -- the questions of a fit of the Wagner tree: the sizes of the three lists, then those of the build
-unfoldable pub askWagnerFit : List ℤ → ℕ → ℕ → ℕ → List ℤ → List ℤ → List ℤ → Asked
-askWagnerFit codes n m number low high chosen =
-    andThen (askFitOrder (length low) (length high) (length chosen) (length codes) number) (askMatrix codes n m)
+unfoldable pub askWagnerFit : List ℤ → List ℕ → ℕ → ℕ → ℕ → List ℤ → List ℤ → List ℤ → Asked
+askWagnerFit codes weights n m number low high chosen =
+    andThen (askFitOrder (length low) (length high) (length chosen) (length codes) (length weights) number) (askMatrix codes weights n m)
 
 -- a list of the matrix's shape with one of the states of each HTU of the matrix's own Wagner tree in each of m characters
-abbrev pub statesOfTree : Order → Which → List ℤ → ℕ → ℕ → List ℤ → List ℤ
-statesOfTree order which codes n m old = statesWritten which (wagnerIn order codes n m .tree) (rowsOf codes m n) n m old
+abbrev pub statesOfTree : Order → Which → List ℤ → List ℕ → ℕ → ℕ → List ℤ → List ℤ
+statesOfTree order which codes weights n m old = statesWritten which (wagnerIn order codes weights n m .tree) (rowsOf codes m n) n m old
 
 -- the fitted total of the matrix's own Wagner tree
-abbrev pub totalOfTree : Order → List ℤ → ℕ → ℕ → ℕ
-totalOfTree order codes n m = fittedTotal (plain .step) (wagnerIn order codes n m .tree) (rowsOf codes m n) n m
+abbrev pub totalOfTree : Order → List ℤ → List ℕ → ℕ → ℕ → ℕ
+totalOfTree order codes weights n m = fittedTotal (weighing weights .step) (wagnerIn order codes weights n m .tree) (rowsOf codes m n) n m
 
 -- after questions: the fitted total of the matrix's own Wagner tree, or the refusal; the matrix then has the rows of the HTUs, and the
 -- lists hold, in the HTUs' rows and the m columns, lowest, highest and chosen states; all else, and all on a refusal, is as before. The
@@ -90,15 +105,16 @@ pub record FitExported
     (order : Order)
     (asked : Asked)
     (codes new : List ℤ)
+    (weights : List ℕ)
     (n m : ℕ)
     (low low′ high high′ chosen chosen′ : List ℤ)
     (r : Measured) : Type 0 where
-  pub answers : r ≡ measured (answered asked (totalOfTree order codes n m))
-  pub matrix : new ≡ afterwards (askedSays asked) (matrixAfter codes n (wagnerIn order codes n m)) codes
-  pub isLow : low′ ≡ afterwards (askedSays asked) (statesOfTree order Low codes n m low) low
-  pub isHigh : high′ ≡ afterwards (askedSays asked) (statesOfTree order High codes n m high) high
-  pub isChosen : chosen′ ≡ afterwards (askedSays asked) (statesOfTree order Chosen codes n m chosen) chosen
+  pub answers : r ≡ measured (answered asked (totalOfTree order codes weights n m))
+  pub matrix : new ≡ afterwards (askedSays asked) (matrixAfter codes n (wagnerIn order codes weights n m)) codes
+  pub isLow : low′ ≡ afterwards (askedSays asked) (statesOfTree order Low codes weights n m low) low
+  pub isHigh : high′ ≡ afterwards (askedSays asked) (statesOfTree order High codes weights n m high) high
+  pub isChosen : chosen′ ≡ afterwards (askedSays asked) (statesOfTree order Chosen codes weights n m chosen) chosen
   pub handed : asked ≡ Passed
       → (fit : Fit)
       × (fit .total ≡ r .length)
-      × HandedBack (plain .step) (wagnerIn order codes n m .tree) (rowsOf codes m n) n m low′ high′ chosen′ fit
+      × HandedBack (weighing weights .step) (wagnerIn order codes weights n m .tree) (rowsOf codes m n) n m low′ high′ chosen′ fit

@@ -3,7 +3,7 @@
 use mathlib.Core.Bool.{Bool, cond, _||_}
 use Prim.Native.Nat.{ℕ}
 use lib.Dec.{eqb}
-use Rattle.matrix.specs.Shape.{matrixSize}
+use Rattle.matrix.specs.Shape.{columns, matrixSize}
 use Rattle.matrix.specs.Outcomes.{ask}
 use Rattle.matrix.specs.declared.refusal.Refusal.the-variants.{ListSize, UnknownOrder}
 use Rattle.matrix.specs.declared.refusal.Asked.{Asked}
@@ -25,10 +25,11 @@ isNumber number = eqb number (orderNumber Advance) || eqb number (orderNumber Cl
 unfoldable pub orderNumbered : ℕ → Order
 orderNumbered number = cond (eqb number (orderNumber Closest)) Closest Advance
 
--- the question put to an order's number, behind that of the matrix's size
-unfoldable pub askOrder : ℕ → ℕ → Asked
-askOrder size number = ask (eqb size matrixSize) ListSize (ask (isNumber number) UnknownOrder Passed)
+-- the question put to an order's number, behind those of the sizes of the matrix and of the weights
+unfoldable pub askOrder : ℕ → ℕ → ℕ → Asked
+askOrder size weights number =
+    ask (eqb size matrixSize) ListSize (ask (eqb weights columns) ListSize (ask (isNumber number) UnknownOrder Passed))
 
 -- the same behind the sizes of the three lists of a fit
-unfoldable pub askFitOrder : ℕ → ℕ → ℕ → ℕ → ℕ → Asked
-askFitOrder low high chosen size number = ask (listsFull low high chosen) ListSize (askOrder size number)
+unfoldable pub askFitOrder : ℕ → ℕ → ℕ → ℕ → ℕ → ℕ → Asked
+askFitOrder low high chosen size weights number = ask (listsFull low high chosen) ListSize (askOrder size weights number)

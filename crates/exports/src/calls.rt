@@ -56,12 +56,18 @@ fn accepted(header: Header) -> FileRead
     }
 }
 
-// Reads a file into a lent matrix and a lent list of names.
+// Reads a file into a lent matrix and lent lists of weights and names.
 #[no_mangle]
-pub extern "C" fn wagner_read(file: &[u8], matrix: &mut [i32], names: &mut [u8]) -> FileRead
-    ensures { λ r. ⌜ ReadExported (now (file .entry)) (now (matrix .entry)) (now (names .entry)) (now (matrix .exit)) (now (names .exit)) r ⌝ }
+pub extern "C" fn wagner_read(
+    file: &[u8],
+    matrix: &mut [i32],
+    weights: &mut [u8],
+    names: &mut [u8],
+) -> FileRead
+    ensures { λ r. ⌜ ReadExported (now (file .entry)) (now (matrix .entry)) (now (weights .entry)) (now (names .entry))
+        (now (matrix .exit)) (now (weights .exit)) (now (names .exit)) r ⌝ }
 {
-    match read(file, matrix, names) {
+    match read(file, matrix, weights, names) {
         Read::Refused { refusal, line } => FileRead {
             refusal: number(refusal),
             line,
@@ -73,12 +79,12 @@ pub extern "C" fn wagner_read(file: &[u8], matrix: &mut [i32], names: &mut [u8])
     }
 }
 
-// The length of the Prim Network of a lent matrix.
+// The length of the Prim Network of a lent matrix, by the weights of its characters.
 #[no_mangle]
-pub extern "C" fn wagner_network(matrix: &[i32], n: usize, m: usize) -> Measured
-    ensures { λ r. ⌜ r ≡ networkExported (now (matrix .entry)) n m ⌝ }
+pub extern "C" fn wagner_network(matrix: &[i32], weights: &[u8], n: usize, m: usize) -> Measured
+    ensures { λ r. ⌜ r ≡ networkExported (now (matrix .entry)) (now (weights .entry)) n m ⌝ }
 {
-    let answer = network(matrix, n, m);
+    let answer = network(matrix, weights, n, m);
     let asked = answer.asked;
     let links = answer.network;
     match asked {
@@ -87,11 +93,12 @@ pub extern "C" fn wagner_network(matrix: &[i32], n: usize, m: usize) -> Measured
     }
 }
 
-// The Wagner tree of a lent matrix in an order of placing.
-fn build_in(matrix: &mut [i32], n: usize, m: usize, order: Order) -> Measured
-    ensures { λ r. ⌜ BuildExported order (askMatrix (now (matrix .entry)) n m) (now (matrix .entry)) (now (matrix .exit)) n m r ⌝ }
+// The Wagner tree of a lent matrix by the weights of its characters, in an order of placing.
+fn build_in(matrix: &mut [i32], weights: &[u8], n: usize, m: usize, order: Order) -> Measured
+    ensures { λ r. ⌜ BuildExported order (askMatrix (now (matrix .entry)) (now (weights .entry)) n m)
+        (now (matrix .entry)) (now (matrix .exit)) (now (weights .entry)) n m r ⌝ }
 {
-    let built = build(matrix, n, m, order);
+    let built = build(matrix, weights, n, m, order);
     let asked = built.asked;
     match asked {
         Asked::Refused(refusal) => refused(refusal),
@@ -99,22 +106,29 @@ fn build_in(matrix: &mut [i32], n: usize, m: usize, order: Order) -> Measured
     }
 }
 
-// Builds the Wagner tree of a lent matrix in the order of placing with a number, 1 by advancement or 2 the closest first: the codes of the
-// HTUs are written into their rows, and the length of the tree comes back.
+// Builds the Wagner tree of a lent matrix by the weights of its characters, in the order of placing with a number, 1 by advancement or 2
+// the closest first: the codes of the HTUs are written into their rows, and the length of the tree comes back.
 #[no_mangle]
-pub extern "C" fn wagner_build(matrix: &mut [i32], n: usize, m: usize, order: u64) -> Measured
-    ensures { λ r. ⌜ BuildExported (orderNumbered order) (askBuild (now (matrix .entry)) n m order)
-        (now (matrix .entry)) (now (matrix .exit)) n m r ⌝ }
+pub extern "C" fn wagner_build(
+    matrix: &mut [i32],
+    weights: &[u8],
+    n: usize,
+    m: usize,
+    order: u64,
+) -> Measured
+    ensures { λ r. ⌜ BuildExported (orderNumbered order) (askBuild (now (matrix .entry)) (now (weights .entry)) n m order)
+        (now (matrix .entry)) (now (matrix .exit)) (now (weights .entry)) n m r ⌝ }
 {
-    match ask_order(matrix.len(), order) {
+    match ask_order(matrix.len(), weights.len(), order) {
         Asked::Refused(refusal) => refused(refusal),
-        Asked::Passed => build_in(matrix, n, m, order_numbered(order)),
+        Asked::Passed => build_in(matrix, weights, n, m, order_numbered(order)),
     }
 }
 
-// The Wagner tree of a lent matrix in an order of placing, fitted; the three lists have their full size.
+// The Wagner tree of a lent matrix by the weights of its characters, in an order of placing, fitted; the three lists have their full size.
 fn fit_in(
     matrix: &mut [i32],
+    weights: &[u8],
     n: usize,
     m: usize,
     order: Order,
@@ -123,27 +137,29 @@ fn fit_in(
     chosen: &mut [i32],
 ) -> Measured
     requires { ⌜ listsFull (length (now low)) (length (now high)) (length (now chosen)) ≡ true ⌝ }
-    ensures { λ r. ⌜ FitExported order (askMatrix (now (matrix .entry)) n m) (now (matrix .entry)) (now (matrix .exit)) n m
+    ensures { λ r. ⌜ FitExported order (askMatrix (now (matrix .entry)) (now (weights .entry)) n m)
+        (now (matrix .entry)) (now (matrix .exit)) (now (weights .entry)) n m
         (now (low .entry)) (now (low .exit)) (now (high .entry)) (now (high .exit)) (now (chosen .entry)) (now (chosen .exit)) r ⌝ }
 {
-    let grown = build(matrix, n, m, order);
+    let grown = build(matrix, weights, n, m, order);
     let asked = grown.asked;
     let tree = grown.tree;
     match asked {
         Asked::Refused(refusal) => refused(refusal),
         Asked::Passed => {
-            let fit = fit_tree(matrix, n, m, tree, low, high, chosen);
+            let fit = fit_tree(matrix, weights, n, m, tree, low, high, chosen);
             is(fit.total)
         }
     }
 }
 
-// Builds the Wagner tree of a lent matrix in the order of placing with a number and fits it: the codes of the HTUs are written into their
-// rows, the lowest, the highest and the chosen state of each HTU in each character into three lists of the matrix's shape, and the fitted
-// total comes back.
+// Builds the Wagner tree of a lent matrix by the weights of its characters, in the order of placing with a number, and fits it: the codes
+// of the HTUs are written into their rows, the lowest, the highest and the chosen state of each HTU in each character into three lists of
+// the matrix's shape, and the fitted total comes back.
 #[no_mangle]
 pub extern "C" fn wagner_fit(
     matrix: &mut [i32],
+    weights: &[u8],
     n: usize,
     m: usize,
     order: u64,
@@ -152,12 +168,28 @@ pub extern "C" fn wagner_fit(
     chosen: &mut [i32],
 ) -> Measured
     ensures { λ r. ⌜ FitExported (orderNumbered order)
-        (askWagnerFit (now (matrix .entry)) n m order (now (low .entry)) (now (high .entry)) (now (chosen .entry)))
-        (now (matrix .entry)) (now (matrix .exit)) n m
+        (askWagnerFit (now (matrix .entry)) (now (weights .entry)) n m order (now (low .entry)) (now (high .entry)) (now (chosen .entry)))
+        (now (matrix .entry)) (now (matrix .exit)) (now (weights .entry)) n m
         (now (low .entry)) (now (low .exit)) (now (high .entry)) (now (high .exit)) (now (chosen .entry)) (now (chosen .exit)) r ⌝ }
 {
-    match ask_fit_order(low.len(), high.len(), chosen.len(), matrix.len(), order) {
+    match ask_fit_order(
+        low.len(),
+        high.len(),
+        chosen.len(),
+        matrix.len(),
+        weights.len(),
+        order,
+    ) {
         Asked::Refused(refusal) => refused(refusal),
-        Asked::Passed => fit_in(matrix, n, m, order_numbered(order), low, high, chosen),
+        Asked::Passed => fit_in(
+            matrix,
+            weights,
+            n,
+            m,
+            order_numbered(order),
+            low,
+            high,
+            chosen,
+        ),
     }
 }

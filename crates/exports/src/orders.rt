@@ -34,11 +34,14 @@ pub(crate) fn order_numbered(number: u64) -> Order
     Order::Advance
 }
 
-// Has the matrix its full size? Is there an order with this number?
-pub(crate) fn ask_order(size: usize, number: u64) -> Asked
-    ensures { λ r. ⌜ r ≡ askOrder size number ⌝ }
+// Have the matrix and the weights their full sizes? Is there an order with this number?
+pub(crate) fn ask_order(size: usize, weights: usize, number: u64) -> Asked
+    ensures { λ r. ⌜ r ≡ askOrder size weights number ⌝ }
 {
     if size != ROWS * COLUMNS {
+        return Asked::Refused(Refusal::ListSize);
+    }
+    if weights != COLUMNS {
         return Asked::Refused(Refusal::ListSize);
     }
     if number == ADVANCE {
@@ -50,18 +53,19 @@ pub(crate) fn ask_order(size: usize, number: u64) -> Asked
     Asked::Refused(Refusal::UnknownOrder)
 }
 
-// Have the three lists of a fit their full size? Then the same of the matrix and the number.
+// Have the three lists of a fit their full size? Then the same of the matrix, the weights and the number.
 pub(crate) fn ask_fit_order(
     low: usize,
     high: usize,
     chosen: usize,
     size: usize,
+    weights: usize,
     number: u64,
 ) -> Asked
-    ensures { λ r. ⌜ r ≡ askFitOrder low high chosen size number ⌝ }
+    ensures { λ r. ⌜ r ≡ askFitOrder low high chosen size weights number ⌝ }
 {
     if !lists_full(low, high, chosen) {
         return Asked::Refused(Refusal::ListSize);
     }
-    ask_order(size, number)
+    ask_order(size, weights, number)
 }

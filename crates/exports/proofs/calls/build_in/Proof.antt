@@ -25,7 +25,7 @@ same-length c = search needs
 returns : tie.Need-returns
 returns c =
     let told = c .before .before in
-    build-refused _ _ _ _ _ _ (told .before .before .before .build .ensures) _ (told .asked .given .1) _ (c .refused .ensures)
+    build-refused _ _ _ _ _ _ _ (told .before .before .before .build .ensures) _ (told .asked .given .1) _ (c .refused .ensures)
 
 same-length-2 : tie.Need-same-length-2
 same-length-2 c = search needs
@@ -33,7 +33,7 @@ same-length-2 c = search needs
 returns-2 : tie.Need-returns-2
 returns-2 c =
     let told = c .before in
-    build-passed _ _ _ _ _ _ (told .before .before .before .build .ensures) (told .enum-told .given .1) _ (c .is .ensures)
+    build-passed _ _ _ _ _ _ _ (told .before .before .before .build .ensures) (told .enum-told .given .1) _ (c .is .ensures)
 
 pub build-in-spec : {M : Type 1} → statement M
 build-in-spec =

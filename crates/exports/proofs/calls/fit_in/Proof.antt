@@ -29,7 +29,7 @@ returns : tie.Need-returns
 returns c =
     let told = c .before .before in
     let built = told .before .before .before .before in
-    matrix-refused _ _ _ _ _ _ _ (built .before .before .pre) _ _ (built .build .ensures) _ _ (told .asked .given .1) (c .refused .ensures)
+    matrix-refused _ _ _ _ _ _ _ _ (built .before .before .before .pre) _ _ (built .build .ensures) _ _ (told .asked .given .1) (c .refused .ensures)
 
 same-length-2 : tie.Need-same-length-2
 same-length-2 c = search needs
@@ -48,7 +48,7 @@ returns-2 c =
     let done = c .before .before .before .before in
     let told = done .before .before .before .before .before in
     let built = told .before .before .before .before in
-    matrix-fitted _ _ _ _ _ _ _ (built .before .before .pre) _ _ (built .build .ensures) _ _ _ _ _
+    matrix-fitted _ _ _ _ _ _ _ _ (built .before .before .before .pre) _ _ (built .build .ensures) _ _ _ _ _
     (told .enum-told .given .1) (done .fit-tree .ensures) (c .is .ensures)
 
 pub fit-in-spec : {M : Type 1} → statement M

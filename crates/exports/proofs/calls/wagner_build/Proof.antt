@@ -26,7 +26,7 @@ build-in-requires c κs = search needs
 returns : tie.Need-returns
 returns c =
     let told = c .before .before in
-    order-refused _ _ _ _ _ (sym (told .before .before .ask-order .ensures) ∙ told .refusal .given .1) _ (c .refused .ensures)
+    order-refused _ _ _ _ _ _ (sym (told .before .before .ask-order .ensures) ∙ told .refusal .given .1) _ (c .refused .ensures)
 
 same-length : tie.Need-same-length
 same-length c = search needs
@@ -35,7 +35,7 @@ returns-2 : tie.Need-returns-2
 returns-2 c =
     let numbered = c .before .before in
     let told = numbered .before .before in
-    order-passed _ _ _ _ (sym (told .before .before .ask-order .ensures) ∙ told .enum-told .given .1)
+    order-passed _ _ _ _ _ (sym (told .before .before .ask-order .ensures) ∙ told .enum-told .given .1)
     _ (numbered .order-numbered .ensures) _ _
     (c .before .build-in .ensures)
 

@@ -24,12 +24,12 @@ order-numbered-requires c κs = search needs
 fit-in-requires : tie.Need-fit-in-requires
 fit-in-requires c κs =
     let told = c .before .before .before .before .before in
-    lists-full _ _ _ _ _ (sym (told .before .before .ask-fit-order .ensures) ∙ told .enum-told .given .1)
+    lists-full _ _ _ _ _ _ (sym (told .before .before .ask-fit-order .ensures) ∙ told .enum-told .given .1)
 
 returns : tie.Need-returns
 returns c =
     let told = c .before .before in
-    sizes-refused _ _ _ _ _ _ _ _ (sym (told .before .before .ask-fit-order .ensures) ∙ told .refusal .given .1) _ (c .refused .ensures)
+    sizes-refused _ _ _ _ _ _ _ _ _ (sym (told .before .before .ask-fit-order .ensures) ∙ told .refusal .given .1) _ (c .refused .ensures)
 
 same-length : tie.Need-same-length
 same-length c = search needs
@@ -48,7 +48,7 @@ returns-2 c =
     let done = c .before .before .before .before in
     let numbered = done .before .before .before .before in
     let told = numbered .before .before in
-    sizes-passed _ _ _ _ _ _ _ (sym (told .before .before .ask-fit-order .ensures) ∙ told .enum-told .given .1) _
+    sizes-passed _ _ _ _ _ _ _ _ (sym (told .before .before .ask-fit-order .ensures) ∙ told .enum-told .given .1) _
     (numbered .order-numbered .ensures) _ _ _ _ _ (done .fit-in .ensures)
 
 pub wagner-fit-spec : {M : Type 1} → statement M

@@ -22,12 +22,12 @@ is-requires c κs = search needs
 returns : tie.Need-returns
 returns c =
     let told = c .before .before in
-    network-refused _ _ _ _ (told .before .before .before .network .ensures) _ _ (told .asked .given .1) (c .refused .ensures)
+    network-refused _ _ _ _ _ (told .before .before .before .network .ensures) _ _ (told .asked .given .1) (c .refused .ensures)
 
 returns-2 : tie.Need-returns-2
 returns-2 c =
     let told = c .before in
-    network-passed _ _ _ _ (told .before .before .before .network .ensures) _ (told .enum-told .given .1) (c .is .ensures)
+    network-passed _ _ _ _ _ (told .before .before .before .network .ensures) _ (told .enum-told .given .1) (c .is .ensures)
 
 pub wagner-network-spec : {M : Type 1} → statement M
 wagner-network-spec =
