@@ -1,6 +1,7 @@
 -- `fitted` meets its contract: a walk of its MIR, by hand. The array is taken apart and lent as a slice, to read, for a lifetime of the
 -- call; `fit_lent` is called; the lifetime is ended, and the array comes back. The three lists for the states go to `fit_lent` for good.
 -- Assumes nothing.
+mod Leaves
 use mathlib.Core.Path.{_≡_, refl, sym, ap, subst}
 use Prim.Native.Nat.{ℕ, _*_, _<_, _^_}
 use mathlib.Core.List.{[], _∷_, List}
@@ -36,8 +37,6 @@ use denote.Builtin.{usize, i32, u8}
 use denote.Ref.{RefT}
 use denote.Slice.{sliceTy, sliceVal, ShrSlice, MutSlice, Room, finally, slice-vals, shr-slice-tells, mut-slice-tells}
 use denote.Lend.{lends-shr-slice}
-use denote.Signature.{plain}
-use denote.Signature.Array.{arrayOf}
 use denote.Index.{row}
 use denote.Steps.{only, owned, peeks, heard, nothing}
 use denote.Struct.Laws as LL
@@ -47,9 +46,7 @@ use denote.Triple.Entry.{onEntry}
 use denote.Triple.Spec.{Meets, tripleOf}
 use denote.Triple.Table.{entered, cited}
 use denote.Triple.Clauses.{ensured, lasts}
-use denote.Triple.Walked.{says, Stays, stay-none, stay-none-slice, stay-dropped, gave-slice, walkOf, goes-none, goes-none-slice}
-use denote.Triple.Walked.{goes-dropped, goes-gave-slice, Walks, ends-at, walked, walk-meets}
-use denote.Exit.{yes}
+use denote.Triple.Walked.{says, walkOf, Walks, ends-at, walked, walk-meets}
 use Rattle.branching.specs.declared.branch.Branch.{Branch}
 use Rattle.fitting.specs.declared.calls.Fitted.{Fitted}
 use Rattle.fitting.specs.Handing.{FitAnswer}
@@ -64,32 +61,7 @@ use Rattle.worked_references.proofs.fitted.Key.{name as #worked-referen
 use Rattle.worked_references.proofs.fitted as fitted
 use Rattle.worked_references.proofs.fitted.Statement as stated
 use Rattle.worked_references.proofs.fitted.Code as code
-
--- what each parameter leaves at exit: the matrix and its weights are as they were passed, numbers and records are plain data, the three
--- lists were given to the callee for good
-abbrev stayed : Stays (fitted.ended .signature .params) (fitted.ended .kept)
-stayed = (
-  stay-none-slice (0 ∷ []) tt (plain (λ _. i32)) yes,
-  (
-    stay-none-slice (1 ∷ []) tt (plain (λ _. u8)) yes,
-    (
-      stay-none (λ _. usize) yes,
-      (
-        stay-none (λ _. usize) yes,
-        (
-          stay-dropped (arrayOf (plain (λ _. R)) 125) yes,
-          (
-            gave-slice (2 ∷ []) tt (plain (λ _. i32)),
-            (
-              gave-slice (3 ∷ []) tt (plain (λ _. i32)),
-              (gave-slice (4 ∷ []) tt (plain (λ _. i32)), tt),
-            ),
-          ),
-        ),
-      ),
-    ),
-  ),
-)
+use Rattle.worked_references.proofs.fitted.Proof.Leaves.{stayed, goes}
 
 -- the MIR type of the list that is lent on
 abbrev on-type : Ty
@@ -391,28 +363,7 @@ module _ {M : Type 1} (𝓤 : URA M) (H : Heap 𝓤) (A : Atoms 𝓤) (W : Given
 
   -- so the body meets the contract
   fitted-meets : Meets 𝓤 H A fitted.signature (WpFn 𝓤 H (𝓣 .C) (𝓣 .Λ) code.function) (fitted.spec 𝓤 H A at-mem run)
-  fitted-meets = walk-meets 𝓤 H A fitted.ended stayed W (
-    goes-none-slice 𝓤 H A W 5 (0 ∷ []) tt (plain (λ _. i32)) yes,
-    (
-      goes-none-slice 𝓤 H A W 5 (1 ∷ []) tt (plain (λ _. u8)) yes,
-      (
-        goes-none 𝓤 H A W 5 (λ _. usize) yes (λ κs x f. refl),
-        (
-          goes-none 𝓤 H A W 5 (λ _. usize) yes (λ κs x f. refl),
-          (
-            goes-dropped 𝓤 H A W 5 (arrayOf (plain (λ _. R)) 125) yes (λ κs x f. refl),
-            (
-              goes-gave-slice 𝓤 H A W 5 2 tt (plain (λ _. i32)),
-              (
-                goes-gave-slice 𝓤 H A W 5 3 tt (plain (λ _. i32)),
-                (goes-gave-slice 𝓤 H A W 5 4 tt (plain (λ _. i32)), tt),
-              ),
-            ),
-          ),
-        ),
-      ),
-    ),
-  )
+  fitted-meets = walk-meets 𝓤 H A fitted.ended stayed W (goes 𝓤 H A W)
       (fitted.clauses 𝓤 H A at-mem run) (WpFn 𝓤 H (𝓣 .C) (𝓣 .Λ) code.function) (WpFn-mono 𝓤 H (W .laws) 𝓣 code.function) fitted-walks
 
 -- and so does the function

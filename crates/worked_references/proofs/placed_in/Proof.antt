@@ -268,7 +268,8 @@ module _ {M : Type 1} (𝓤 : URA M) (H : Heap 𝓤) (A : Atoms 𝓤) (W : Given
         move ! (1 ∷ []) $ peeks ! T.the-row (Is T.the-row) (shows 𝓤 H A T.the-row) (zs .0) (tvals (zs .0)) (λ last.
         -- [what the tree owns; _7; the tokens; the last codes; true; what the weights own; _12 (6); …; _11; …; _10; …; _9; …; _8; …; _7's
         -- death; _6; …; _5; …; _4; …; _3; …; _2; …; _1; …; room for _0; …]
-        assigns ! (of-opd ! (load ! (from ! (stop !)) (look ! 1 refl))) (from ! (stop !)) (init ! 29 refl (typed-tree 𝓤 H A W (zs .0) last)) $
+        assigns ! (of-opd ! (load ! (from ! (stop !)) (look ! 1 refl))) (from ! (stop !))
+        (init ! 29 refl (typed-tree 𝓤 H A W (zs .0) last)) $
         returns ! (look ! 29 refl) $ forget ! 1 refl $ forget ! 6 refl $ forget ! 8 refl $ forget ! 10 refl $ forget ! 12 refl $
         forget ! 14 refl $ forget ! 17 refl $ forget ! 19 refl $ forget ! 21 refl $ forget ! 23 refl $ forget ! 25 refl $
         forget ! 27 refl $ forget ! 29 refl $

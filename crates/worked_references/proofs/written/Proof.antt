@@ -226,7 +226,8 @@ module _ {M : Type 1} (𝓤 : URA M) (H : Heap 𝓤) (A : Atoms 𝓤) (W : Given
       walk =
           qed W (tokens ∷ ‵ (owns (ShrSlice (named 0) κ i32 ∷ ShrSlice (named 1) κ′ u8 ∷ usize ∷ usize ∷ T.the-row ∷ Array R 125 ∷ []) a
           vals) ∷ []) ∵
-          enter ! C Λ code.function (val lent ∷ val weights ∷ vint w64 n ∷ vint w64 m ∷ only (tvals h) ∷ only (array-vals bvals rs) ∷ []) _ $
+          enter ! C Λ code.function (val lent ∷ val weights ∷ vint w64 n ∷ vint w64 m ∷ only (tvals h) ∷ only (array-vals bvals rs)
+          ∷ []) _ $
           alloc1 ! (λ l₀. alloc1 ! (λ l₁. alloc1 !
           (λ l₂. alloc1 ! (λ l₃. alloc1 !
           (λ l₄. alloc1 ! (λ l₅. alloc1 ! (λ l₆. alloc1 ! (λ l₇. alloc1 ! (λ l₈. alloc1 ! (λ l₉. alloc1 ! (λ l₁₀. alloc1 ! (λ l₁₁.
