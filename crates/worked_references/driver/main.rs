@@ -12,6 +12,11 @@ fn put(data: &mut Data, v: usize, row: &[i32]) {
     }
 }
 
+/// The first weights as given, the others as they are.
+fn weigh(data: &mut Data, weights: &[i32]) {
+    data.weights[..weights.len()].copy_from_slice(weights);
+}
+
 fn refused(why: Refusal) {
     println!("R\t{}\t{}", why.number, why.line);
 }
@@ -100,12 +105,18 @@ fn show_fit(data: &Data, list: &[Branch]) {
     }
 }
 
-fn main() {
+fn example() -> Data {
     let mut data = Data::blank(4, 3);
     put(&mut data, 1, &[0, 0, 0]);
     put(&mut data, 2, &[2, 1, 0]);
     put(&mut data, 3, &[2, 3, 1]);
     put(&mut data, 4, &[-1, 1, 2]);
+    data
+}
+
+fn worked(weights: &[i32]) {
+    let mut data = example();
+    weigh(&mut data, weights);
     let mut tree = Tree::row_one();
     for (n, b) in [(4, 2), (4, 2), (4, 4), (4, 9), (65, 3), (4, 3)] {
         show_placed(&mut data, &mut tree, n, b);
@@ -114,6 +125,7 @@ fn main() {
     let alone = Tree::row_one();
     let mut short = Data::blank(4, 3);
     short.matrix.pop();
+    weigh(&mut short, weights);
     show_written(&short, &tree);
     data.n = 65;
     show_written(&data, &tree);
@@ -137,5 +149,27 @@ fn main() {
     show_fit(&data, &all);
     for v in [5, 4, 6] {
         show_node(&data, Some(&all), v);
+    }
+}
+
+fn asked(mut data: Data, m: usize) {
+    data.m = m;
+    show_placed(&mut data, &mut Tree::row_one(), 4, 2);
+    show_written(&data, &Tree::row_one());
+    show_fit(&data, &vec![OTHER; BRANCH_RECORDS]);
+    show_node(&data, None, 5);
+}
+
+fn main() {
+    for weights in [[1, 1, 1], [3, 1, 2], [1, 9, 4]] {
+        worked(&weights);
+    }
+    let mut fewer = example();
+    fewer.weights.pop();
+    asked(fewer, 3);
+    for (weights, m) in [([1, 1, 0], 3), ([1, 10, 1], 3), ([1, 9, 0], 2)] {
+        let mut data = example();
+        weigh(&mut data, &weights);
+        asked(data, m);
     }
 }
