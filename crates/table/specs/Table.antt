@@ -5,6 +5,7 @@ use mathlib.Core.List.{List, [], _∷_, flatMap}
 use Prim.Native.Nat.{ℕ}
 use Prim.Native.String.{String}
 use lib.IntN.{ℤ, pos, negsuc}
+use lib.ListN.{replicate}
 use Rattle.matrix_file.specs.Text.{bytes}
 use Rattle.difference.specs.Rows.{difference, median, intervalDifference}
 use Rattle.fitting.specs.Sets.{join}
@@ -35,12 +36,16 @@ taxonB = pos 1 ∷ pos 0 ∷ pos 0 ∷ pos 0 ∷ pos 1 ∷ pos 1 ∷ pos 1 ∷ p
 abbrev pub taxonD : List ℤ
 taxonD = pos 1 ∷ pos 0 ∷ pos 0 ∷ pos 0 ∷ pos 1 ∷ pos 1 ∷ pos 1 ∷ pos 1 ∷ pos 1 ∷ pos 0 ∷ pos 0 ∷ pos 0 ∷ []
 
+-- the handout knows no weights: each of the 12 characters has weight 1
+abbrev pub alike : List ℕ
+alike = replicate 12 1
+
 -- one sum of the handout: a taxon's differences from the ancestor and from C, and its interval difference
 pub record Sum (taxon : List ℤ) (fromAncestor fromC interval : ℕ) : Type 0 where
-  pub ancestor : difference taxon anc ≡ fromAncestor
-  pub other : difference taxon taxonC ≡ fromC
-  pub across : difference anc taxonC ≡ 4
-  pub half : intervalDifference taxon taxonC anc ≡ interval
+  pub ancestor : difference alike taxon anc ≡ fromAncestor
+  pub other : difference alike taxon taxonC ≡ fromC
+  pub across : difference alike anc taxonC ≡ 4
+  pub half : intervalDifference alike taxon taxonC anc ≡ interval
 
 -- the bytes of some lines
 unfoldable pub text : List String → List ℕ
