@@ -6,8 +6,9 @@
 BIN is the folder of the reference's two programs, wagner-reference and wagner-files (cargo build --release in a copy of reference/). What
 a file brings is what wagner-reference prints with the requests in force; a text of more than 1,500 bytes stands as its length and its
 checksum Adler-32. Behind each stands how many of 1,048,576 lent bytes are left. The files of the base come first: they bring what they
-bring with --requests 0, but for a fourth field in line 1, which the base refuses. A case is the length of the file and the number of bytes
-that are kept of it, each in three bytes, the highest first, and these bytes; the file goes on with `x`.
+bring with --requests 0, but for a fourth field in line 1, which the base refuses, and for a row 1 named `V`, which is read as weights. A
+case is the length of the file and the number of bytes that are kept of it, each in three bytes, the highest first, and these bytes; the
+file goes on with `x`.
 """
 import os
 import subprocess
@@ -18,7 +19,7 @@ BIN = sys.argv[1]
 HERE = os.path.dirname(os.path.abspath(__file__))
 LENT = 1048576
 MOST_PRINTED = 1500
-IN_FORCE = 1  # so many requests, from M-100 on
+IN_FORCE = 2  # so many requests, from M-100 on
 EXAMPLE = b'W\t4\t3\nA\t0\t0\t0\nB\t2\t1\t0\nC\t2\t3\t1\nD\t-1\t1\t2\n'
 
 
@@ -119,12 +120,53 @@ def in_both_orders():
         yield with_field(file, b'closest')
 
 
-def generated(first, count, least, most, requests=0, fields=None):
-    """Generated files from a seed on, with a length within limits and, if it is said, so many fields in line 1."""
+def first_field(file, line):
+    """The first field of a line counted from 1, empty where there is no such line."""
+    return (file.split(b'\n') + [b''] * line)[line - 1].split(b'\t')[0]
+
+
+def weighed(file, weights):
+    """A file with a line of weights behind line 1."""
+    return file.replace(b'\n', b'\nV' + b''.join(b'\t' + weight for weight in weights) + b'\n', 1)
+
+
+def weight_lines():
+    """The `V` line, right and wrong, and beside what is asked before and after it."""
+    for weight in [b'1', b'9', b'0', b'10', b'01', b'-1', b'', b' 1', b'1\r', b':', b'a', b'5\0']:
+        yield weighed(b'W\t1\t1\nA\t5\n', [weight])           # 16 but for the first two
+    for line in [b'V', b'V\t', b'V\t1', b'V\t1\t2\t3', b'V\t1\t2\t', b'v\t1\t2', b'VV\t1\t2', b'V \t1\t2', b'U\to\to', b'N\t1']:
+        yield b'W\t1\t2\n' + line + b'\nA\t5\t6\n'            # 16, and 11 for a row of another name
+    for rest in [b'V', b'V\t3', b'V\t0', b'VA\t3']:
+        yield b'W\t1\t1\n' + rest                              # no line feed: 16, and 5 for a row
+    for line in [b'W\t0\t1', b'W\t1\t129', b'W\t1\t1\tnot', b'W\t1', b'V\t1\t1']:
+        yield line + b'\nV\t0\nA\t5\n'                        # 3, 15 and 4, before 16
+    for row in [b'', b'A\t5', b'A\t5\t5\n', b'1\t5\n', b'A\tx\n', b'A\t1000\n', b'A\t5\nx', b'V\t5\n', b'V\t5\nV\t5\n']:
+        yield b'W\t1\t1\nV\t7\n' + row                        # rows are lines 3 and on, 11 is line 4
+        yield b'W\t1\t1\nV\t0\n' + row                        # 16, before every question of the rows
+    yield b'W\t2\t1\nA\t1\nV\t2\n'                           # a later row may have the name
+    yield b'W\t2\t1\nV\t1\nA\t1\nA\t2\n'                     # 7 at line 4
+
+
+def by_weights():
+    """Files in both orders by weights of 1, by other ones that turn a tie, and by the heaviest."""
+    largest = matrix(64, 128, lambda v, j: 999 if (v + j) % 2 else -999)
+    for file, count in [(EXAMPLE, 3), (matrix(1, 3), 3), (matrix(2, 3), 3), (matrix(3, 3), 3), (matrix(7, 4), 4)]:
+        lists = [[b'1'] * count, [b'9'] * count, [b'%d' % (j % 9 + 1) for j in range(count)], [b'%d' % (9 - j % 9) for j in range(count)]]
+        for weights in lists:
+            yield weighed(file, weights)
+            yield with_field(weighed(file, weights), b'closest')
+    for turned in [[b'1', b'9', b'1'], [b'1', b'1', b'9'], [b'9', b'1', b'1']]:
+        yield weighed(EXAMPLE, turned)
+    yield weighed(largest, [b'9'] * 128)                        # differences of 2,301,696
+    yield with_field(weighed(largest, [b'%d' % (j % 9 + 1) for j in range(128)]), b'closest')
+
+
+def generated(first, count, least, most, requests=0, right=lambda file: True):
+    """Generated files from a seed on, with a length within limits, that are right for what is asked."""
     seed = first
     while count:
         file = run('wagner-files', str(seed), requests=requests)
-        if least <= len(file) <= most and fields in [None, fields_of_line_1(file)]:
+        if least <= len(file) <= most and right(file):
             count -= 1
             yield file
         seed += 1
@@ -144,16 +186,26 @@ def printed(file):
 
 
 def as_before(file):
-    """A file brings what it brought with the base alone, but for a fourth field, which the base refuses by 3."""
+    """A file brings what it brought with the base alone, but for a fourth field, which the base refuses by 3, and a row 1 named `V`."""
     before = run('wagner-reference', requests=0, given=file)
     now = run('wagner-reference', requests=IN_FORCE, given=file)
-    return before == now or (before == b'R\t3\t1\n' and fields_of_line_1(file) == 4)
+    return before == now or (before == b'R\t3\t1\n' and has_word(file)) or has_weights(file)
+
+
+def has_word(file):
+    return fields_of_line_1(file) == 4
+
+
+def has_weights(file):
+    return first_field(file, 2) == b'V'
 
 
 base = [*named_edges(), *generated(1, 300, 0, 400), *generated(20000, 40, 401, 1500), *generated(40000, 2, 5000, 9000)]
 assert all(map(as_before, base))
 files = [*base, *fourth_fields(), *in_both_orders()]
-files += [*generated(60000, 80, 0, 400, IN_FORCE, 4), *generated(80000, 10, 401, 1500, IN_FORCE, 4)]
+files += [*generated(60000, 80, 0, 400, 1, has_word), *generated(80000, 10, 401, 1500, 1, has_word)]
+files += [*weight_lines(), *by_weights()]
+files += [*generated(100000, 80, 0, 400, IN_FORCE, has_weights), *generated(120000, 10, 401, 1500, IN_FORCE, has_weights)]
 # three numbers of lent bytes that are not the full size: refused with 12, 0 bytes counted, all of them left
 refused = b''.join(b'R\t12\t0\nk\t%d\n' % size for size in [40, LENT - 1, LENT + 1])
 with open(os.path.join(HERE, 'data', 'cases'), 'wb') as cases:
