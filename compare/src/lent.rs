@@ -1,6 +1,6 @@
 //! Lent lists with known contents, and what they should hold afterwards.
 
-use crate::{COLUMNS, MATRIX_SIZE, NAMES_SIZE};
+use crate::{COLUMNS, MATRIX_SIZE, NAMES_SIZE, WEIGHTS_SIZE};
 use wagner_reference::data::Data;
 use wagner_reference::ranges::{Range, Ranges};
 
@@ -12,7 +12,7 @@ pub fn codes(size: usize, mark: i32) -> Vec<i32> {
         .collect()
 }
 
-/// A list of bytes that are no names.
+/// A list of bytes that are no names and no weights.
 pub fn bytes(size: usize) -> Vec<u8> {
     (0..size).map(|i| 128 + (i % 97) as u8).collect()
 }
@@ -35,6 +35,25 @@ pub fn write_rows(matrix: &mut [i32], data: &Data, first: usize, last: usize) {
         for j in 1..=data.m {
             matrix[place(v, j)] = data.code(v, j);
         }
+    }
+}
+
+/// A lent list of weights that are none, so that every write shows.
+pub fn weights() -> Vec<u8> {
+    bytes(WEIGHTS_SIZE)
+}
+
+/// Lent weights with those of the characters of a reference matrix in front.
+pub fn weights_of(data: &Data) -> Vec<u8> {
+    let mut list = weights();
+    write_weights(&mut list, data);
+    list
+}
+
+/// Writes the weights of the m characters over the front of a list.
+pub fn write_weights(list: &mut [u8], data: &Data) {
+    for (place, weight) in list.iter_mut().zip(&data.weights[..data.m]) {
+        *place = *weight as u8;
     }
 }
 

@@ -8,12 +8,15 @@ use wagner_reference::data::Requests;
 use wagner_reference::tree::Order;
 
 /// So many requests are in force, from M-100 on.
-pub const IN_FORCE: Requests = Requests(1);
+pub const IN_FORCE: Requests = Requests(2);
 
 /// A lent matrix has 126 rows of 128 codes.
 pub const ROWS: usize = 126;
 pub const COLUMNS: usize = 128;
 pub const MATRIX_SIZE: usize = ROWS * COLUMNS;
+
+/// A lent list of weights has one for each column.
+pub const WEIGHTS_SIZE: usize = COLUMNS;
 
 /// A lent list of names has 64 names of 16 bytes.
 pub const NAMES_SIZE: usize = 1024;
@@ -71,18 +74,24 @@ mod library {
             file_length: usize,
             matrix: *mut i32,
             matrix_length: usize,
+            weights: *mut u8,
+            weights_length: usize,
             names: *mut u8,
             names_length: usize,
         ) -> FileRead;
         pub fn wagner_network(
             matrix: *const i32,
             matrix_length: usize,
+            weights: *const u8,
+            weights_length: usize,
             n: usize,
             m: usize,
         ) -> Measured;
         pub fn wagner_build(
             matrix: *mut i32,
             matrix_length: usize,
+            weights: *const u8,
+            weights_length: usize,
             n: usize,
             m: usize,
             order: u64,
@@ -90,6 +99,8 @@ mod library {
         pub fn wagner_fit(
             matrix: *mut i32,
             matrix_length: usize,
+            weights: *const u8,
+            weights_length: usize,
             n: usize,
             m: usize,
             order: u64,
@@ -109,35 +120,57 @@ pub fn list(file: &[u8], out: &mut [u8]) -> usize {
     unsafe { library::wagner_list(file.as_ptr(), file.len(), out.as_mut_ptr(), out.len()) }
 }
 
-/// Reads a file into a lent matrix and a lent list of names.
-pub fn read(file: &[u8], matrix: &mut [i32], names: &mut [u8]) -> FileRead {
+/// Reads a file into a lent matrix and lent lists of weights and names.
+pub fn read(file: &[u8], matrix: &mut [i32], weights: &mut [u8], names: &mut [u8]) -> FileRead {
     unsafe {
         library::wagner_read(
             file.as_ptr(),
             file.len(),
             matrix.as_mut_ptr(),
             matrix.len(),
+            weights.as_mut_ptr(),
+            weights.len(),
             names.as_mut_ptr(),
             names.len(),
         )
     }
 }
 
-/// The length of the Prim Network of a lent matrix.
-pub fn network(matrix: &[i32], n: usize, m: usize) -> Measured {
-    unsafe { library::wagner_network(matrix.as_ptr(), matrix.len(), n, m) }
+/// The length of the Prim Network of a lent matrix with weights.
+pub fn network(matrix: &[i32], weights: &[u8], n: usize, m: usize) -> Measured {
+    unsafe {
+        library::wagner_network(
+            matrix.as_ptr(),
+            matrix.len(),
+            weights.as_ptr(),
+            weights.len(),
+            n,
+            m,
+        )
+    }
 }
 
-/// The Wagner tree of a lent matrix in an order of placing: HTU rows written,
-/// its length.
-pub fn build(matrix: &mut [i32], n: usize, m: usize, order: u64) -> Measured {
-    unsafe { library::wagner_build(matrix.as_mut_ptr(), matrix.len(), n, m, order) }
+/// The Wagner tree of a lent matrix with weights in an order of placing: HTU
+/// rows written, its length.
+pub fn build(matrix: &mut [i32], weights: &[u8], n: usize, m: usize, order: u64) -> Measured {
+    unsafe {
+        library::wagner_build(
+            matrix.as_mut_ptr(),
+            matrix.len(),
+            weights.as_ptr(),
+            weights.len(),
+            n,
+            m,
+            order,
+        )
+    }
 }
 
-/// The Wagner tree of a lent matrix in an order of placing, fitted: HTU rows
-/// and the states of the HTUs written, the fitted total.
+/// The Wagner tree of a lent matrix with weights in an order of placing,
+/// fitted: HTU rows and the states of the HTUs written, the fitted total.
 pub fn fit(
     matrix: &mut [i32],
+    weights: &[u8],
     n: usize,
     m: usize,
     order: u64,
@@ -149,6 +182,8 @@ pub fn fit(
         library::wagner_fit(
             matrix.as_mut_ptr(),
             matrix.len(),
+            weights.as_ptr(),
+            weights.len(),
             n,
             m,
             order,

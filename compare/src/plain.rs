@@ -1,7 +1,7 @@
 //! The same work in plain Rust loops over the lent matrix: what the parts of
 //! the proved library are measured against.
 
-use crate::{ADVANCE, CLOSEST, COLUMNS, MATRIX_SIZE, NAMES_SIZE};
+use crate::{ADVANCE, CLOSEST, COLUMNS, MATRIX_SIZE, NAMES_SIZE, WEIGHTS_SIZE};
 
 /// A link of the network: a taxon, the one that it joins, their difference.
 #[derive(Clone, Copy)]
@@ -22,19 +22,24 @@ pub struct Placement {
     pub added: u64,
 }
 
+/// The m codes of node v.
 fn row(matrix: &[i32], v: usize, m: usize) -> &[i32] {
     &matrix[(v - 1) * COLUMNS..][..m]
 }
 
-fn difference(a: &[i32], b: &[i32]) -> u64 {
-    a.iter().zip(b).map(|(x, y)| u64::from(x.abs_diff(*y))).sum()
+/// The difference of two nodes, by one weight for each of the m characters.
+fn difference(matrix: &[i32], weights: &[u8], u: usize, v: usize) -> u64 {
+    let (a, b) = (row(matrix, u, weights.len()), row(matrix, v, weights.len()));
+    let apart = a.iter().zip(b).map(|(x, y)| x.abs_diff(*y));
+    apart.zip(weights).map(|(steps, weight)| u64::from(steps) * u64::from(*weight)).sum()
 }
 
 /// The Prim Network: its links and their length.
-pub fn network(matrix: &[i32], n: usize, m: usize) -> (Vec<Link>, u64) {
+pub fn network(matrix: &[i32], weights: &[u8], n: usize, m: usize) -> (Vec<Link>, u64) {
+    let weights = &weights[..m];
     let mut left: Vec<usize> = (2..=n).collect();
     let mut apart: Vec<(u64, usize)> = (0..=n)
-        .map(|v| if v < 2 { (0, 0) } else { (difference(row(matrix, v, m), row(matrix, 1, m)), 1) })
+        .map(|v| if v < 2 { (0, 0) } else { (difference(matrix, weights, v, 1), 1) })
         .collect();
     let mut links = Vec::new();
     let mut total = 0;
@@ -50,7 +55,7 @@ pub fn network(matrix: &[i32], n: usize, m: usize) -> (Vec<Link>, u64) {
         links.push(Link { taxon: v, joined, length });
         total += length;
         for &u in &left {
-            let length = difference(row(matrix, u, m), row(matrix, v, m));
+            let length = difference(matrix, weights, u, v);
             if length < apart[u].0 {
                 apart[u] = (length, v);
             }
@@ -60,16 +65,28 @@ pub fn network(matrix: &[i32], n: usize, m: usize) -> (Vec<Link>, u64) {
 }
 
 /// What hanging taxon b on the interval of node c would add, and c.
-fn hanging(matrix: &[i32], m: usize, tree: &[usize; 127], b: usize, c: usize) -> (u64, usize) {
-    let (rb, rc, rd) = (row(matrix, b, m), row(matrix, c, m), row(matrix, tree[c], m));
-    ((difference(rb, rc) + difference(rb, rd) - difference(rc, rd)) / 2, c)
+fn hanging(
+    matrix: &[i32],
+    weights: &[u8],
+    tree: &[usize; 127],
+    b: usize,
+    c: usize,
+) -> (u64, usize) {
+    let apart = |u, v| difference(matrix, weights, u, v);
+    ((apart(b, c) + apart(b, tree[c]) - apart(c, tree[c])) / 2, c)
 }
 
 /// The interval of taxon b: what is added, and the lower end.
-fn nearest(matrix: &[i32], n: usize, m: usize, tree: &[usize; 127], b: usize) -> (u64, usize) {
+fn nearest(
+    matrix: &[i32],
+    weights: &[u8],
+    n: usize,
+    tree: &[usize; 127],
+    b: usize,
+) -> (u64, usize) {
     let mut best = (u64::MAX, 0);
     for c in (2..2 * n - 1).filter(|&c| tree[c] != 0) {
-        best = best.min(hanging(matrix, m, tree, b, c));
+        best = best.min(hanging(matrix, weights, tree, b, c));
     }
     best
 }
@@ -78,8 +95,8 @@ fn nearest(matrix: &[i32], n: usize, m: usize, tree: &[usize; 127], b: usize) ->
 /// what is kept of these is computed again, and the least of all is found.
 fn renewed(
     matrix: &[i32],
+    weights: &[u8],
     n: usize,
-    m: usize,
     tree: &[usize; 127],
     v: usize,
     kept: &mut [u64; 127],
@@ -87,7 +104,7 @@ fn renewed(
 ) -> (u64, usize) {
     for c in changed {
         if tree[c] != 0 {
-            kept[c] = hanging(matrix, m, tree, v, c).0;
+            kept[c] = hanging(matrix, weights, tree, v, c).0;
         }
     }
     let intervals = (2..2 * n - 1).filter(|&c| tree[c] != 0);
@@ -109,15 +126,17 @@ fn write_median(matrix: &mut [i32], m: usize, [b, c, d]: [usize; 3], y: usize) {
 /// interval would add.
 pub fn build(
     matrix: &mut [i32],
+    weights: &[u8],
     n: usize,
     m: usize,
     order: u64,
 ) -> ([usize; 127], Vec<Placement>, u64) {
+    let weights = &weights[..m];
     let mut tree = [0; 127];
     let mut placements = Vec::new();
     let mut left: Vec<usize> = (2..=n).collect();
     let mut keys: Vec<(u64, usize)> = (0..=n)
-        .map(|v| if v < 2 { (0, 0) } else { (difference(row(matrix, v, m), row(matrix, 1, m)), 0) })
+        .map(|v| if v < 2 { (0, 0) } else { (difference(matrix, weights, v, 1), 0) })
         .collect();
     let mut kept = vec![[0; 127]; if order == CLOSEST { n + 1 } else { 0 }];
     let mut length = 0;
@@ -125,7 +144,7 @@ pub fn build(
         let at = (0..left.len()).min_by_key(|&i| keys[left[i]].0).unwrap();
         let b = left.remove(at);
         let known = placements.is_empty() || order == CLOSEST;
-        let (added, c) = if known { keys[b] } else { nearest(matrix, n, m, &tree, b) };
+        let (added, c) = if known { keys[b] } else { nearest(matrix, weights, n, &tree, b) };
         let (upper, y) = if c == 0 { (1, 0) } else { (tree[c], n + placements.len()) };
         if c == 0 {
             tree[b] = 1;
@@ -139,7 +158,7 @@ pub fn build(
         length += added;
         if order == CLOSEST {
             for &v in &left {
-                keys[v] = renewed(matrix, n, m, &tree, v, &mut kept[v], [b, c, y]);
+                keys[v] = renewed(matrix, weights, n, &tree, v, &mut kept[v], [b, c, y]);
             }
         }
     }
@@ -150,6 +169,7 @@ pub fn build(
 /// branches by node number, the total.
 pub fn fit(
     matrix: &[i32],
+    weights: &[u8],
     n: usize,
     m: usize,
     tree: &[usize; 127],
@@ -175,11 +195,12 @@ pub fn fit(
         (l.min(h), l.max(h))
     };
     let mut lengths = [0; 127];
-    for j in 0..m {
+    for (j, weight) in weights[..m].iter().enumerate() {
         let code = |v: usize| matrix[(v - 1) * COLUMNS + j];
         let mut up = [(0, 0); 127];
         for &v in walk.iter().rev() {
-            up[v] = if v <= n { (code(v), code(v)) } else { join(up[below[v][0]], up[below[v][1]]) };
+            up[v] =
+                if v <= n { (code(v), code(v)) } else { join(up[below[v][0]], up[below[v][1]]) };
         }
         let mut outside = [(0, 0); 127];
         let mut state = [0; 127];
@@ -187,7 +208,7 @@ pub fn fit(
         for &v in &walk[1..] {
             let u = tree[v];
             state[v] = state[u].max(up[v].0).min(up[v].1);
-            lengths[v] += u64::from(state[v].abs_diff(state[u]));
+            lengths[v] += u64::from(state[v].abs_diff(state[u])) * u64::from(*weight);
             outside[v] = if u == 1 {
                 up[1]
             } else {
@@ -208,6 +229,7 @@ pub fn fit(
     (lengths, lengths.iter().sum())
 }
 
+/// A whole number of 1 to 6 digits as a file writes it, with a minus if signed.
 fn number(field: &[u8], signed: bool) -> Option<i32> {
     let (minus, digits) = match field {
         [b'-', digits @ ..] if signed => (true, digits),
@@ -226,14 +248,36 @@ fn number(field: &[u8], signed: bool) -> Option<i32> {
     Some(if minus { -value } else { value })
 }
 
+/// The fields of a line.
+fn fields(line: &[u8]) -> impl Iterator<Item = &[u8]> {
+    line.split(|&byte| byte == b'\t')
+}
+
+/// The weights of a `V` line, written over a list that has a place for each.
+fn read_weights(line: &[u8], weights: &mut [u8]) -> Option<()> {
+    let mut fields = fields(line).skip(1);
+    for place in weights {
+        let [digit @ b'1'..=b'9'] = fields.next()? else {
+            return None;
+        };
+        *place = digit - b'0';
+    }
+    fields.next().is_none().then_some(())
+}
+
 /// A read of a sound file: n, m and the order, or none if a question is
 /// answered "no".
-pub fn read(file: &[u8], matrix: &mut [i32], names: &mut [u8]) -> Option<(usize, usize, u64)> {
+pub fn read(
+    file: &[u8],
+    matrix: &mut [i32],
+    weights: &mut [u8],
+    names: &mut [u8],
+) -> Option<(usize, usize, u64)> {
     if file.len() > 45_000 || file.last() != Some(&b'\n') {
         return None;
     }
-    let mut lines = file[..file.len() - 1].split(|&byte| byte == b'\n');
-    let mut first = lines.next()?.split(|&byte| byte == b'\t');
+    let mut lines = file[..file.len() - 1].split(|&byte| byte == b'\n').peekable();
+    let mut first = fields(lines.next()?);
     if first.next() != Some(b"W") {
         return None;
     }
@@ -247,8 +291,12 @@ pub fn read(file: &[u8], matrix: &mut [i32], names: &mut [u8]) -> Option<(usize,
     if first.next().is_some() || n < 1 || n > 64 || m < 1 || m > 128 {
         return None;
     }
+    match lines.next_if(|line| fields(line).next() == Some(b"V")) {
+        None => weights[..m].fill(1),
+        Some(line) => read_weights(line, &mut weights[..m])?,
+    }
     for v in 0..n {
-        let mut fields = lines.next()?.split(|&byte| byte == b'\t');
+        let mut fields = fields(lines.next()?);
         let name = fields.next()?;
         let inside = |byte: &u8| byte.is_ascii_alphanumeric() || *byte == b'_';
         if name.len() > 16 || !name.first()?.is_ascii_alphabetic() || !name.iter().all(inside) {
@@ -278,6 +326,7 @@ struct Page<'a> {
 }
 
 impl Page<'_> {
+    /// The digits of a number.
     fn digits(&mut self, value: u64) {
         if value > 9 {
             self.digits(value / 10);
@@ -285,11 +334,13 @@ impl Page<'_> {
         self.text.push(b'0' + (value % 10) as u8);
     }
 
+    /// A field with a number.
     fn number(&mut self, value: u64) {
         self.text.push(b'\t');
         self.digits(value);
     }
 
+    /// A field with a state.
     fn state(&mut self, value: i32) {
         self.text.push(b'\t');
         if value < 0 {
@@ -298,6 +349,7 @@ impl Page<'_> {
         self.digits(u64::from(value.unsigned_abs()));
     }
 
+    /// A field with a node: `-` for none, an HTU's number, a taxon's name.
     fn node(&mut self, v: usize) {
         self.text.push(b'\t');
         if v == 0 {
@@ -311,6 +363,7 @@ impl Page<'_> {
         }
     }
 
+    /// A line with a letter and a total.
     fn total(&mut self, letter: u8, value: u64) {
         self.text.push(letter);
         self.number(value);
@@ -320,12 +373,13 @@ impl Page<'_> {
 
 /// The listing of a sound file, in the bytes of a list that is lent for it.
 pub fn list(file: &[u8], lent: Vec<u8>) -> Option<Vec<u8>> {
-    let (mut matrix, mut names) = ([0; MATRIX_SIZE], [0; NAMES_SIZE]);
-    let (n, m, order) = read(file, &mut matrix, &mut names)?;
+    let (mut matrix, mut weights) = ([0; MATRIX_SIZE], [0; WEIGHTS_SIZE]);
+    let mut names = [0; NAMES_SIZE];
+    let (n, m, order) = read(file, &mut matrix, &mut weights, &mut names)?;
     let [mut low, mut high, mut chosen] = [[0; MATRIX_SIZE]; 3];
-    let (links, p) = network(&matrix, n, m);
-    let (tree, placements, w) = build(&mut matrix, n, m, order);
-    let (lengths, t) = fit(&matrix, n, m, &tree, &mut low, &mut high, &mut chosen);
+    let (links, p) = network(&matrix, &weights, n, m);
+    let (tree, placements, w) = build(&mut matrix, &weights, n, m, order);
+    let (lengths, t) = fit(&matrix, &weights, n, m, &tree, &mut low, &mut high, &mut chosen);
     let mut page = Page { text: lent, names: &names, n };
     page.text.clear();
     for link in links {

@@ -11,6 +11,16 @@ use wagner_reference::read::read;
 
 mod seeds;
 
+/// The greatest number of a refusal.
+const REFUSALS: usize = 16;
+
+/// Half of the damages fall on so many bytes at the front.
+const TOP: usize = 40;
+
+/// Lines of weights that are put into files, for few characters or for none.
+const WEIGHTS: [&str; 7] =
+    ["V", "V\n", "V\t0\n", "V\t5\n", "V\t2\t9\n", "V\t1\t3\t4\n", "V\t6\t7\t8\t1\n"];
+
 /// What the lent bytes hold before a call.
 fn before() -> &'static [u8] {
     static BYTES: OnceLock<Vec<u8>> = OnceLock::new();
@@ -38,24 +48,31 @@ fn check_listing(file: &[u8], requests: Requests) -> usize {
 }
 
 /// One to three damages to a file: a digit changed, a byte changed, one bit of
-/// it turned, a part cut out, the end cut off, a part doubled.
+/// it turned, a part cut out, the end cut off, a line of weights put behind
+/// line 1, a part doubled.
 fn damaged(mut file: Vec<u8>, random: &mut Random) -> Vec<u8> {
     for _ in 0..random.between(1, 3) {
         if file.is_empty() {
             break;
         }
-        let at = random.below(file.len());
+        let reach = if random.chance(50) { file.len().min(TOP) } else { file.len() };
+        let at = random.below(reach);
         let part = random.between(1, 8).min(file.len() - at);
-        match random.below(7) {
+        match random.below(8) {
             0 | 1 => {
                 if file[at].is_ascii_digit() {
                     file[at] = random.pick(b"0123456789");
                 }
             }
-            2 => file[at] = random.pick(b"\t\n\r\0 -_.09AZaz#W~\x7f\x80\xff"),
+            2 => file[at] = random.pick(b"\t\n\r\0 -_.019AZaz#VW~\x7f\x80\xff"),
             3 => file[at] ^= 1 << random.below(8),
             4 => drop(file.drain(at..at + part)),
             5 => file.truncate(at),
+            6 => {
+                let feed = file.iter().position(|&byte| byte == b'\n');
+                let second = feed.map_or(file.len(), |at| at + 1);
+                file.splice(second..second, random.pick(&WEIGHTS).bytes());
+            }
             _ => {
                 let again = file[at..at + part].to_vec();
                 file.splice(at..at, again);
@@ -66,20 +83,23 @@ fn damaged(mut file: Vec<u8>, random: &mut Random) -> Vec<u8> {
 }
 
 /// How many files were accepted (place 0), and refused by each number.
-struct Tally([AtomicU64; 16]);
+struct Tally([AtomicU64; REFUSALS + 1]);
 
 impl Tally {
+    /// No file is counted.
     fn none() -> Tally {
         Tally(std::array::from_fn(|_| AtomicU64::new(0)))
     }
 
+    /// Counts a file with this number.
     fn count(&self, number: usize) {
         self.0[number].fetch_add(1, Ordering::Relaxed);
     }
 
+    /// Prints what was counted of these files.
     fn print(&self, what: &str) {
         let counts: Vec<u64> = self.0.iter().map(|n| n.load(Ordering::Relaxed)).collect();
-        println!("{what}: accepted {}, refused by 1 to 15: {:?}", counts[0], &counts[1..]);
+        println!("{what}: accepted {}, refused by 1 to {REFUSALS}: {:?}", counts[0], &counts[1..]);
     }
 }
 
@@ -100,19 +120,29 @@ fn damaged_files() {
     tally.print("damaged files");
 }
 
-/// What the base accepts is listed as the base lists it.
-#[test]
-fn files_of_the_base() {
+/// What was accepted under earlier requests is listed as it was then. A file
+/// whose row 1 is named `V` is among the others: that row reads as weights now.
+fn check_earlier(requests: Requests, what: &str) {
     let (as_before, other) = (Tally::none(), Tally::none());
-    seeds::each(Requests::NONE, |_, file| {
-        if read(&file, Requests::NONE).is_ok() {
-            as_before.count(check_listing(&file, Requests::NONE));
+    seeds::each(requests, |_, file| {
+        if read(&file, requests).is_ok_and(|file| file.names[0] != "V") {
+            as_before.count(check_listing(&file, requests));
         } else {
             other.count(check_listing(&file, IN_FORCE));
         }
     });
-    as_before.print("files that the base accepts");
-    other.print("files that the base refuses");
+    as_before.print(&format!("files of {what}, as before"));
+    other.print(&format!("other files of {what}"));
+}
+
+#[test]
+fn files_of_the_base() {
+    check_earlier(Requests::NONE, "the base");
+}
+
+#[test]
+fn files_of_m_100() {
+    check_earlier(Requests(1), "M-100");
 }
 
 #[test]
@@ -130,7 +160,8 @@ fn bytes_of_another_size() {
 #[test]
 fn files_of_the_greatest_size() {
     let start = b"W\t1\t1\nA\t0\n";
-    for (length, refusal) in [(44_999, 11), (45_000, 11), (45_001, 1), (45_002, 1), (3_000_000, 1)] {
+    let lengths = [(44_999, 11), (45_000, 11), (45_001, 1), (45_002, 1), (3_000_000, 1)];
+    for (length, refusal) in lengths {
         let mut file = start.to_vec();
         file.resize(length, b'\n');
         assert_eq!(check_listing(&file, IN_FORCE), refusal);

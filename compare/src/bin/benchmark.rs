@@ -28,6 +28,18 @@ fn file(n: usize, m: usize) -> Vec<u8> {
     text.into_bytes()
 }
 
+/// The same file with weights from 1 to 9 at random.
+fn weighted(file: &[u8], m: usize) -> Vec<u8> {
+    let mut random = Random(19_710_301);
+    let mut line = "V".to_string();
+    for _ in 0..m {
+        line += &format!("\t{}", random.code(1, 9));
+    }
+    line.push('\n');
+    let second = file.iter().position(|&byte| byte == b'\n').unwrap() + 1;
+    [&file[..second], line.as_bytes(), &file[second..]].concat()
+}
+
 /// The least time that some work takes, in microseconds: runs of it until a
 /// quarter of a second is spent, at least ten.
 fn time(mut work: impl FnMut()) -> f64 {
@@ -57,14 +69,17 @@ struct Parts {
 }
 
 impl Parts {
+    /// The time of the fit alone.
     fn fit(self) -> f64 {
         self.both - self.build
     }
 
+    /// The time of printing alone.
     fn print(self) -> f64 {
         self.whole - self.read - self.network - self.both
     }
 
+    /// The least times of two.
     fn least(self, other: Parts) -> Parts {
         Parts {
             read: self.read.min(other.read),
@@ -76,6 +91,7 @@ impl Parts {
         }
     }
 
+    /// All times, in the order of their names.
     fn all(self) -> [f64; 7] {
         let (fit, print) = (self.fit(), self.print());
         [self.read, self.network, self.build, self.closest, fit, print, self.whole]
@@ -88,30 +104,38 @@ fn rounds(measure: impl Fn() -> Parts) -> [f64; 7] {
     (0..ROUNDS).map(|_| measure()).reduce(Parts::least).unwrap().all()
 }
 
+/// The same for two files, one after the other in each round.
+fn rounds_of_both(measure: impl Fn(&[u8]) -> Parts, files: [&[u8]; 2]) -> [[f64; 7]; 2] {
+    let both: Vec<[Parts; 2]> = (0..ROUNDS).map(|_| files.map(&measure)).collect();
+    [0, 1].map(|i| both.iter().map(|parts| parts[i]).reduce(Parts::least).unwrap().all())
+}
+
 const ROUNDS: usize = 5;
 
 const NAMES: [&str; 7] = ["read", "network", "build", "closest", "fit", "print", "whole"];
 
+/// The parts of the proved library.
 fn ours(file: &[u8]) -> Parts {
-    let (mut matrix, mut names) = (vec![0; MATRIX_SIZE], lent::names());
+    let mut matrix = vec![0; MATRIX_SIZE];
+    let (mut weights, mut names) = (lent::weights(), lent::names());
     let read = time(|| {
-        black_box(compare::read(black_box(file), &mut matrix, &mut names));
+        black_box(compare::read(black_box(file), &mut matrix, &mut weights, &mut names));
     });
-    let head = compare::read(file, &mut matrix, &mut names);
+    let head = compare::read(file, &mut matrix, &mut weights, &mut names);
     let (n, m) = (head.n, head.m);
     let network = time(|| {
-        black_box(compare::network(black_box(&matrix), n, m));
+        black_box(compare::network(black_box(&matrix), &weights, n, m));
     });
     let build = time(|| {
-        black_box(compare::build(black_box(&mut matrix), n, m, ADVANCE));
+        black_box(compare::build(black_box(&mut matrix), &weights, n, m, ADVANCE));
     });
     let closest = time(|| {
-        black_box(compare::build(black_box(&mut matrix), n, m, CLOSEST));
+        black_box(compare::build(black_box(&mut matrix), &weights, n, m, CLOSEST));
     });
     let [mut low, mut high, mut chosen] = [1, 2, 3].map(|mark| lent::codes(MATRIX_SIZE, mark));
     let both = time(|| {
         let matrix = black_box(&mut matrix);
-        black_box(compare::fit(matrix, n, m, ADVANCE, &mut low, &mut high, &mut chosen));
+        black_box(compare::fit(matrix, &weights, n, m, ADVANCE, &mut low, &mut high, &mut chosen));
     });
     let mut out = lent::bytes(OUTPUT_SIZE);
     let whole = time(|| {
@@ -120,26 +144,28 @@ fn ours(file: &[u8]) -> Parts {
     Parts { read, network, build, closest, both, whole }
 }
 
+/// The parts of the plain loops.
 fn plain_loops(file: &[u8]) -> Parts {
-    let (mut matrix, mut names) = (vec![0; MATRIX_SIZE], lent::names());
+    let mut matrix = vec![0; MATRIX_SIZE];
+    let (mut weights, mut names) = (lent::weights(), lent::names());
     let read = time(|| {
-        black_box(plain::read(black_box(file), &mut matrix, &mut names));
+        black_box(plain::read(black_box(file), &mut matrix, &mut weights, &mut names));
     });
-    let (n, m, _) = plain::read(file, &mut matrix, &mut names).unwrap();
+    let (n, m, _) = plain::read(file, &mut matrix, &mut weights, &mut names).unwrap();
     let network = time(|| {
-        black_box(plain::network(black_box(&matrix), n, m));
+        black_box(plain::network(black_box(&matrix), &weights, n, m));
     });
     let build = time(|| {
-        black_box(plain::build(black_box(&mut matrix), n, m, ADVANCE));
+        black_box(plain::build(black_box(&mut matrix), &weights, n, m, ADVANCE));
     });
     let closest = time(|| {
-        black_box(plain::build(black_box(&mut matrix), n, m, CLOSEST));
+        black_box(plain::build(black_box(&mut matrix), &weights, n, m, CLOSEST));
     });
     let [mut low, mut high, mut chosen] = [1, 2, 3].map(|mark| lent::codes(MATRIX_SIZE, mark));
     let both = time(|| {
         let matrix = black_box(&mut matrix);
-        let (tree, _, _) = plain::build(matrix, n, m, ADVANCE);
-        black_box(plain::fit(matrix, n, m, &tree, &mut low, &mut high, &mut chosen));
+        let (tree, _, _) = plain::build(matrix, &weights, n, m, ADVANCE);
+        black_box(plain::fit(matrix, &weights, n, m, &tree, &mut low, &mut high, &mut chosen));
     });
     let mut out = Vec::with_capacity(OUTPUT_SIZE);
     let whole = time(|| {
@@ -149,6 +175,7 @@ fn plain_loops(file: &[u8]) -> Parts {
     Parts { read, network, build, closest, both, whole }
 }
 
+/// The parts of the reference.
 fn theirs(file: &[u8]) -> Parts {
     let read_time = time(|| {
         black_box(read(black_box(file), IN_FORCE).unwrap());
@@ -175,6 +202,7 @@ fn theirs(file: &[u8]) -> Parts {
     Parts { read: read_time, network, build: build_time, closest, both, whole }
 }
 
+/// Prints the times of one part.
 fn line(name: &str, ours: f64, plain: f64, theirs: f64) {
     let (slower, faster) = (ours / plain, theirs / ours);
     println!("  {name:8} {ours:10.1} {plain:10.1} {slower:6.1} {theirs:12.1} {faster:8.1}");
@@ -196,6 +224,19 @@ fn growth(sizes: [(usize, usize); 4]) {
     }
 }
 
+/// Ours and the plain loops on a file with weights and on the same one without.
+fn with_and_without(n: usize, m: usize) {
+    let without = file(n, m);
+    let with = weighted(&without, m);
+    let [a, b] = rounds_of_both(ours, [&with, &without]);
+    let [c, d] = rounds_of_both(plain_loops, [&with, &without]);
+    println!("{n} x {m}");
+    for (i, name) in NAMES.iter().enumerate() {
+        print!("  {name:8} {:10.1} {:10.1} {:6.2}", a[i], b[i], a[i] / b[i]);
+        println!(" {:12.1} {:10.1} {:6.2}", c[i], d[i], c[i] / d[i]);
+    }
+}
+
 fn main() {
     println!("microseconds; ours, plain loops and how many times as long ours takes,");
     println!("the reference and how many times as long it takes");
@@ -209,6 +250,9 @@ fn main() {
             line(name, a[i], b[i], c[i]);
         }
     }
+    println!("ours with weights, without, and how many times as long with them;");
+    println!("the same of plain loops");
+    with_and_without(64, 128);
     println!("growth of ours with n: {}, factor of the whole", NAMES.join(", "));
     growth([8, 16, 32, 64].map(|n| (n, 128)));
     println!("growth of ours with m: {}, factor of the whole", NAMES.join(", "));
