@@ -193,10 +193,12 @@ def as_before(file):
 
 
 def has_word(file):
+    """A file with a fourth field in line 1."""
     return fields_of_line_1(file) == 4
 
 
 def has_weights(file):
+    """A file whose line 2 is read as weights."""
     return first_field(file, 2) == b'V'
 
 

@@ -17,13 +17,14 @@ use Rattle.branching.specs.Placing.{AfterPlacing, noPlacement, place}
 unfoldable pub lastRow : ℕ → List ℕ → ℕ
 lastRow n tree = n + (taxaPlaced n tree - 2)
 
--- the placement of taxon b, by the rows of the matrix
+-- the placement of taxon b, by the rows of the matrix and the weights of the characters
 unfoldable pub placeIn : List ℤ → List ℕ → ℕ → ℕ → List ℕ → ℕ → AfterPlacing
 placeIn codes weights n m tree b = place (difference weights) n tree (rowsOf codes m (lastRow n tree)) b
 
 -- the matrix after it: behind the rows that were there, the row of the new HTU is written into its node's row
 unfoldable pub matrixPlaced : List ℤ → List ℕ → ℕ → ℕ → List ℕ → ℕ → List ℤ
-matrixPlaced codes weights n m tree b = withRows codes (suc (lastRow n tree)) (drop (lastRow n tree) (placeIn codes weights n m tree b .rows))
+matrixPlaced codes weights n m tree b =
+    withRows codes (suc (lastRow n tree)) (drop (lastRow n tree) (placeIn codes weights n m tree b .rows))
 
 -- what the questions of the placement say
 unfoldable pub placementSays : List ℤ → List ℕ → ℕ → ℕ → List ℕ → ℕ → Outcome (Unit {0})
@@ -34,5 +35,6 @@ placementSays codes weights n m tree b = askedSays (askPlacement codes weights n
 pub record PlacementDone (codes new : List ℤ) (weights : List ℕ) (n m : ℕ) (before : List ℕ) (b : ℕ) (r : Placed) : Type 0 where
   pub says : askedSays (r .asked) ≡ placementSays codes weights n m before b
   pub tree : ancestors (r .tree) ≡ afterwards (placementSays codes weights n m before b) (placeIn codes weights n m before b .tree) before
-  pub placement : r .placement ≡ afterwards (placementSays codes weights n m before b) (placeIn codes weights n m before b .placement) noPlacement
+  pub placement : r .placement
+      ≡ afterwards (placementSays codes weights n m before b) (placeIn codes weights n m before b .placement) noPlacement
   pub matrix : new ≡ afterwards (placementSays codes weights n m before b) (matrixPlaced codes weights n m before b) codes

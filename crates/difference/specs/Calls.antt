@@ -41,4 +41,5 @@ askMedians codes weights n m a b c out = ask (eqb (length out) columns) ListSize
 pub record MediansAnswer (codes : List ℤ) (weights : List ℕ) (n m a b c : ℕ) (old new : List ℤ) (r : Asked) : Type 0 where
   pub says : askedSays r ≡ askedSays (askMedians codes weights n m a b c old)
   pub lent : new
-      ≡ afterwards (askedSays (askMedians codes weights n m a b c old)) (over 0 (medians (row codes m a) (row codes m b) (row codes m c)) old) old
+      ≡ afterwards (askedSays (askMedians codes weights n m a b c old))
+      (over 0 (medians (row codes m a) (row codes m b) (row codes m c)) old) old

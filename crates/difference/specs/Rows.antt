@@ -44,6 +44,10 @@ unweighted [] ys = 0
 unweighted (x ∷ xs) [] = 0
 unweighted (x ∷ xs) (y ∷ ys) = apart x y + unweighted xs ys
 
+-- without weights two rows that pass the questions differ by at most 128 times 1998
+abbrev pub mostUnweighted : ℕ
+mostUnweighted = 255744
+
 -- how change is measured: the difference of two rows, and what one step between two states costs in character j
 pub record Measure : Type 0 where
   pub rows : List ℤ → List ℤ → ℕ

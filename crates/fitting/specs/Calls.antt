@@ -24,7 +24,7 @@ use Rattle.fitting.specs.declared.whole.Fit.{Fit}
 use Rattle.fitting.specs.declared.whole.Which.{Which}
 use Rattle.fitting.specs.declared.whole.Which.the-variants.{Low, High, Chosen}
 
--- r is the fitted total of a branching with a lent matrix of n taxa and m characters
+-- r is the fitted total of a branching with a lent matrix of n taxa and m characters, by its weights
 pub record TotalOf (codes : List ℤ) (weights : List ℕ) (n m : ℕ) (tree : List ℕ) (r : ℕ) : Type 0 where
   pub is : branchingWithin n tree ≡ true → LentMatrix codes n m → LentWeights weights m
       → r ≡ fittedTotal (weighing weights .step) tree (rowsOf codes m n) n m

@@ -75,10 +75,12 @@ pub record NoRivalInPrint (file : List ℕ) (job : Job) : Type 0 where
   pub whole : branching (job .n) (printed .built .tree) ≡ true
   pub assigns : IsAssignment (job .rows) (job .n) (job .m) (printed .chosen)
   pub t-length : total (measureMeant job .step) (printed .built .tree) (job .n) (job .m) (printed .chosen) ≡ printed .t
-  pub branch-lengths : (v : ℕ) → printed .lengths v ≡ branchLength (measureMeant job .step) (printed .built .tree) (job .m) (printed .chosen) v
+  pub branch-lengths : (v : ℕ)
+      → printed .lengths v ≡ branchLength (measureMeant job .step) (printed .built .tree) (job .m) (printed .chosen) v
   -- no assignment has a lower total
   pub no-states-shorter : (rival : ℕ → ℕ → ℤ) → IsAssignment (job .rows) (job .n) (job .m) rival
       → printed .t ≤ total (measureMeant job .step) (printed .built .tree) (job .n) (job .m) rival
   -- a state lies from the lowest to the highest of an `H` line exactly if the HTU has it in some assignment of least length
   pub range-exactly : (v j : ℕ) (s : ℤ) → job .n < v → v ≤ 2 * job .n - 2 → 1 ≤ j → j ≤ job .m
-      → ((printed .low v j ≤ℤ s) × (s ≤ℤ printed .high v j)) ↔ Occurs (measureMeant job .step) (printed .built .tree) (job .rows) (job .n) (job .m) v j s
+      → ((printed .low v j ≤ℤ s) × (s ≤ℤ printed .high v j))
+      ↔ Occurs (measureMeant job .step) (printed .built .tree) (job .rows) (job .n) (job .m) v j s

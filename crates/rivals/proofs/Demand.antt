@@ -1,13 +1,14 @@
 -- Demand 3 holds for every accepted matrix.
-use mathlib.Core.Path.{_≡_, subst, subst⁻¹}
+use mathlib.Core.Path.{_≡_, refl, subst, subst⁻¹}
 use mathlib.Core.Logic.{_↔_}
 use mathlib.Core.Bool.{true}
-use mathlib.Core.List.{List}
-use Prim.Native.Nat.{ℕ, _≤_}
+use mathlib.Core.List.{List, []}
+use Prim.Native.Nat.{ℕ, zero, suc, _≤_}
 use lib.IntN.{ℤ}
 use Rattle.matrix.specs.Shape.{weightAt}
 use Rattle.matrix.specs.NodeRows.{rowOf}
 use Rattle.matrix.specs.Questions.{withinLimits, oneTo, areWeights}
+use Rattle.lists.specs.Tests.{every}
 use Rattle.lists.proofs.Both.{and-left, and-right}
 use Rattle.matrix.proofs.Passing.{oneTo-true}
 use Rattle.difference.specs.Rows.{difference, weighing, plain, nodeDifference}
@@ -24,7 +25,7 @@ use Rattle.fitting.specs.Rival.{FitIsLeast}
 use Rattle.fitting.proofs.Matrix.ThirdRival.{third-rival}
 use Rattle.rivals.specs.Accepted.{Accepted}
 use Rattle.rivals.specs.Demand.{NoRivalDoesBetter}
-use Rattle.rivals.proofs.Rows.{accepted-rows}
+use Rattle.rivals.proofs.Rows.{MatrixRows, accepted-rows}
 use Rattle.rivals.proofs.Placements.{handed-least, wagner-least}
 
 -- n is from 1 to 64
@@ -43,12 +44,11 @@ fit-least : (weights : List ℕ) (n m : ℕ) (tree : List ℕ) (rows : List (Lis
     → branching n tree ≡ true → FitIsLeast (weighing weights .step) tree rows n m
 fit-least weights n m tree rows taxa known b = third-rival weights n m tree rows taxa known (branching-iff tree n taxa .0 b)
 
--- for every accepted matrix
-pub no-rival : (n m : ℕ) (weights : List ℕ) (rows : List (List ℤ)) → Accepted n m weights rows
+-- for n rows of m codes within the limits, by m weights
+rows-no-rival : (n m : ℕ) (weights : List ℕ) (rows : List (List ℤ)) → MatrixRows n m weights rows
     → NoRivalDoesBetter (weighing weights) n m rows
 unfolding lentBranching
-no-rival n m weights rows a =
-    let matrix = accepted-rows a in
+rows-no-rival n m weights rows matrix =
     let limits = taxa-limits n m (matrix .limits) in
     record {
       network = network-shortest weights rows n;
@@ -62,6 +62,31 @@ no-rival n m weights rows a =
           fit-least weights n m (ancestorsOf n records) rows (limits .0) (matrix .weighed) (and-right (namedInOrder n records) (branching n
           (ancestorsOf n records)) b);
     }
+
+-- for every accepted matrix, by its weights
+pub no-rival : (n m : ℕ) (weights : List ℕ) (rows : List (List ℤ)) → Accepted n m weights rows
+    → NoRivalDoesBetter (weighing weights) n m rows
+no-rival n m weights rows a = rows-no-rival n m weights rows (accepted-rows a)
+
+-- no weights are no other weights than 1
+none-known : (m : ℕ) → areWeights [] m ≡ true
+unfolding areWeights every
+none-known zero = refl
+none-known (suc m) = refl
+
+-- and for every accepted matrix the claim that document 01 makes of it, without weights
+pub no-rival-unweighted : (n m : ℕ) (weights : List ℕ) (rows : List (List ℤ)) → Accepted n m weights rows
+    → NoRivalDoesBetter plain n m rows
+unfolding weightAt
+no-rival-unweighted n m weights rows a =
+    let matrix = accepted-rows a in
+    subst (λ measure. NoRivalDoesBetter measure n m rows) (measure-alike [] (λ i. refl))
+    (rows-no-rival n m [] rows (record {
+      limits = matrix .limits;
+      weighed = none-known m;
+      count = matrix .count;
+      codes = matrix .codes;
+    }))
 
 -- where every character weighs 1 the claim is document 01's
 pub no-rival-alike : (n m : ℕ) (weights : List ℕ) (rows : List (List ℤ)) → ((i : ℕ) → weightAt weights i ≡ 1)

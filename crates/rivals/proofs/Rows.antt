@@ -45,17 +45,13 @@ pub record MatrixRows (n m : ℕ) (weights : List ℕ) (rows : List (List ℤ)) 
   pub count : length rows ≡ n
   pub codes : CodeRows m rows
 
--- the first m of m numbers are all of them
-take-whole : (m : ℕ) (xs : List ℕ) → length xs ≡ m → take m xs ≡ xs
-take-whole m xs e = take-all m xs (omega arith)
-
 -- such are the rows of a file that a read accepts
 rows-read : (file : List ℕ) (job : Job) → readAnswer file ≡ value job → MatrixRows (job .n) (job .m) (job .weights) (job .rows)
 rows-read file job e =
     let within = file-of-read file job e .0 in
     record {
       limits = within .limits;
-      weighed = unfold areWeights in ap (every isWeight) (take-whole (job .m) (job .weights) (within .weight-count)) ∙ within .weights-known;
+      weighed = unfold areWeights in ap (every isWeight) (take-all (job .m) (job .weights) (omega (arith, within .weight-count))) ∙ within .weights-known;
       count = within .row-count;
       codes = record { full = within .rows-full; known = within .codes-in-range };
     }

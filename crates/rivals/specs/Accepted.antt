@@ -19,7 +19,8 @@ use Rattle.branching.specs.Growing.{growingTree, rowOneAlone}
 -- questions 12, 4, 16 and 10
 pub data Accepted : ℕ → ℕ → List ℕ → List (List ℤ) → Type 0 where
   fileRead : (file : List ℕ) (job : Job) → readAnswer file ≡ value job → Accepted (job .n) (job .m) (job .weights) (job .rows)
-  matrixLent : (codes : List ℤ) (weights : List ℕ) (n m : ℕ) → askMatrix codes weights n m ≡ Passed → Accepted n m weights (rowsOf codes m n)
+  matrixLent : (codes : List ℤ) (weights : List ℕ) (n m : ℕ) → askMatrix codes weights n m ≡ Passed
+      → Accepted n m weights (rowsOf codes m n)
 
 -- rows of m codes from -999 to 999
 pub record CodeRows (m : ℕ) (rows : List (List ℤ)) : Type 0 where

@@ -34,9 +34,9 @@ buildSays codes weights n m = askedSays (askMatrix codes weights n m)
 unfoldable pub placementsIn : Order → List ℤ → List ℕ → ℕ → ℕ → List Placement
 placementsIn order codes weights n m = afterwards (buildSays codes weights n m) (wagnerIn order codes weights n m .placements) []
 
--- the answer for a lent matrix of n taxa and m characters in an order of placing: what the questions say; the Wagner tree, or row 1 alone
--- on a refusal; the placements, with zeros behind them, and their number; the matrix with the rows of the HTUs, or as before; the length
--- under the median codes
+-- the answer for a lent matrix of n taxa and m characters, by its weights and in an order of placing: what the questions say; the Wagner
+-- tree, or row 1 alone on a refusal; the placements, with zeros behind them, and their number; the matrix with the rows of the HTUs, or as
+-- before; the length under the median codes
 pub record BuildDone (order : Order) (codes new : List ℤ) (weights : List ℕ) (n m : ℕ) (r : WagnerTree) : Type 0 where
   pub says : askedSays (r .asked) ≡ buildSays codes weights n m
   pub tree : ancestors (r .tree) ≡ afterwards (buildSays codes weights n m) (wagnerIn order codes weights n m .tree) noBranches

@@ -64,6 +64,7 @@ fn all_weighing(data: &Data, weight: i32, count: usize) -> Data {
     other
 }
 
+/// Differences, interval differences and medians of the example by its weights.
 fn weighted(data: &Data) {
     apart(data, 4, 3, 1, 2);
     apart(data, 4, 3, 3, 4);
@@ -73,6 +74,7 @@ fn weighted(data: &Data) {
     medians(data, 4, 3, [4, 2, 3], 4);
 }
 
+/// Calls that the weights of this matrix have refused.
 fn refused_weights(data: &Data) {
     apart(data, 3, 3, 9, 9);
     interval(data, 2, 3, 1, 2, 2);

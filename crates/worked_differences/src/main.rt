@@ -176,6 +176,7 @@ fn weighted(codes: &mut [i32], weights: &[u8]) {
     print_weighted(codes, &weighing([9, 1, 4]));
 }
 
+// Prints differences, interval differences and medians of the example by these weights.
 fn print_weighted(codes: &[i32], weights: &[u8]) {
     print_length(calls::difference(codes, weights, 4, 3, 1, 2));
     print_length(calls::difference(codes, weights, 4, 3, 3, 4));

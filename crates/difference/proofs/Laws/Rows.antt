@@ -9,8 +9,9 @@ use lib.ListN.{length, getD, take, drop}
 use Rattle.matrix.specs.Shape.{inRange, isWeight, weightAt}
 use Rattle.lists.specs.Tests.{every}
 use Rattle.matrix.specs.Questions.{allInRange, areWeights}
-use Rattle.difference.specs.Rows.{part, median, difference, mostDifference, medians, intervalDifference, intervalBy}
-use Rattle.difference.proofs.Laws.Codes.{median-swap, median-rotate, median-inRange}
+use Rattle.difference.specs.Rows.{part, median, difference, mostDifference, unweighted, mostUnweighted}
+use Rattle.difference.specs.Rows.{medians, intervalDifference, intervalBy}
+use Rattle.difference.proofs.Laws.Codes.{apart-inRange, median-swap, median-rotate, median-inRange}
 use Rattle.difference.proofs.Laws.Weights.{part-sym, part-self, part-zero, part-triangle, part-between, part-inRange}
 use Rattle.difference.proofs.Laws.Weights.{weight-within, weightAt-drop, areWeights-first}
 
@@ -72,6 +73,21 @@ difference-most weights (x ∷ xs) (y ∷ ys) w h k =
 pub difference-limit : (weights : List ℕ) (xs ys : List ℤ) → areWeights weights (length xs) ≡ true → allInRange xs ≡ true
     → allInRange ys ≡ true → length xs ≤ 128 → difference weights xs ys ≤ mostDifference
 difference-limit weights xs ys w h k l = omega (arith, difference-most weights xs ys w h k)
+
+-- without weights rows with codes in range differ by at most 1998 a character
+unweighted-most : (xs ys : List ℤ) → allInRange xs ≡ true → allInRange ys ≡ true → unweighted xs ys ≤ 1998 * length xs
+unfolding unweighted allInRange every
+unweighted-most [] ys h k = omega arith
+unweighted-most (x ∷ xs) [] h k = omega arith
+unweighted-most (x ∷ xs) (y ∷ ys) h k =
+    let hx = and-eq-true-iff (inRange x) (allInRange xs) .0 h in
+    let hy = and-eq-true-iff (inRange y) (allInRange ys) .0 k in
+    omega (arith, apart-inRange x y (hx .0) (hy .0), unweighted-most xs ys (hx .1) (hy .1))
+
+-- and rows of at most 128 codes in range by at most 255,744
+pub unweighted-limit : (xs ys : List ℤ) → allInRange xs ≡ true → allInRange ys ≡ true → length xs ≤ 128
+    → unweighted xs ys ≤ mostUnweighted
+unweighted-limit xs ys h k l = omega (arith, unweighted-most xs ys h k)
 
 -- the difference over one more character has that character's part besides
 pub difference-take-suc : (j : ℕ) (weights : List ℕ) (xs ys : List ℤ) → j < length xs → j < length ys

@@ -48,6 +48,22 @@ module _ (one other : ℕ → ℤ → ℤ → ℕ) (tree : List ℕ) (rows : Lis
   pub occurs-same : (v j : ℕ) (s : ℤ) → Occurs one tree rows n m v j s → Occurs other tree rows n m v j s
   occurs-same v j s o = record { states = o .states; isLeast = isLeast-same (o .states) (o .isLeast); here = o .here }
 
+-- then the claim about the third rival by one is that by the other
+pub least-same : (one other : ℕ → ℤ → ℤ → ℕ) (tree : List ℕ) (rows : List (List ℤ)) (n m : ℕ)
+    → ((states : ℕ → ℕ → ℤ) → total one tree n m states ≡ total other tree n m states)
+    → FitIsLeast one tree rows n m → FitIsLeast other tree rows n m
+unfolding fittedTotal
+least-same one other tree rows n m same claim = record {
+  assigns = claim .assigns;
+  lengths = lengths-total other n m tree rows;
+  least = λ states h. omega (arith, claim .least states h, same (chosenState tree rows n), same states);
+  ranges = λ v j s first last start end.
+      let own = claim .ranges v j s first last start end in (
+        λ i. occurs-same one other tree rows n m same v j s (own .0 i),
+        λ o. own .1 (occurs-same other one tree rows n m (λ f. sym (same f)) v j s o),
+      );
+}
+
 module _ (weights : List ℕ) (n m : ℕ) (tree : List ℕ) (rows : List (List ℤ))
     (alike : (j : ℕ) → 1 ≤ j → j ≤ m → weightOf weights j ≡ 1) where
   -- where every character weighs 1 the total of any assignment is that by document 01's measure
@@ -62,15 +78,8 @@ module _ (weights : List ℕ) (n m : ℕ) (tree : List ℕ) (rows : List (List �
       step-alike weights j (alike j (w .0) (omega (arith, w .1))) (states v j) (states (ancestor tree v) j)))
 
   -- and the claim about the third rival is document 01's
-  pub least-alike : FitIsLeast (weighing weights .step) tree rows n m → FitIsLeast (plain .step) tree rows n m
-  unfolding fittedTotal
-  least-alike claim = record {
-    assigns = claim .assigns;
-    lengths = lengths-total (plain .step) n m tree rows;
-    least = λ states h. omega (arith, claim .least states h, total-alike (chosenState tree rows n), total-alike states);
-    ranges = λ v j s first last one end.
-        let own = claim .ranges v j s first last one end in (
-          λ i. occurs-same (weighing weights .step) (plain .step) tree rows n m total-alike v j s (own .0 i),
-          λ o. own .1 (occurs-same (plain .step) (weighing weights .step) tree rows n m (λ f. sym (total-alike f)) v j s o),
-        );
-  }
+  pub least-alike : FitIsLeast (weighing weights .step) tree rows n m ↔ FitIsLeast (plain .step) tree rows n m
+  least-alike = (
+    least-same (weighing weights .step) (plain .step) tree rows n m total-alike,
+    least-same (plain .step) (weighing weights .step) tree rows n m (λ f. sym (total-alike f)),
+  )

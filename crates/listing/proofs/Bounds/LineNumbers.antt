@@ -1,6 +1,6 @@
 -- The line that a refusal gives is at most 67: a line behind the 64 rows, line 1 and the `V` line.
 use mathlib.Core.Path.{_≡_, refl}
-use mathlib.Core.Bool.{Bool, true, false}
+use mathlib.Core.Bool.{true}
 use mathlib.Core.List.{List, [], _∷_}
 use Prim.Native.Nat.{ℕ, zero, suc, _+_, _≤_}
 use native.Mathlib.Nat.{add-zero}
@@ -15,8 +15,8 @@ use Rattle.matrix_file.specs.declared.answer.Header.{Header}
 use Rattle.matrix_file.specs.Lines.{linesOf}
 use Rattle.matrix_file.specs.Header.{headerIn, rowLine, behindHeader, firstLineForm, firstFields, orderKnown, askFirstLine, askWeights}
 use Rattle.matrix_file.specs.Header.{askHeader}
-use Rattle.matrix_file.specs.Optional.{linesTaken}
 use Rattle.matrix.proofs.Passing.{ask-passed}
+use Rattle.matrix_file.proofs.File.OptionalWalk.{taken-most}
 use Rattle.matrix_file.specs.Rows.{nameIn, askRow, askRows}
 use Rattle.matrix_file.specs.Reading.{jobOf, nothingMore, askEnd, askBehind, askFile, askLength, readAnswer}
 use Rattle.listing.proofs.Totals.{Limits, limits}
@@ -56,11 +56,6 @@ first-limits lines passed =
     let form = ask-passed (firstLineForm lines) FirstLine _ passed in
     let order = ask-passed (orderKnown (firstFields lines)) UnknownOrder _ (form .1) in
     ask-passed (withinLimits (headerIn lines .n) (headerIn lines .m)) BeyondLimits Passed (order .1) .0
-
--- an optional line takes at most one
-taken-most : (there : Bool) → linesTaken there ≤ 1
-taken-most true = omega arith
-taken-most false = omega arith
 
 -- the questions on what stands behind a header of at most 64 taxa
 behind-lines : (header : Header) (lines : List (List ℕ)) → header .n ≤ 64 → LineWithin mostLines (askBehind header lines)
