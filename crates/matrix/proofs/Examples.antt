@@ -1,4 +1,4 @@
--- Computed: the numbers of all refusals, what answers say, what lent memory then holds, and the questions put to weights.
+-- Computed: the numbers of all refusals, what answers say, what lent memory then holds, sizes, and the questions put to weights.
 use mathlib.Core.Path.{_≡_, refl}
 use mathlib.Core.Bool.{true, false}
 use mathlib.Core.List.{List, [], _∷_, map}
@@ -15,6 +15,7 @@ use Rattle.matrix.specs.declared.refusal.Refusal.{Refusal}
 use Rattle.matrix.specs.declared.refusal.Refusal.the-variants.{FileTooLong, FileEmpty, FirstLine, BeyondLimits, LineMissing}
 use Rattle.matrix.specs.declared.refusal.Refusal.the-variants.{NameForm, NameTaken, FieldCount, CodeForm, CodeRange, FileGoesOn}
 use Rattle.matrix.specs.declared.refusal.Refusal.the-variants.{ListSize, NotThere, NotBranching, UnknownOrder, WeightForm}
+use Rattle.matrix.specs.declared.refusal.Asked.{Asked}
 use Rattle.matrix.specs.declared.refusal.Asked.the-variants.{Passed, Refused}
 
 -- every refusal, in the order of the papers' numbers
@@ -84,6 +85,24 @@ ones size = replicate size 1
 -- lent weights of which the first is 0
 abbrev badWeight : List ℕ
 badWeight = set (ones columns) 0 0
+
+-- a matrix of zeros of some size, asked for two taxa and one character
+abbrev sized : ℕ → Asked
+sized size = askMatrix (replicate size (pos 0)) (ones columns) 2 1
+
+-- what a matrix and its items are counted by
+pub record SizeExamples : Type 0 where
+  -- items are counted from 1 to the last
+  pub counted : map (oneTo 3) (0 ∷ 1 ∷ 3 ∷ 4 ∷ []) ≡ false ∷ true ∷ true ∷ false ∷ []
+  -- 16,128 codes pass, fewer and more are 12
+  pub full : sized 16128 ≡ Passed
+  pub fewer : sized 16127 ≡ Refused ListSize
+  pub more : sized 16129 ≡ Refused ListSize
+
+-- they are as said
+pub size-examples : SizeExamples
+unfolding numbers every row inRange oneTo withinLimits allInRange rowsInRange isWeight areWeights askMatrix
+size-examples = record { counted = refl; full = refl; fewer = refl; more = refl }
 
 -- weights, and their questions among those on a matrix of two taxa and one character
 pub record WeightExamples : Type 0 where

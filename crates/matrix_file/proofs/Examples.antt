@@ -232,7 +232,7 @@ too-long : read (replicate 45001 65) ≡ refused 1 0
 unfolding read
 too-long = refl
 
--- 64 taxa pass, 65 is 4; equal rows under different names pass: taxa `t1`, `t2`, ... with the same row, behind a `V` line
+-- 64 taxa pass, 65 is 4; equal rows under different names pass: taxa `t1`, `t2`, ... with the same row
 alike : ℕ → Job
 unfolding digitsIn digitsOf numbers
 alike n =
@@ -240,8 +240,8 @@ alike n =
       n = n;
       m = 1;
       order = Unsaid;
-      weighed = true;
-      weights = 7 ∷ [];
+      weighed = false;
+      weights = 1 ∷ [];
       names = map (λ k. 116 ∷ digitsOf k) (numbers 1 n);
       rows = replicate n (pos 0 ∷ []);
     }
