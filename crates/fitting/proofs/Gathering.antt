@@ -13,6 +13,7 @@ use Rattle.lists.specs.Numbers.{numbers}
 use Rattle.lists.specs.Over.{stripes}
 use Rattle.lists.specs.Sums.{sumOver}
 use Rattle.lists.proofs.Filled.{getD-replicate}
+use Rattle.lists.proofs.Maps.{map-same}
 use Rattle.lists.proofs.Numbers.{numbers-within, length-numbers}
 use Rattle.lists.proofs.Sums.{sum-most}
 use Rattle.matrix.specs.Shape.{columns, rowStart, lastNode, inRange, weightOf}
@@ -38,18 +39,13 @@ use Rattle.fitting.proofs.Rewriting.{written-none, written-next}
 use Rattle.fitting.proofs.Matrix.OnlyCodes.{chosenState-each}
 use Rattle.fitting.proofs.Pass.Standing.{branching-parts, taxa-most, grown-of, last-several}
 
--- lists of what is the same for each number of a list are the same
-map-on : {A : Type 0} (f g : ℕ → A) (vs : List ℕ) → ((v : ℕ) → List·Memᴰ v vs → f v ≡ g v) → map f vs ≡ map g vs
-map-on f g [] same = refl
-map-on f g (v ∷ vs) same = ap₂ (λ x xs. x ∷ xs) (same v (List·Memᴰ·head refl)) (map-on f g vs (λ u m. same u (List·Memᴰ·tail m)))
-
 -- a column of what is the same for each HTU is the same
 column-same : (n j : ℕ) (f g : ℕ → ℤ) (old : List ℤ) → ((v : ℕ) → n < v → v ≤ 2 * n - 2 → f v ≡ g v)
     → withColumn n j f old ≡ withColumn n j g old
 unfolding withColumn
 column-same n j f g old same =
     ap (λ (items : List (List ℤ)). stripes columns (rowStart (n + 1) + (j - 1)) items old)
-    (map-on (λ v. f v ∷ []) (λ v. g v ∷ []) (numbers (n + 1) (n - 2))
+    (map-same (λ v. f v ∷ []) (λ v. g v ∷ []) (numbers (n + 1) (n - 2))
     (λ v m. let w = numbers-within (n + 1) (n - 2) v m in ap (λ z. z ∷ []) (same v (omega (arith, w .0)) (omega (arith, w .1)))))
 
 -- before the first character nothing is written, every length is 0 and no branch is marked

@@ -1,5 +1,5 @@
 -- What passed questions tell of a lent branching: the matrix is lent, and the tree that the records give is a branching.
-use mathlib.Core.Path.{_≡_, sym, _∙_}
+use mathlib.Core.Path.{_≡_, sym, ap, _∙_}
 use mathlib.Core.Bool.{true, and-eq-true-iff}
 use mathlib.Core.List.{List}
 use Prim.Native.Nat.{ℕ}
@@ -19,6 +19,7 @@ use Rattle.branching.specs.Within.{branchingWithin}
 use Rattle.branching.specs.Branches.{lentBranching, namedInOrder, placesOf, ancestorsOf}
 use Rattle.branching.specs.Asking.{askBranching, branchesSize}
 use Rattle.branching.proofs.Lending.{lent-places, places-ancestors}
+use Rattle.fitting.specs.Fit.{fittedTotal}
 use Rattle.fitting.specs.Calls.{TotalOf, totalAnswer}
 use Rattle.fitting.proofs.SameTree.{total-same}
 
@@ -52,11 +53,19 @@ branching-passed codes weights n m records e =
     let lent = matrix-passes codes weights n m .0 (both .0) in
     (lent .0, lent .1, places-branching codes n m records (lent .0) (ask-passed (lentBranching n records) NotBranching Passed (both .1) .0))
 
--- the fitted total of a lent branching that no question refuses
-pub total-passed : (codes : List ℤ) (weights : List ℕ) (n m : ℕ) (records : List Branch) (tree : List ℕ) (r : ℕ) → askBranching codes weights n m records ≡ Passed
-    → tree ≡ placesOf n records → TotalOf codes weights n m tree r → value r ≡ totalAnswer codes weights n m records
-unfolding totalAnswer
-total-passed codes weights n m records tree r e is of =
+-- what is found of a lent branching that no question refuses is its fitted total
+pub total-is : (codes : List ℤ) (weights : List ℕ) (n m : ℕ) (records : List Branch) (tree : List ℕ) (r : ℕ)
+    → askBranching codes weights n m records ≡ Passed → tree ≡ placesOf n records → TotalOf codes weights n m tree r
+    → r ≡ fittedTotal (weighing weights .step) (ancestorsOf n records) (rowsOf codes m n) n m
+total-is codes weights n m records tree r e is of =
     let passed = branching-passed codes weights n m records e in
-    let same = total-same (placesOf n records) (ancestorsOf n records) (places-ancestors n records) (rowsOf codes m n) n (weighing weights .step) m in
-    rw (e, of .is (rw is (passed .2)) (passed .0) (passed .1), is, same)
+    of .is (rw is (passed .2)) (passed .0) (passed .1)
+    ∙ ap (λ places. fittedTotal (weighing weights .step) places (rowsOf codes m n) n m) is
+    ∙ total-same (placesOf n records) (ancestorsOf n records) (places-ancestors n records) (rowsOf codes m n) n (weighing weights .step) m
+
+-- so the call for it answers that
+pub total-passed : (codes : List ℤ) (weights : List ℕ) (n m : ℕ) (records : List Branch) (tree : List ℕ) (r : ℕ)
+    → askBranching codes weights n m records ≡ Passed → tree ≡ placesOf n records → TotalOf codes weights n m tree r
+    → value r ≡ totalAnswer codes weights n m records
+unfolding totalAnswer
+total-passed codes weights n m records tree r e is of = rw (e, total-is codes weights n m records tree r e is of)

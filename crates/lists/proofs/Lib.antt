@@ -2,6 +2,7 @@
 pub mod Both
 pub mod Every
 pub mod Keep
+pub mod Maps
 pub mod Sums
 pub mod Numbers
 pub mod Least

@@ -61,6 +61,21 @@ abbrev pub EachFitted : (ℕ → ℤ → ℤ → ℕ) → (n m : ℕ) (tree : Li
 EachFitted step n m tree rows cladeOf = (j : ℕ) → 1 ≤ j → j ≤ m →
     CharacterFit (step j) (character rows j) (cladeOf .clade) (λ v. chosenState tree rows n v j) (λ v s. In s (range tree rows n v j))
 
+-- the cost of character j under an assignment, over the clade of a branching
+abbrev pub costOf : (ℕ → ℤ → ℤ → ℕ) → (n : ℕ) (tree : List ℕ) → CladeOf n tree → (ℕ → ℕ → ℤ) → ℕ → ℕ
+costOf step n tree cladeOf states j = cost (step j) (λ v. states v j) (states 1 j) (cladeOf .clade)
+
+-- the total of an assignment is the sum of its characters' costs
+pub total-cost : (step : ℕ → ℤ → ℤ → ℕ) (n m : ℕ) (tree : List ℕ) (cladeOf : CladeOf n tree) (states : ℕ → ℕ → ℤ)
+    → total step tree n m states ≡ sumOver (costOf step n tree cladeOf states) (numbers 1 m)
+unfolding total branchLength
+total-cost step n m tree cladeOf states = sum-swap (λ v j. step j (states v j) (states (ancestor tree v) j)) (otherNodes n) (numbers 1 m)
+    ∙ sum-same (λ j. sumOver (λ v. step j (states v j) (states (ancestor tree v) j)) (otherNodes n)) (costOf step n tree cladeOf states)
+    (numbers 1 m)
+    (λ j m. sym
+    (cost-sumClade (step j) n tree (λ v. states v j) (states 1 j) (cladeOf .clade) (cladeOf .isMade) (ap (λ v. states v j) (cladeOf .fromRow1))
+    ∙ cladeOf .sums (λ v. step j (states v j) (states (ancestor tree v) j))))
+
 module _ (step : ℕ → ℤ → ℤ → ℕ) (n m : ℕ) (tree : List ℕ) (rows : List (List ℤ)) (several : 2 ≤ n) (cladeOf : CladeOf n tree)
     (fits : EachFitted step n m tree rows cladeOf) where
   -- the clade of the branching
@@ -68,26 +83,17 @@ module _ (step : ℕ → ℤ → ℤ → ℕ) (n m : ℕ) (tree : List ℕ) (row
   clade = cladeOf .clade
 
   -- the cost of character j under an assignment
-  abbrev costOf : (ℕ → ℕ → ℤ) → ℕ → ℕ
-  costOf states j = cost (step j) (λ v. states v j) (states 1 j) clade
+  abbrev costIn : (ℕ → ℕ → ℤ) → ℕ → ℕ
+  costIn = costOf step n tree cladeOf
 
   -- the chosen states
   abbrev ours : ℕ → ℕ → ℤ
   ours = chosenState tree rows n
 
-  -- the total of an assignment is the sum of its characters' costs
-  total-cost : (states : ℕ → ℕ → ℤ) → total step tree n m states ≡ sumOver (costOf states) (numbers 1 m)
-  unfolding total branchLength
-  total-cost states = sum-swap (λ v j. step j (states v j) (states (ancestor tree v) j)) (otherNodes n) (numbers 1 m)
-      ∙ sum-same (λ j. sumOver (λ v. step j (states v j) (states (ancestor tree v) j)) (otherNodes n)) (costOf states) (numbers 1 m)
-      (λ j m. sym
-      (cost-sumClade (step j) n tree (λ v. states v j) (states 1 j) clade (cladeOf .isMade) (ap (λ v. states v j) (cladeOf .fromRow1))
-      ∙ cladeOf .sums (λ v. step j (states v j) (states (ancestor tree v) j))))
-
   -- the fitted total is the sum of the characters' costs under the chosen states
-  fittedTotal-cost : fittedTotal step tree rows n m ≡ sumOver (costOf ours) (numbers 1 m)
+  fittedTotal-cost : fittedTotal step tree rows n m ≡ sumOver (costIn ours) (numbers 1 m)
   unfolding fittedTotal
-  fittedTotal-cost = total-cost ours
+  fittedTotal-cost = total-cost step n m tree cladeOf ours
 
   -- the chosen states are an assignment
   fit-assigns : IsAssignment rows n m ours
@@ -108,16 +114,16 @@ module _ (step : ℕ → ℤ → ℤ → ℕ) (n m : ℕ) (tree : List ℕ) (row
         keeps-of n tree (character rows j) (λ v. states v j) clade (cladeOf .isMade) (λ v p q. assignment .keeps v j (omega arith) q r l)
 
     -- in an assignment character j costs what it costs below row 1's code
-    cost-character : costOf states j ≡ cost (step j) (λ v. states v j) (character rows j 1) clade
+    cost-character : costIn states j ≡ cost (step j) (λ v. states v j) (character rows j 1) clade
     cost-character = ap (λ y. cost (step j) (λ v. states v j) y clade) (assignment .keeps 1 j (omega arith) (omega arith) r l)
 
   -- under the chosen states a character has its least cost
-  chosen-cost : (j : ℕ) (r : 1 ≤ j) (l : j ≤ m) → costOf ours j ≡ fits j r l .least
+  chosen-cost : (j : ℕ) (r : 1 ≤ j) (l : j ≤ m) → costIn ours j ≡ fits j r l .least
   chosen-cost j r l = cost-character ours fit-assigns j r l ∙ fits j r l .costs
 
   -- in every assignment a character costs at least as much
   cost-least : (states : ℕ → ℕ → ℤ) → IsAssignment rows n m states → (j : ℕ) → List·Memᴰ j (numbers 1 m) →
-      costOf ours j ≤ costOf states j
+      costIn ours j ≤ costIn states j
   cost-least states assignment j i =
       let w = numbers-within 1 m j i in
       let l : j ≤ m = omega arith in
@@ -134,8 +140,8 @@ module _ (step : ℕ → ℤ → ℤ → ℕ) (n m : ℕ) (tree : List ℕ) (row
       omega (
         arith,
         fittedTotal-cost,
-        total-cost states,
-        sum-le (costOf ours) (costOf states) (numbers 1 m) (cost-least states assignment),
+        total-cost step n m tree cladeOf states,
+        sum-le (costIn ours) (costIn states) (numbers 1 m) (cost-least states assignment),
       )
 
   -- the chosen states are an assignment of least length
@@ -145,12 +151,12 @@ module _ (step : ℕ → ℤ → ℤ → ℕ) (n m : ℕ) (tree : List ℕ) (row
 
   -- in an assignment of least length every character has its least cost
   least-each : (states : ℕ → ℕ → ℤ) → IsLeast step tree rows n m states → (j : ℕ) (r : 1 ≤ j) (l : j ≤ m) →
-      costOf states j ≡ fits j r l .least
+      costIn states j ≡ fits j r l .least
   least-each states isLeast j r l =
       let i = numbers-among 1 m j r (omega arith) in
       le-antisymm
-      (sum-tight (costOf ours) (costOf states) (numbers 1 m) (cost-least states (isLeast .assigns))
-      (omega (arith, total-cost ours, total-cost states, isLeast .least ours fit-assigns)) j i)
+      (sum-tight (costIn ours) (costIn states) (numbers 1 m) (cost-least states (isLeast .assigns))
+      (omega (arith, total-cost step n m tree cladeOf ours, total-cost step n m tree cladeOf states, isLeast .least ours fit-assigns)) j i)
       (cost-least states (isLeast .assigns) j i)
       ∙ chosen-cost j r l
 
@@ -185,7 +191,7 @@ module _ (step : ℕ → ℤ → ℤ → ℕ) (n m : ℕ) (tree : List ℕ) (row
         go false e = refl
 
     -- it costs as much as the chosen states
-    inCharacter-cost : cost (step j) inCharacter (inCharacter 1) clade ≡ costOf ours j
+    inCharacter-cost : cost (step j) inCharacter (inCharacter 1) clade ≡ costIn ours j
     inCharacter-cost =
         ap (λ y. cost (step j) inCharacter y clade) (inCharacter-taxon 1 (omega arith))
         ∙ cost-agree (step j) inCharacter (attained .states) (character rows j 1) clade inCharacter-agrees
@@ -207,19 +213,19 @@ module _ (step : ℕ → ℤ → ℤ → ℕ) (n m : ℕ) (tree : List ℕ) (row
         go w i h keeps false e = keeps
 
     -- under it every character costs as much as under the chosen states
-    together-cost : (i : ℕ) → costOf together i ≡ costOf ours i
+    together-cost : (i : ℕ) → costIn together i ≡ costIn ours i
     unfolding together
     together-cost i = go (eqb i j) refl
       where
         go : (t : Bool) → eqb i j ≡ t →
-            cost (step i) (λ w. cond t (inCharacter w) (ours w i)) (cond t (inCharacter 1) (ours 1 i)) clade ≡ costOf ours i
-        go true e = subst (λ k. cost (step k) inCharacter (inCharacter 1) clade ≡ costOf ours k) (sym (eqb-true i j e)) inCharacter-cost
+            cost (step i) (λ w. cond t (inCharacter w) (ours w i)) (cond t (inCharacter 1) (ours 1 i)) clade ≡ costIn ours i
+        go true e = subst (λ k. cost (step k) inCharacter (inCharacter 1) clade ≡ costIn ours k) (sym (eqb-true i j e)) inCharacter-cost
         go false e = refl
 
     -- its total is the fitted total
     together-total : total step tree n m together ≡ fittedTotal step tree rows n m
-    together-total = total-cost together
-        ∙ sum-same (costOf together) (costOf ours) (numbers 1 m) (λ i m. together-cost i)
+    together-total = total-cost step n m tree cladeOf together
+        ∙ sum-same (costIn together) (costIn ours) (numbers 1 m) (λ i m. together-cost i)
         ∙ sym fittedTotal-cost
 
     -- it is an assignment of least length in which node v has state s
