@@ -37,6 +37,8 @@ use Rattle.fitting.specs.Clades as fitting-Clades
 use Rattle.fitting.specs.Character as fitting-Character
 use Rattle.fitting.specs.Assignments as fitting-Assignments
 use Rattle.fitting.specs.Fit as fitting-Fit
+use Rattle.consistency.specs.Floor as consistency-Floor
+use Rattle.consistency.specs.Index as consistency-Index
 use Rattle.listing.specs.Lines as listing-Lines
 use Rattle.listing.specs.Blocks as listing-Blocks
 use Rattle.listing.specs.Listing as listing-Listing
@@ -81,10 +83,11 @@ unfolding flatMap matrix-Shape.row matrix-Shape.inRange matrix-Shape.lastNode li
     fitting-Sets.middle fitting-Clades.above fitting-Clades.cladeAt fitting-Clades.cladesBelow fitting-Character.valueAt
     fitting-Character.up fitting-Character.chosen fitting-Character.ranges fitting-Assignments.character
     fitting-Assignments.branchLength fitting-Assignments.total fitting-Fit.chosenState fitting-Fit.range fitting-Fit.fittedLength
-    fitting-Fit.fittedTotal fitting-Fit.marked listing-Lines.line listing-Lines.hyphen listing-Lines.htuName listing-Lines.nodeName
-    listing-Blocks.totalLine listing-Blocks.mark listing-Blocks.primLine listing-Blocks.wagnerLine listing-Blocks.branchLine
+    fitting-Fit.fittedTotal fitting-Fit.marked consistency-Floor.lowest consistency-Floor.highest consistency-Floor.codesOf
+    consistency-Floor.characterFloor consistency-Floor.floor consistency-Index.index listing-Lines.line listing-Lines.hyphen listing-Lines.htuName listing-Lines.nodeName
+    listing-Blocks.totalLine listing-Blocks.indexLine listing-Blocks.mark listing-Blocks.primLine listing-Blocks.wagnerLine listing-Blocks.branchLine
     listing-Blocks.stateLine listing-Blocks.fittedLine
     listing-Blocks.rangeLine listing-Blocks.fittedLines listing-Blocks.rangeLines listing-Listing.primBlock listing-Listing.wagnerBlock
-    listing-Listing.fittedBlock listing-Listing.rangeBlock listing-Listing.blocks listing-Listing.listing listing-Listing.refusalLine
+    listing-Listing.fittedBlock listing-Listing.indexBlock listing-Listing.rangeBlock listing-Listing.blocks listing-Listing.listing listing-Listing.refusalLine
     listing-Listing.printed listing-Listing.listingOf listing-Listing.output
 computed lines = listing-Listing.output (flatMap matrix-file-Text.bytes lines)

@@ -12,13 +12,13 @@ text lines = flatMap bytes lines
 
 -- two taxa: one line of each kind but `H`
 two-taxa : computed ("W\t2\t1\n" ∷ "A\t-999\n" ∷ "b_2\t999\n" ∷ [])
-    ≡ text ("P\tb_2\tA\t1998\n" ∷ "p\t1998\n" ∷ "W\tb_2\t-\tA\t-\t1998\n" ∷ "w\t1998\n" ∷ "T\tb_2\tA\t1998\t+\n" ∷ "t\t1998\n" ∷ [])
+    ≡ text ("P\tb_2\tA\t1998\n" ∷ "p\t1998\n" ∷ "W\tb_2\t-\tA\t-\t1998\n" ∷ "w\t1998\n" ∷ "T\tb_2\tA\t1998\t+\n" ∷ "t\t1998\n" ∷ "c\t1000\t0\n" ∷ [])
 unfolding computed text flatMap bytes
 two-taxa = refl
 
 -- two taxa with equal rows: the branch has length 0 and is marked `-`
 equal-rows : computed ("W\t2\t1\n" ∷ "A\t3\n" ∷ "B\t3\n" ∷ [])
-    ≡ text ("P\tB\tA\t0\n" ∷ "p\t0\n" ∷ "W\tB\t-\tA\t-\t0\n" ∷ "w\t0\n" ∷ "T\tB\tA\t0\t-\n" ∷ "t\t0\n" ∷ [])
+    ≡ text ("P\tB\tA\t0\n" ∷ "p\t0\n" ∷ "W\tB\t-\tA\t-\t0\n" ∷ "w\t0\n" ∷ "T\tB\tA\t0\t-\n" ∷ "t\t0\n" ∷ "c\t-\t-\n" ∷ [])
 unfolding computed text flatMap bytes
 equal-rows = refl
 
@@ -40,6 +40,7 @@ weighed : computed ("W\t3\t2\n" ∷ "V\t3\t2\n" ∷ "A\t0\t0\n" ∷ "B\t2\t1\n" 
     ∷ "T\tC\t#1\t2\t+\n"
     ∷ "T\t#1\tA\t6\t+\n"
     ∷ "t\t10\n"
+    ∷ "c\t1000\t0\n"
     ∷ "H\t#1\t1\t2\t2\t2\n"
     ∷ "H\t#1\t2\t0\t0\t0\n"
     ∷ [])
@@ -84,6 +85,7 @@ fiveListed =
     ∷ "T\t#2\tA\t2\t+\n"
     ∷ "T\t#3\t#1\t1\t+\n"
     ∷ "t\t10\n"
+    ∷ "c\t700\t0\n"
     ∷ "H\t#1\t1\t-1\t-1\t-1\n"
     ∷ "H\t#1\t2\t-2\t-1\t-2\n"
     ∷ "H\t#1\t3\t0\t1\t1\n"

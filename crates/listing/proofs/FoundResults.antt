@@ -29,21 +29,25 @@ use Rattle.wagner.specs.Matrix.{matrixAfter}
 use Rattle.wagner.specs.Answers.{wagnerIn, buildSays, placementsIn, BuildDone}
 use Rattle.wagner.proofs.StillLent.{still-lent, same-taxa}
 use Rattle.fitting.specs.Calls.{FitOf, TreeFitted, statesWritten}
-use Rattle.fitting.specs.Fit.{statesIn}
+use Rattle.fitting.specs.Fit.{statesIn, fittedTotal}
 use Rattle.fitting.specs.declared.whole.Fit.{Fit}
 use Rattle.fitting.specs.declared.whole.Which.the-variants.{Low, High, Chosen}
 use Rattle.fitting.specs.Handing.{stateAt}
 use Rattle.fitting.proofs.Handed.{state-written}
+use Rattle.consistency.specs.declared.index.Index.{Index}
+use Rattle.consistency.specs.Index.{index}
+use Rattle.consistency.specs.Calls.{lentFloor, FloorOf, IndexOf}
+use Rattle.consistency.proofs.Columns.{floor-most}
 use Rattle.rivals.proofs.Lent.{same-network}
 use Rattle.rivals.proofs.Built.{built-whole}
 use Rattle.listing.specs.Meant.{orderMeant}
 use Rattle.listing.specs.declared.job.Results.{Results}
 use Rattle.listing.specs.Lines.{joined}
-use Rattle.listing.specs.Blocks.{totalLine}
+use Rattle.listing.specs.Blocks.{totalLine, indexLine}
 use Rattle.listing.specs.Listing.{listing}
 use Rattle.listing.specs.Handed.{namesIn, HoldsNames, HoldsPlacements, HoldsFit, HoldsStates, primTexts, wagnerTexts, fittedTexts, stateTexts}
 use Rattle.listing.specs.Found.{StateLists, Listable, ResultsOf, resultTexts, heldJob}
-use Rattle.listing.proofs.Parts.{linksOf, builtOf, primLines, wagnerLines, treeLines, htuLines, primTotal, wagnerTotal, treeTotal, listing-text}
+use Rattle.listing.proofs.Parts.{linksOf, builtOf, primLines, wagnerLines, treeLines, htuLines, primTotal, wagnerTotal, treeTotal, treeIndex, listing-text}
 use Rattle.listing.proofs.HandedTexts.{links-within, placements-within, prim-text, wagner-text, fitted-text, range-text}
 
 -- a block with the line of its total, and what follows it
@@ -99,6 +103,11 @@ module _ (header : Header) (order : Order) (meant : order ≡ orderMeant (header
       (record { lengthAt = found .fit .lengths; markAt = found .fit .marks }))
       (ap (totalLine "t") (found .fit .total)))
 
+  -- the line `c`
+  index-put : indexLine (r .index) ≡ treeIndex measure job
+  unfolding wagnerIn
+  index-put = ap indexLine (found .index)
+
   -- the `H` lines
   states-put : stateTexts n (namesIn n lent) low high chosen m ≡ joined (htuLines measure job)
   unfolding wagnerIn
@@ -110,16 +119,17 @@ module _ (header : Header) (order : Order) (meant : order ≡ orderMeant (header
   results-listed =
       block-then (joined (primLines measure job)) (primTotal measure job) _ prim-put
       (block-then (joined (wagnerLines measure job)) (wagnerTotal measure job) _ wagner-put
-      (block-then (joined (treeLines measure job)) (treeTotal measure job) _ tree-put states-put))
+      (block-then (joined (treeLines measure job)) (treeTotal measure job) _ tree-put (ap₂ _++_ index-put states-put)))
       ∙ sym (listing-text measure job)
       ∙ ap (λ (by : Measure). joined (listing by job)) same
 
--- what the calls for network, build and fit promise of a lent matrix
+-- what the calls for network, build, fit, floor and index promise of a lent matrix
 module _ (order : Order) (codes after : List ℤ) (weights : List ℕ) (n m : ℕ) (lent : LentMatrix codes n m)
     (weighed : LentWeights weights m) (low low′ high high′ chosen chosen′ : List ℤ)
     (full : StateLists low high chosen) (answer : Answer) (links : NetworkAnswer codes weights n m answer)
     (built : WagnerTree) (done : BuildDone order codes after weights n m built)
-    (fit : Fit) (fitted : TreeFitted after weights n m (ancestors (built .tree)) low low′ high high′ chosen chosen′ fit) where
+    (fit : Fit) (fitted : TreeFitted after weights n m (ancestors (built .tree)) low low′ high high′ chosen chosen′ fit)
+    (lowest : ℕ) (floor : FloorOf codes weights n m lowest) (consistency : Index) (indexed : IndexOf lowest (fit .total) consistency) where
   -- no question refuses
   pass : askMatrix codes weights n m ≡ Passed
   pass = matrix-passes codes weights n m .1 (lent, weighed)
@@ -165,6 +175,13 @@ module _ (order : Order) (codes after : List ℤ) (weights : List ℕ) (n m : �
       let still : LentMatrix after n m = rw found-matrix (still-lent order codes weights n m lent) in
       simp (found-tree, found-rows) at (fitted .fitted found-branching still weighed (full .lowFull) (full .highFull) (full .chosenFull))
 
+  -- the index of the Wagner tree
+  found-index : consistency
+      ≡ index (lentFloor codes weights n m) (fittedTotal (weighing weights .step) (wagnerIn order codes weights n m .tree) (rowsOf codes m n) n m)
+  found-index =
+      let is = floor .is lent in
+      indexed .is (omega (arith, is, floor-most codes weights n m lent weighed)) ∙ ap₂ index is (found-fit .0 .total)
+
   -- the states of the HTUs
   found-states : HoldsStates (wagnerIn order codes weights n m .tree) (rowsOf codes m n) n m low′ high′ chosen′
   unfolding statesIn
@@ -185,7 +202,7 @@ module _ (order : Order) (codes after : List ℤ) (weights : List ℕ) (n m : �
 
   -- what was found
   pub results-found : length low′ ≡ length low → length high′ ≡ length high → length chosen′ ≡ length chosen
-      → ResultsOf order codes weights n m low′ high′ chosen′ (record { network = answer .network; built = built; fit = fit })
+      → ResultsOf order codes weights n m low′ high′ chosen′ (record { network = answer .network; built = built; fit = fit; index = consistency })
   unfolding wagnerIn
   results-found a b d = record {
     listable = record {
@@ -201,5 +218,6 @@ module _ (order : Order) (codes after : List ℤ) (weights : List ℕ) (n m : �
     placements = found-placements;
     whole = found-length;
     fit = found-fit .0;
+    index = found-index;
     states = found-states;
   }

@@ -13,14 +13,16 @@ use Rattle.prim.specs.Network.{networkLength}
 use Rattle.branching.specs.RowLengths.{lengthUnder}
 use Rattle.wagner.specs.Build.{wagnerLength}
 use Rattle.fitting.specs.Fit.{chosenState, range, fittedLength, fittedTotal, marked}
+use Rattle.consistency.proofs.Division.{index-is}
 use Rattle.rivals.specs.Demand.{NoRivalDoesBetter}
+use Rattle.rivals.proofs.Floor.{floor-of-every-file}
 use Rattle.rivals.proofs.InWords.{for-every-file}
 use Rattle.listing.specs.Meant.{orderMeant, measureMeant}
 use Rattle.listing.specs.Lines.{joined}
 use Rattle.listing.specs.Blocks.{fittedLine, fittedLines, rangeLine, rangeLines}
-use Rattle.listing.specs.Listing.{primBlock, wagnerBlock, fittedBlock, rangeBlock, blocks, listing, printed}
+use Rattle.listing.specs.Listing.{primBlock, wagnerBlock, fittedBlock, indexBlock, rangeBlock, blocks, listing, printed}
 use Rattle.listing.specs.InPrint.{PrintedNumbers, linesWith, NoRivalInPrint}
-use Rattle.listing.proofs.Parts.{linksOf, builtOf, primLines, wagnerLines, treeLines, htuLines, primTotal, wagnerTotal, treeTotal}
+use Rattle.listing.proofs.Parts.{linksOf, builtOf, primLines, wagnerLines, treeLines, htuLines, primTotal, wagnerTotal, treeTotal, indexOf, treeIndex}
 use Rattle.listing.proofs.Totals.{wagner-total}
 use Rattle.listing.proofs.Printed.{output-printed}
 
@@ -36,24 +38,25 @@ numbersOf job =
       lengths = fittedLength (measureMeant job .step) tree (job .rows) (job .n) (job .m);
       marks = marked (measureMeant job .step) tree (job .rows) (job .n) (job .m);
       t = fittedTotal (measureMeant job .step) tree (job .rows) (job .n) (job .m);
+      c = indexOf (measureMeant job) job;
       low = λ v j. range tree (job .rows) (job .n) v j .low;
       high = λ v j. range tree (job .rows) (job .n) v j .high;
       chosen = chosenState tree (job .rows) (job .n);
     }
 
--- blocks with their totals, one after another
-in-line : (a b c d : List (List ℕ)) (x y z : List ℕ)
-    → flatMap (λ (block : List (List ℕ)). block) ((a ++ (x ∷ [])) ∷ (b ++ (y ∷ [])) ∷ (c ++ (z ∷ [])) ∷ d ∷ [])
-    ≡ a ++ (x ∷ b ++ (y ∷ c ++ (z ∷ d)))
+-- blocks with their totals, one after another, and a block of one line before the last
+in-line : (a b c d : List (List ℕ)) (x y z w : List ℕ)
+    → flatMap (λ (block : List (List ℕ)). block) ((a ++ (x ∷ [])) ∷ (b ++ (y ∷ [])) ∷ (c ++ (z ∷ [])) ∷ (w ∷ []) ∷ d ∷ [])
+    ≡ a ++ (x ∷ b ++ (y ∷ c ++ (z ∷ w ∷ d)))
 unfolding flatMap
-in-line a b c d x y z = simp (append-nil, append-assoc)
+in-line a b c d x y z w = simp (append-nil, append-assoc)
 
 -- the listing of a job prints them
 numbers-listed : (job : Job) → listing (measureMeant job) job ≡ linesWith job (numbersOf job)
-unfolding listing blocks primBlock wagnerBlock fittedBlock rangeBlock fittedLines rangeLines fittedLine rangeLine linesWith
+unfolding listing blocks primBlock wagnerBlock fittedBlock indexBlock rangeBlock fittedLines rangeLines fittedLine rangeLine linesWith
 numbers-listed job =
     in-line (primLines (measureMeant job) job) (wagnerLines (measureMeant job) job) (treeLines (measureMeant job) job) (htuLines (measureMeant job) job) (primTotal (measureMeant job) job) (wagnerTotal (measureMeant job) job)
-    (treeTotal (measureMeant job) job)
+    (treeTotal (measureMeant job) job) (treeIndex (measureMeant job) job)
 
 -- for every file that a read accepts, no rival does better than the numbers that its listing prints
 pub no-rival-in-print : (file : List ℕ) (job : Job) → readAnswer file ≡ value job → NoRivalInPrint file job
@@ -75,6 +78,8 @@ no-rival-in-print file job e =
       t-length = refl;
       branch-lengths = λ v. refl;
       no-states-shorter = fit .least;
+      c-index = index-is _ _;
+      floor-lowest = floor-of-every-file file job e;
       range-exactly = λ v j s a b d f.
           let node : 1 ≤ v = omega arith in
           let last : v ≤ lastNode (job .n) = unfold lastNode in omega arith in

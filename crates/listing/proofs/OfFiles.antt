@@ -16,7 +16,8 @@ use Rattle.matrix_file.proofs.File.FileOfRead.{file-of-read}
 use Rattle.difference.specs.Rows.{Measure, plain}
 use Rattle.difference.proofs.Laws.Measure.{measure-alike}
 use Rattle.listing.specs.Lines.{joined}
-use Rattle.listing.specs.Blocks.{totalLine}
+use Rattle.consistency.specs.declared.index.Index.the-variants.{NoTotal}
+use Rattle.listing.specs.Blocks.{totalLine, indexLine}
 use Rattle.listing.specs.Meant.{measureMeant}
 use Rattle.listing.specs.Listing.{listing, refusalLine, printed, output}
 use Rattle.listing.proofs.Joined.{joined-one}
@@ -43,8 +44,8 @@ module _ (file : List ℕ) (job : Job) (read : readAnswer file ≡ value job) wh
       ap (λ (weights : List ℕ). weightAt weights i) (file-of-read file job read .0 .weights-unsaid none)
       ∙ getD-replicate 1 (job .m) i)
 
-  -- of one taxon: `p 0`, `w 0`, `t 0`, whatever its name, its codes and their number
-  pub one-taxon-file : job .n ≡ 1 → output file ≡ joined (totalLine "p" 0 ∷ totalLine "w" 0 ∷ totalLine "t" 0 ∷ [])
+  -- of one taxon: `p 0`, `w 0`, `t 0`, `c` with two hyphens, whatever its name, its codes and their number
+  pub one-taxon-file : job .n ≡ 1 → output file ≡ joined (totalLine "p" 0 ∷ totalLine "w" 0 ∷ totalLine "t" 0 ∷ indexLine NoTotal ∷ [])
   one-taxon-file e =
       accepted-output
       ∙ ap

@@ -1,4 +1,5 @@
--- One taxon: no network, no tree, no HTU. Whatever its name, its codes and their number, the listing is `p 0`, `w 0`, `t 0`.
+-- One taxon: no network, no tree, no HTU. Whatever its name, its codes and their number, the listing is `p 0`, `w 0`, `t 0`, and `c`
+-- with two hyphens.
 use mathlib.Core.Path.{_≡_, refl}
 use mathlib.Core.Bool.{Bool}
 use mathlib.Core.List.{List, [], _∷_, flatMap}
@@ -16,13 +17,15 @@ use Rattle.branching.specs.RowLengths.{lengthUnder}
 use Rattle.wagner.specs.Build.{wagner, wagnerLength, build, buildOn}
 use Rattle.fitting.specs.Assignments.{total}
 use Rattle.fitting.specs.Fit.{fittedTotal}
-use Rattle.listing.specs.Blocks.{totalLine, fittedLines, rangeLines}
-use Rattle.listing.specs.Listing.{primBlock, wagnerBlock, fittedBlock, rangeBlock, blocks, listing}
+use Rattle.consistency.specs.Index.{index}
+use Rattle.consistency.specs.declared.index.Index.the-variants.{NoTotal}
+use Rattle.listing.specs.Blocks.{totalLine, indexLine, fittedLines, rangeLines}
+use Rattle.listing.specs.Listing.{primBlock, wagnerBlock, fittedBlock, indexBlock, rangeBlock, blocks, listing}
 
--- one taxon: three totals of 0
+-- one taxon: three totals of 0, and no index
 pub one-taxon : (measure : Measure) (m : ℕ) (word : OrderWord) (weighed : Bool) (weights : List ℕ) (names : List (List ℕ)) (rows : List (List ℤ))
     → listing measure (record { n = 1; m = m; order = word; weighed = weighed; weights = weights; names = names; rows = rows })
-    ≡ totalLine "p" 0 ∷ totalLine "w" 0 ∷ totalLine "t" 0 ∷ []
-unfolding listing blocks primBlock wagnerBlock fittedBlock rangeBlock network networkLength grow wagner wagnerLength build buildOn
+    ≡ totalLine "p" 0 ∷ totalLine "w" 0 ∷ totalLine "t" 0 ∷ indexLine NoTotal ∷ []
+unfolding listing blocks primBlock wagnerBlock fittedBlock indexBlock index rangeBlock network networkLength grow wagner wagnerLength build buildOn
     lengthUnder treeLength nodesIn otherNodes numbers keep sumOver fittedLines rangeLines fittedTotal total flatMap
 one-taxon measure m word weighed weights names rows = refl

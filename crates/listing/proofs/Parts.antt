@@ -16,18 +16,21 @@ use Rattle.branching.specs.Nodes.{otherNodes}
 use Rattle.wagner.specs.declared.order.Order.{Order}
 use Rattle.wagner.specs.Build.{Built, wagner, wagnerLength, build, buildOn}
 use Rattle.fitting.specs.Fit.{fittedTotal}
+use Rattle.consistency.specs.declared.index.Index.{Index}
+use Rattle.consistency.specs.Floor.{floor}
+use Rattle.consistency.specs.Index.{index}
 use Rattle.listing.specs.Meant.{orderMeant}
 use Rattle.listing.specs.Lines.{joined}
-use Rattle.listing.specs.Blocks.{totalLine, primLine, wagnerLine, fittedLine, fittedLines, rangeLine, rangeLines}
-use Rattle.listing.specs.Listing.{primBlock, wagnerBlock, fittedBlock, rangeBlock, blocks, listing}
+use Rattle.listing.specs.Blocks.{totalLine, indexLine, primLine, wagnerLine, fittedLine, fittedLines, rangeLine, rangeLines}
+use Rattle.listing.specs.Listing.{primBlock, wagnerBlock, fittedBlock, indexBlock, rangeBlock, blocks, listing}
 use Rattle.listing.proofs.Joined.{flatMap-append}
 
--- three blocks with a line behind each, and a last block
-parts : (a b c d : List (List ℕ)) (x y z : List ℕ)
-    → joined (flatMap (λ (block : List (List ℕ)). block) ((a ++ (x ∷ [])) ∷ (b ++ (y ∷ [])) ∷ (c ++ (z ∷ [])) ∷ d ∷ []))
-    ≡ joined a ++ (x ++ (joined b ++ (y ++ (joined c ++ (z ++ joined d)))))
+-- three blocks with a line behind each, a block of one line, and a last block
+parts : (a b c d : List (List ℕ)) (x y z w : List ℕ)
+    → joined (flatMap (λ (block : List (List ℕ)). block) ((a ++ (x ∷ [])) ∷ (b ++ (y ∷ [])) ∷ (c ++ (z ∷ [])) ∷ (w ∷ []) ∷ d ∷ []))
+    ≡ joined a ++ (x ++ (joined b ++ (y ++ (joined c ++ (z ++ (w ++ joined d))))))
 unfolding flatMap
-parts a b c d x y z = simp (flatMap-append, append-nil, append-assoc)
+parts a b c d x y z w = simp (flatMap-append, append-nil, append-assoc)
 
 -- so many items, each with as many texts
 length-each : {A B : Type 0} (f : A → List B) (size : ℕ) (xs : List A) → ((x : A) → length (f x) ≡ size) → length (flatMap f xs) ≡ length xs * size
@@ -85,11 +88,21 @@ module _ (measure : Measure) (job : Job) where
   abbrev pub treeTotal : List ℕ
   treeTotal = totalLine "t" (fittedTotal (measure .step) (builtOf .tree) (job .rows) (job .n) (job .m))
 
-  -- the whole listing, joined: `P` lines, `p`, `W` lines, `w`, `T` lines, `t`, `H` lines
+  -- the index of its fitted tree
+  abbrev pub indexOf : Index
+  indexOf =
+      index (floor (measure .step) (job .rows) (job .n) (job .m))
+      (fittedTotal (measure .step) (builtOf .tree) (job .rows) (job .n) (job .m))
+
+  -- the line `c`
+  abbrev pub treeIndex : List ℕ
+  treeIndex = indexLine indexOf
+
+  -- the whole listing, joined: `P` lines, `p`, `W` lines, `w`, `T` lines, `t`, `c`, `H` lines
   pub listing-text : joined (listing measure job)
-      ≡ joined primLines ++ (primTotal ++ (joined wagnerLines ++ (wagnerTotal ++ (joined treeLines ++ (treeTotal ++ joined htuLines)))))
-  unfolding listing blocks primBlock wagnerBlock fittedBlock rangeBlock
-  listing-text = parts primLines wagnerLines treeLines htuLines primTotal wagnerTotal treeTotal
+      ≡ joined primLines ++ (primTotal ++ (joined wagnerLines ++ (wagnerTotal ++ (joined treeLines ++ (treeTotal ++ (treeIndex ++ joined htuLines))))))
+  unfolding listing blocks primBlock wagnerBlock fittedBlock indexBlock rangeBlock
+  listing-text = parts primLines wagnerLines treeLines htuLines primTotal wagnerTotal treeTotal treeIndex
 
   -- n-1 `P` lines
   pub prim-count : length primLines ≡ job .n - 1

@@ -1,4 +1,4 @@
--- The blocks of the listing, each with the line of its total.
+-- The lines of the listing, and those of its blocks.
 use mathlib.Core.List.{List, [], _∷_, map, flatMap}
 use mathlib.Core.Bool.{Bool, true, false}
 use Prim.Native.Nat.{ℕ, _+_, _-_}
@@ -12,11 +12,18 @@ use Rattle.branching.specs.declared.placement.Placement.{Placement}
 use Rattle.branching.specs.Ancestors.{ancestor}
 use Rattle.branching.specs.Nodes.{otherNodes}
 use Rattle.fitting.specs.Fit.{chosenState, range, fittedLength, marked}
-use Rattle.listing.specs.Lines.{line, nodeName}
+use Rattle.consistency.specs.declared.index.Index.{Index}
+use Rattle.consistency.specs.declared.index.Index.the-variants.{Divided, NoTotal}
+use Rattle.listing.specs.Lines.{line, hyphen, nodeName}
 
 -- the line of a block's total, with the letter that begins it
 unfoldable pub totalLine : String → ℕ → List ℕ
 totalLine letter total = line (bytes letter ∷ digitsOf total ∷ [])
+
+-- `c`: quotient and remainder of the consistency index, or two hyphens where there is none
+unfoldable pub indexLine : Index → List ℕ
+indexLine (Divided quotient remainder) = line (bytes "c" ∷ digitsOf quotient ∷ digitsOf remainder ∷ [])
+indexLine NoTotal = line (bytes "c" ∷ hyphen ∷ hyphen ∷ [])
 
 -- `+` for a branch that is marked, else `-`
 unfoldable pub mark : Bool → List ℕ

@@ -16,8 +16,12 @@ use Rattle.wagner.specs.declared.order.Order.{Order}
 use Rattle.wagner.specs.Build.{wagnerLength}
 use Rattle.wagner.specs.Answers.{mostPlacements, wagnerIn}
 use Rattle.fitting.specs.Calls.{FitOf}
+use Rattle.fitting.specs.Fit.{fittedTotal}
+use Rattle.consistency.specs.Index.{index}
+use Rattle.consistency.specs.Calls.{lentFloor}
 use Rattle.listing.specs.declared.job.Results.{Results}
 use Rattle.listing.specs.Lines.{joined}
+use Rattle.listing.specs.Blocks.{indexLine}
 use Rattle.listing.specs.Listing.{listing}
 use Rattle.listing.specs.Put.{Put}
 use Rattle.listing.specs.Handed.{HoldsNames, HoldsPlacements, HoldsStates, primTexts, wagnerTexts, fittedTexts, stateTexts}
@@ -36,7 +40,7 @@ pub record Listable (n m : ℕ) (r : Results) : Type 0 where
   pub links : r .network .count ≤ mostLinks
   pub placements : r .built .count ≤ mostPlacements
 
--- what was found of a lent matrix: its Prim Network, its Wagner tree, the fit of that tree, and its states in three lists
+-- what was found of a lent matrix: its Prim Network, its Wagner tree, the fit of that tree with its index, and its states in three lists
 pub record ResultsOf (order : Order) (codes : List ℤ) (weights : List ℕ) (n m : ℕ) (low high chosen : List ℤ) (r : Results) : Type 0 where
   pub listable : Listable n m r
   pub full : StateLists low high chosen
@@ -45,13 +49,16 @@ pub record ResultsOf (order : Order) (codes : List ℤ) (weights : List ℕ) (n 
   pub placements : HoldsPlacements (wagnerIn order codes weights n m .placements) (r .built .placements) (r .built .count)
   pub whole : r .built .length ≡ wagnerLength (difference weights) n (wagnerIn order codes weights n m)
   pub fit : FitOf (weighing weights .step) (wagnerIn order codes weights n m .tree) (rowsOf codes m n) n m (r .fit)
+  pub index : r .index
+      ≡ index (lentFloor codes weights n m) (fittedTotal (weighing weights .step) (wagnerIn order codes weights n m .tree) (rowsOf codes m n) n m)
   pub states : HoldsStates (wagnerIn order codes weights n m .tree) (rowsOf codes m n) n m low high chosen
 
--- the text put for what was found: the blocks of network, build and fitted tree, and the `H` lines
+-- the text put for what was found: the blocks of network, build and fitted tree, the line `c` and the `H` lines
 unfoldable pub resultTexts : ℕ → List (List ℕ) → ℕ → Results → List ℤ → List ℤ → List ℤ → List ℕ
 resultTexts n names m r low high chosen =
     primTexts n names (r .network)
-    ++ (wagnerTexts n names (r .built) ++ (fittedTexts n names (r .built .tree) (r .fit) ++ stateTexts n names low high chosen m))
+    ++ (wagnerTexts n names (r .built)
+    ++ (fittedTexts n names (r .built .tree) (r .fit) ++ (indexLine (r .index) ++ stateTexts n names low high chosen m)))
 
 -- the job with this header, these weights and names and the taxa's rows of a matrix
 abbrev pub heldJob : Header → List ℕ → List (List ℕ) → List ℤ → Job

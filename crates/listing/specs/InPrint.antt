@@ -1,5 +1,5 @@
 -- Demand 3 for what is printed (document 01, "The three rivals"): the numbers that the listing of an accepted file prints, and that no
--- rival does better than they say.
+-- rival does better than they say; with the index of its tree and the floor beneath it (document 02, M-102).
 use mathlib.Core.Path.{_≡_}
 use mathlib.Core.Logic.{_↔_}
 use mathlib.Core.Bool.{Bool, true}
@@ -21,10 +21,13 @@ use Rattle.branching.specs.Growing.{branching}
 use Rattle.branching.specs.RowLengths.{lengthUnder}
 use Rattle.wagner.specs.Build.{Built}
 use Rattle.fitting.specs.Assignments.{branchLength, total, IsAssignment, Occurs}
+use Rattle.consistency.specs.declared.index.Index.{Index}
+use Rattle.consistency.specs.Floor.{floor, FloorNeverPasses}
+use Rattle.consistency.specs.Index.{IsIndex}
 use Rattle.rivals.specs.Demand.{BuildIsLeast}
 use Rattle.listing.specs.Meant.{orderMeant, measureMeant}
 use Rattle.listing.specs.Lines.{joined}
-use Rattle.listing.specs.Blocks.{totalLine, primLine, wagnerLine, branchLine, stateLine}
+use Rattle.listing.specs.Blocks.{totalLine, indexLine, primLine, wagnerLine, branchLine, stateLine}
 use Rattle.listing.specs.Listing.{output}
 
 -- the numbers that a listing prints
@@ -39,6 +42,8 @@ pub record PrintedNumbers : Type 0 where
   pub lengths : ℕ → ℕ
   pub marks : ℕ → Bool
   pub t : ℕ
+  -- the index in the line `c`
+  pub c : Index
   -- lowest, highest and chosen state in the `H` line of a node and a character
   pub low : ℕ → ℕ → ℤ
   pub high : ℕ → ℕ → ℤ
@@ -53,6 +58,7 @@ linesWith job x =
     ++ (totalLine "w" (x .w)
     ∷ map (λ v. branchLine (job .n) (job .names) v (ancestor (x .built .tree) v) (x .lengths v) (x .marks v)) (otherNodes (job .n))
     ++ (totalLine "t" (x .t)
+    ∷ indexLine (x .c)
     ∷ flatMap (λ v. map (λ j. stateLine (job .n) (job .names) v j (x .low v j) (x .high v j) (x .chosen v j)) (numbers 1 (job .m)))
     (numbers (job .n + 1) (job .n - 2)))))
 
@@ -80,6 +86,9 @@ pub record NoRivalInPrint (file : List ℕ) (job : Job) : Type 0 where
   -- no assignment has a lower total
   pub no-states-shorter : (rival : ℕ → ℕ → ℤ) → IsAssignment (job .rows) (job .n) (job .m) rival
       → printed .t ≤ total (measureMeant job .step) (printed .built .tree) (job .n) (job .m) rival
+  -- the line `c` gives quotient and remainder of 1000 times the floor, divided by `t`; no total of any branching is below the floor
+  pub c-index : IsIndex (floor (measureMeant job .step) (job .rows) (job .n) (job .m)) (printed .t) (printed .c)
+  pub floor-lowest : FloorNeverPasses (measureMeant job .step) (job .rows) (job .n) (job .m)
   -- a state lies from the lowest to the highest of an `H` line exactly if the HTU has it in some assignment of least length
   pub range-exactly : (v j : ℕ) (s : ℤ) → job .n < v → v ≤ 2 * job .n - 2 → 1 ≤ j → j ≤ job .m
       → ((printed .low v j ≤ℤ s) × (s ≤ℤ printed .high v j))

@@ -11,9 +11,11 @@ use Rattle.difference.specs.Rows.{Measure, nodeDifference}
 use Rattle.prim.specs.Network.{network, networkLength}
 use Rattle.wagner.specs.Build.{Built, wagner, wagnerLength}
 use Rattle.fitting.specs.Fit.{fittedTotal}
+use Rattle.consistency.specs.Floor.{floor}
+use Rattle.consistency.specs.Index.{index}
 use Rattle.listing.specs.Meant.{orderMeant, measureMeant}
 use Rattle.listing.specs.Lines.{line, joined}
-use Rattle.listing.specs.Blocks.{totalLine, primLine, wagnerLine, fittedLines, rangeLines}
+use Rattle.listing.specs.Blocks.{totalLine, indexLine, primLine, wagnerLine, fittedLines, rangeLines}
 
 -- the Prim Network: its `P` lines, and `p`
 unfoldable pub primBlock : Measure → Job → List (List ℕ)
@@ -33,6 +35,12 @@ fittedBlock measure job tree =
     fittedLines (job .n) (job .names) tree (job .rows) (job .m) (measure .step)
     ++ (totalLine "t" (fittedTotal (measure .step) tree (job .rows) (job .n) (job .m)) ∷ [])
 
+-- the consistency index of the fitted tree: the line `c`
+unfoldable pub indexBlock : Measure → Job → List ℕ → List (List ℕ)
+indexBlock measure job tree =
+    let fitted = fittedTotal (measure .step) tree (job .rows) (job .n) (job .m) in
+    indexLine (index (floor (measure .step) (job .rows) (job .n) (job .m)) fitted) ∷ []
+
 -- the ranges: the `H` lines
 unfoldable pub rangeBlock : Job → List ℕ → List (List ℕ)
 rangeBlock job tree = rangeLines (job .n) (job .names) tree (job .rows) (job .m)
@@ -44,6 +52,7 @@ blocks measure job =
     primBlock measure job
     ∷ wagnerBlock measure job built
     ∷ fittedBlock measure job (built .tree)
+    ∷ indexBlock measure job (built .tree)
     ∷ rangeBlock job (built .tree)
     ∷ []
 

@@ -6,8 +6,12 @@ use crate::blocks::put_prim_total;
 use crate::blocks::put_state_lines;
 use crate::blocks::put_wagner_lines;
 use crate::blocks::put_wagner_total;
+use crate::lines::put_index_line;
 use crate::order::order_meant;
 use branching::tree::Tree;
+use consistency::floor::floor_of;
+use consistency::index::Index;
+use consistency::index::index_of;
 use fitting::whole::Fit;
 use fitting::whole::fit_tree;
 use matrix_file::answer::Header;
@@ -24,11 +28,12 @@ ghost use Rattle.listing.specs.Put.{Put};
 ghost use Rattle.listing.specs.Handed.{namesIn, primTexts, wagnerTexts, fittedTexts};
 ghost use Rattle.listing.specs.Found.{StateLists, Listable, resultTexts, ResultsOf, ListsJob};
 
-// What is listed of a matrix: its Prim Network, its Wagner tree, and the fit of that tree.
+// What is listed of a matrix: its Prim Network, its Wagner tree, and the fit of that tree with its index.
 struct Results {
     network: Network,
     built: WagnerTree,
     fit: Fit,
+    index: Index,
 }
 
 // Puts the block of a network: its `P` lines, and the line `p`.
@@ -68,7 +73,7 @@ fn put_fitted_block(
     put_fitted_total(out, next, fit.total)
 }
 
-// Puts the four blocks in front of a list: network, build, fitted tree and states.
+// Puts the five blocks in front of a list: network, build, fitted tree, index and states.
 fn put_results(
     out: &mut [u8],
     n: usize,
@@ -86,14 +91,16 @@ fn put_results(
     let network = results.network;
     let built = results.built;
     let fit = results.fit;
+    let index = results.index;
     let tree = built.tree;
     let a = put_prim_block(out, 0, n, names, network);
     let b = put_wagner_block(out, a, n, names, built);
     let c = put_fitted_block(out, b, n, names, tree, fit);
-    put_state_lines(out, c, n, m, names, low, high, chosen)
+    let d = put_index_line(out, c, index);
+    put_state_lines(out, d, n, m, names, low, high, chosen)
 }
 
-// The network, the build in an order of placing, and the fit of a lent matrix. The rows of the HTUs are written into the matrix, their
+// The network, the build in an order of placing, the fit of a lent matrix and its index. The rows of the HTUs are written into the matrix, their
 // states into three lists of its shape.
 fn results_of(
     matrix: &mut [i32],
@@ -109,6 +116,7 @@ fn results_of(
     requires { ⌜ StateLists (now low) (now high) (now chosen) ⌝ }
     ensures { λ r. ⌜ ResultsOf order (now (matrix .entry)) (now (weights .entry)) n m (now (low .exit)) (now (high .exit)) (now (chosen .exit)) r ⌝ }
 {
+    let floor = floor_of(matrix, weights, n, m);
     let answer = network(matrix, weights, n, m);
     let links = answer.network;
     let built = build(matrix, weights, n, m, order);
@@ -118,6 +126,7 @@ fn results_of(
         network: links,
         built,
         fit,
+        index: index_of(floor, fit.total),
     }
 }
 

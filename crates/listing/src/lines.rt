@@ -1,12 +1,14 @@
 // The lines of the listing, one function for each kind: fields with a tab before each but the first, and a line feed.
 use crate::put::put_byte;
 use crate::put::put_tab_code;
+use crate::put::put_tab_hyphen;
 use crate::put::put_tab_mark;
 use crate::put::put_tab_node;
 use crate::put::put_tab_number;
 use branching::placement::Placement;
+use consistency::index::Index;
 use prim::answer::Link;
-ghost use Rattle.listing.specs.Blocks.{primLine, wagnerLine, branchLine, stateLine};
+ghost use Rattle.listing.specs.Blocks.{indexLine, primLine, wagnerLine, branchLine, stateLine};
 ghost use Rattle.listing.specs.Listing.{refusalLine};
 ghost use Rattle.listing.specs.Put.{Put};
 ghost use Rattle.listing.specs.Handed.{namesIn, totalText};
@@ -20,6 +22,28 @@ pub(crate) fn put_total_line(out: &mut [u8], at: usize, letter: u8, total: u64) 
     let a = put_byte(out, at, letter);
     let b = put_tab_number(out, a, total);
     put_byte(out, b, LINE_FEED)
+}
+
+// Puts the line `c` of an index.
+pub(crate) fn put_index_line(out: &mut [u8], at: usize, index: Index) -> usize
+    ensures { λ r. ⌜ Put (indexLine index) (now (out .entry)) at (now (out .exit)) r ⌝ }
+{
+    let a = put_byte(out, at, b'c');
+    match index {
+        Index::Divided {
+            quotient,
+            remainder,
+        } => {
+            let b = put_tab_number(out, a, quotient);
+            let c = put_tab_number(out, b, remainder);
+            put_byte(out, c, LINE_FEED)
+        }
+        Index::NoTotal => {
+            let b = put_tab_hyphen(out, a);
+            let c = put_tab_hyphen(out, b);
+            put_byte(out, c, LINE_FEED)
+        }
+    }
 }
 
 // Puts the line of a refusal: its number, and the line of the file.

@@ -6,7 +6,7 @@ ghost use mathlib.Core.List.{[], _∷_};
 ghost use Prim.Native.Nat.{_<_};
 ghost use Rattle.matrix_file.specs.Bytes.{firstPart, tab};
 ghost use Rattle.matrix_file.specs.Decimal.{digitFor, digitsOf, decimal};
-ghost use Rattle.listing.specs.Lines.{htuName, nodeName};
+ghost use Rattle.listing.specs.Lines.{hyphen, htuName, nodeName};
 ghost use Rattle.listing.specs.Blocks.{mark};
 ghost use Rattle.listing.specs.Put.{Put};
 ghost use Rattle.listing.specs.Handed.{nameBytes, namesIn};
@@ -137,6 +137,14 @@ pub(crate) fn put_tab_number(out: &mut [u8], at: usize, n: u64) -> usize
 {
     let next = put_byte(out, at, TAB);
     put_number(out, next, n)
+}
+
+// Puts a tab and a hyphen.
+pub(crate) fn put_tab_hyphen(out: &mut [u8], at: usize) -> usize
+    ensures { λ r. ⌜ Put (tab ∷ hyphen) (now (out .entry)) at (now (out .exit)) r ⌝ }
+{
+    let next = put_byte(out, at, TAB);
+    put_byte(out, next, HYPHEN)
 }
 
 // Puts a tab and a code.

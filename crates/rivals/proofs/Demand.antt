@@ -29,7 +29,7 @@ use Rattle.rivals.proofs.Rows.{MatrixRows, accepted-rows}
 use Rattle.rivals.proofs.Placements.{handed-least, wagner-least}
 
 -- n is from 1 to 64
-taxa-limits : (n m : ℕ) → withinLimits n m ≡ true → (1 ≤ n) × (n ≤ 64)
+pub taxa-limits : (n m : ℕ) → withinLimits n m ≡ true → (1 ≤ n) × (n ≤ 64)
 unfolding withinLimits
 taxa-limits n m e = oneTo-true 64 n (and-left (oneTo 64 n) (oneTo 128 m) e)
 

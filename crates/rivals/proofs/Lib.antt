@@ -2,6 +2,7 @@
 pub mod Rows
 pub mod Placements
 pub mod Demand
+pub mod Floor
 pub mod Lent
 pub mod Reading
 pub mod InWords

@@ -78,6 +78,7 @@ listed =
     ∷ "T\t#1\tA\t2\t+\n"
     ∷ "T\t#2\t#1\t2\t+\n"
     ∷ "t\t9\n"
+    ∷ "c\t888\t8\n"
     ∷ "H\t#1\t1\t0\t0\t0\n"
     ∷ "H\t#1\t2\t1\t1\t1\n"
     ∷ "H\t#1\t3\t0\t1\t1\n"

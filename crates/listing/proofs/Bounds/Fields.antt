@@ -42,8 +42,8 @@ htu-size : (number : ℕ) → number < 1000000000 → length (htuName number) �
 unfolding htuName bytes
 htu-size number h = omega (arith, number-size number h)
 
--- no node has one byte
-none-size : length hyphen ≡ 1
+-- a hyphen has one byte
+pub none-size : length hyphen ≡ 1
 unfolding hyphen bytes
 none-size = refl
 

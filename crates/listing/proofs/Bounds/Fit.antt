@@ -1,4 +1,5 @@
--- The fit of a job's Wagner tree: states and ranges are from -999 to 999, and no fitted length is above the largest difference of two rows.
+-- The fit of a job's Wagner tree: states and ranges are from -999 to 999, no fitted length is above the largest difference of two rows, and
+-- the total is not below the floor.
 use mathlib.Core.Path.{_≡_, refl}
 use mathlib.Core.Bool.{true}
 use mathlib.Core.List.{List, [], _∷_}
@@ -17,15 +18,18 @@ use Rattle.difference.specs.Rows.{mostDifference, part}
 use Rattle.difference.proofs.Laws.Weights.{part-inRange}
 use Rattle.branching.specs.Ancestors.{ancestor}
 use Rattle.branching.specs.Facts.{Branching, Grown}
+use Rattle.branching.proofs.Test.{branching-iff}
 use Rattle.branching.proofs.Whole.{branching-nodes, branching-grown, growing-ancestor-le}
 use Rattle.wagner.proofs.Whole.{wagner-branching}
 use Rattle.fitting.specs.Assignments.{character, branchLength}
-use Rattle.fitting.specs.Fit.{chosenState, range, fittedLength}
+use Rattle.fitting.specs.Fit.{chosenState, range, fittedLength, fittedTotal}
 use Rattle.fitting.proofs.Matrix.OnlyCodes.{Each, chosenState-each, range-each}
+use Rattle.consistency.specs.Floor.{floor}
+use Rattle.consistency.proofs.NeverPasses.{floor-fitted}
 use Rattle.listing.specs.Meant.{orderMeant, measureMeant}
 use Rattle.listing.proofs.Parts.{builtOf}
 use Rattle.listing.proofs.Totals.{Limits, limits}
-use Rattle.listing.proofs.Bounds.Rows.{near-job, weight-known}
+use Rattle.listing.proofs.Bounds.Rows.{near-job, first-known, weight-known}
 
 -- a code from -999 to 999
 abbrev pub IsNear : ℤ → Type 0
@@ -80,3 +84,15 @@ module _ (job : Job) (within : JobWithinLimits job) (two : 2 ≤ job .n) where
       part-inRange (weightOf (job .weights) j) (own v j) (own (ancestor tree v) j) (weight-known (job .weights) (within .weights-known) j)
       (state-near v j (omega arith) last) (state-near (ancestor tree v) j some above)) in
       omega (arith, sum, length-numbers 1 (job .m), known .characters)
+
+-- the floor of a job is no higher than the fitted total of its Wagner tree
+pub floor-below : (job : Job) → JobWithinLimits job
+    → floor (measureMeant job .step) (job .rows) (job .n) (job .m)
+    ≤ fittedTotal (measureMeant job .step) (builtOf (measureMeant job) job .tree) (job .rows) (job .n) (job .m)
+floor-below job within =
+    let inside = limits (job .n) (job .m) (within .limits) in
+    let built = builtOf (measureMeant job) job .tree in
+    floor-fitted (job .weights) (job .n) (job .m) built (job .rows) (inside .taxon)
+    (first-known (job .weights) (within .weights-known) (job .m))
+    (branching-iff built (job .n) (inside .taxon) .1
+    (wagner-branching (measureMeant job .rows) (orderMeant (job .order)) (job .n) (inside .taxon) (inside .taxa) (job .rows)))

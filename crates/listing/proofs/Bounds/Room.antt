@@ -2,8 +2,9 @@
 -- refused, has at most 1048576 bytes.
 use mathlib.Core.Path.{_≡_, refl, ap}
 use mathlib.Core.List.{List, [], _∷_, map, List·Memᴰ}
-use Prim.Native.Nat.{ℕ, _+_, _-_, _*_, _≤_, _<_}
+use Prim.Native.Nat.{ℕ, zero, suc, _+_, _-_, _*_, _/_, _%_, _≤_, _<_}
 use Prim.Native.String.{String}
+use native.Mathlib.Nat.{mod-lt, zero-lt-suc}
 use native.Mathlib.Omega.{arith}
 use lib.ListN.{length, length-append}
 use Rattle.lists.specs.Numbers.{numbers}
@@ -22,9 +23,11 @@ use Rattle.branching.specs.Ancestors.{ancestor}
 use Rattle.branching.specs.Nodes.{otherNodes}
 use Rattle.wagner.specs.Build.{wagnerLength}
 use Rattle.fitting.specs.Fit.{chosenState, range, fittedLength, fittedTotal, marked}
+use Rattle.consistency.specs.Index.{thousand, index}
+use Rattle.consistency.proofs.Division.{thousandths-most}
 use Rattle.listing.specs.Meant.{orderMeant, measureMeant}
-use Rattle.listing.specs.Lines.{nodeName, joined}
-use Rattle.listing.specs.Blocks.{mark, totalLine, primLine, wagnerLine, branchLine, stateLine, fittedLine, fittedLines, rangeLine, rangeLines}
+use Rattle.listing.specs.Lines.{hyphen, nodeName, joined}
+use Rattle.listing.specs.Blocks.{mark, totalLine, indexLine, primLine, wagnerLine, branchLine, stateLine, fittedLine, fittedLines, rangeLine, rangeLines}
 use Rattle.listing.specs.Listing.{listing}
 use Rattle.listing.specs.Call.{outputSize}
 use Rattle.listing.proofs.Joined.{joined-map, joined-each, texts-room}
@@ -39,18 +42,35 @@ use Rattle.listing.proofs.Parts.{
   primTotal,
   wagnerTotal,
   treeTotal,
+  treeIndex,
   listing-text,
   wagner-count,
 }
 use Rattle.listing.proofs.Totals.{Limits, limits, wagner-total, tree-total}
 use Rattle.listing.proofs.Bounds.Rows.{near-job, node-apart}
 use Rattle.listing.proofs.Bounds.Build.{SmallBuilt, wagner-small}
-use Rattle.listing.proofs.Bounds.Fields.{number-size, code-size, mark-size, node-size}
-use Rattle.listing.proofs.Bounds.Fit.{state-near, range-near, fitted-apart}
+use Rattle.listing.proofs.Bounds.Fields.{number-size, code-size, mark-size, none-size, node-size}
+use Rattle.listing.proofs.Bounds.Fit.{state-near, range-near, fitted-apart, floor-below}
 
 -- a line has at most so many bytes
 abbrev pub mostLine : ℕ
 mostLine = 128
+
+-- the line of an index whose floor is no higher than its total
+index-size : (floor total : ℕ) → floor ≤ total → total < 1000000000 → length (indexLine (index floor total)) ≤ mostLine
+unfolding index indexLine sizes bytes
+index-size floor zero below small = omega (arith, line-size (bytes "c") (hyphen ∷ hyphen ∷ []), none-size)
+index-size floor (suc less) below small =
+    let quotient = thousand * floor / suc less in
+    let remainder = thousand * floor % suc less in
+    let most : quotient ≤ thousand = thousandths-most floor (suc less) below (omega arith) in
+    let over : remainder < suc less = mod-lt (thousand * floor) (zero-lt-suc less) in
+    omega (
+      arith,
+      line-size (bytes "c") (digitsOf quotient ∷ digitsOf remainder ∷ []),
+      number-size quotient (omega arith),
+      number-size remainder (omega arith),
+    )
 
 -- the line of a total
 total-size : (letter : String) (total : ℕ) → length (bytes letter) ≡ 1 → total < 1000000000 → length (totalLine letter total) ≤ mostLine
@@ -197,16 +217,27 @@ module _ (job : Job) (within : JobWithinLimits job) where
         length-numbers 2 (2 * job .n - 3),
       )
 
-  -- `t`
-  tree-total-size : length (treeTotal (measureMeant job) job) ≤ mostLine
-  unfolding otherNodes bytes
-  tree-total-size =
-      let total = fittedTotal (measureMeant job .step) tree (job .rows) (job .n) (job .m) in
+  -- the fitted total
+  abbrev total : ℕ
+  total = fittedTotal (measureMeant job .step) tree (job .rows) (job .n) (job .m)
+
+  -- is small
+  tree-total-small : total < 1000000000
+  unfolding otherNodes
+  tree-total-small =
       let most = sum-most (fittedLength (measureMeant job .step) tree (job .rows) (job .n) (job .m)) mostDifference (numbers 2 (2 * job .n - 3)) (λ v m.
       let at = numbers-within 2 (2 * job .n - 3) v m in
       fitted-apart job within (omega arith) v (omega arith) (omega arith)) in
-      let below : total < 1000000000 = omega (arith, tree-total (measureMeant job) job, most, length-numbers 2 (2 * job .n - 3), known .taxa) in
-      total-size "t" total refl below
+      omega (arith, tree-total (measureMeant job) job, most, length-numbers 2 (2 * job .n - 3), known .taxa)
+
+  -- `t`
+  tree-total-size : length (treeTotal (measureMeant job) job) ≤ mostLine
+  unfolding bytes
+  tree-total-size = total-size "t" total refl tree-total-small
+
+  -- `c`
+  index-line-size : length (treeIndex (measureMeant job) job) ≤ mostLine
+  index-line-size = index-size _ total (floor-below job within) tree-total-small
 
   -- the `H` lines of a node together
   node-room : (v : ℕ) → job .n < v → v ≤ 2 * job .n - 2
@@ -249,6 +280,7 @@ module _ (job : Job) (within : JobWithinLimits job) where
         wagner-total-size,
         tree-room,
         tree-total-size,
+        index-line-size,
         htu-room,
         known .taxon,
         known .taxa,

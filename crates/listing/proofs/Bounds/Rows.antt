@@ -82,7 +82,7 @@ near-job job within i =
     rw (List·getD-eq-default (job .rows) [] past) near-none)
 
 -- of weights from 1 to 9 so many of the first are
-first-known : (weights : List ℕ) → every isWeight weights ≡ true → (count : ℕ) → areWeights weights count ≡ true
+pub first-known : (weights : List ℕ) → every isWeight weights ≡ true → (count : ℕ) → areWeights weights count ≡ true
 unfolding areWeights every
 first-known [] e zero = refl
 first-known [] e (suc count) = refl
