@@ -4,7 +4,10 @@ use Rattle.matrix.specs.Outcomes.{Outcome, value, refused}
 use Rattle.matrix_file.specs.declared.answer.Header.{Header}
 use Rattle.listing.specs.Meant.{orderMeant}
 use Rattle.exports.specs.Orders.{orderNumber}
+use Rattle.consistency.specs.declared.index.Index.{Index}
+use Rattle.consistency.specs.declared.index.Index.the-variants.{Divided, NoTotal}
 use Rattle.exports.specs.declared.answers.FileRead.{FileRead}
+use Rattle.exports.specs.declared.answers.Indexed.{Indexed}
 use Rattle.exports.specs.declared.answers.Measured.{Measured}
 
 -- how many bytes were written: none on a refusal
@@ -23,3 +26,9 @@ fileRead (refused number line) = record { refusal = number; line = line; n = 0; 
 abbrev pub measured : Outcome ℕ → Measured
 measured (value length) = record { refusal = 0; length = length }
 measured (refused number line) = record { refusal = number; length = 0 }
+
+-- an index, with 0 for the refusal: 1, quotient and remainder, or zeros where there is none; or the number of the refusal, with zeros
+abbrev pub indexed : Outcome Index → Indexed
+indexed (value (Divided quotient remainder)) = record { refusal = 0; divided = 1; quotient = quotient; remainder = remainder }
+indexed (value NoTotal) = record { refusal = 0; divided = 0; quotient = 0; remainder = 0 }
+indexed (refused number line) = record { refusal = number; divided = 0; quotient = 0; remainder = 0 }

@@ -3,11 +3,12 @@ use mathlib.Core.Path.{_≡_}
 use mathlib.Core.Logic.{_↔_}
 use mathlib.Core.List.{List, _++_}
 use Prim.Native.Nat.{ℕ, _≤_}
+use lib.Dec.{eqb}
 use lib.IntN.{ℤ}
 use lib.ListN.{length, take, drop}
 use Rattle.matrix.specs.Shape.{row}
 use Rattle.matrix.specs.NodeRows.{rowsOf}
-use Rattle.matrix.specs.Outcomes.{andThen, answered, askedSays, afterwards}
+use Rattle.matrix.specs.Outcomes.{ask, andThen, onLine, answered, askedSays, afterwards}
 use Rattle.matrix.specs.Questions.{askMatrix}
 use Rattle.matrix.specs.declared.refusal.Refusal.the-variants.{ListSize}
 use Rattle.matrix.specs.declared.refusal.Asked.{Asked}
@@ -27,12 +28,15 @@ use Rattle.fitting.specs.Handing.{HandedBack}
 use Rattle.fitting.specs.declared.whole.Fit.{Fit}
 use Rattle.fitting.specs.declared.whole.Which.{Which}
 use Rattle.fitting.specs.declared.whole.Which.the-variants.{Low, High, Chosen}
+use Rattle.consistency.specs.Calls.{floorAnswer, indexAnswer}
 use Rattle.listing.specs.Listing.{output}
 use Rattle.listing.specs.Call.{askOutput}
 use Rattle.exports.specs.Orders.{askOrder, askFitOrder}
-use Rattle.exports.specs.Answers.{bytesSaid, fileRead, measured}
+use Rattle.exports.specs.Branches.{lentNumbers, recordsIn}
+use Rattle.exports.specs.Answers.{bytesSaid, fileRead, measured, indexed}
 use Rattle.exports.specs.declared.answers.FileRead.{FileRead}
 use Rattle.exports.specs.declared.answers.Measured.{Measured}
+use Rattle.exports.specs.declared.answers.Indexed.{Indexed}
 
 -- the call for a listing answers how many bytes are printed for the file, or 0 for a refusal; they stand in front of the lent bytes, and
 -- everything behind them is as before; on a refusal all is
@@ -67,6 +71,16 @@ unfoldable pub networkExported : List ℤ → List ℕ → ℕ → ℕ → Measu
 networkExported codes weights n m =
     measured
     (answered (askMatrix codes weights n m) (networkLength (network (nodeDifference (difference weights) (row codes m)) n)))
+
+-- the floor of a lent matrix, or the refusal
+unfoldable pub floorExported : List ℤ → List ℕ → ℕ → ℕ → Measured
+floorExported codes weights n m = measured (floorAnswer codes weights n m)
+
+-- the consistency index of a branching that is lent as a list of numbers, or the refusal: the size of that list, then the questions on the
+-- branching
+unfoldable pub indexExported : List ℤ → List ℕ → ℕ → ℕ → List ℕ → Indexed
+indexExported codes weights n m lent =
+    indexed (onLine 0 (ask (eqb (length lent) lentNumbers) ListSize Passed) (indexAnswer codes weights n m (recordsIn lent)))
 
 -- the questions of a build in an order with a number: the sizes of the matrix and of the weights, the number, then n and m, the weights
 -- and the codes

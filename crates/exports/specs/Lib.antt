@@ -1,4 +1,5 @@
 -- What the exported calls answer.
 pub mod Orders
+pub mod Branches
 pub mod Answers
 pub mod Calls

@@ -1,10 +1,11 @@
 // What the exported calls hand back: the number of the refusal, or 0, and what was asked for.
+use consistency::index::Index;
 use matrix::refusal::Refusal;
 use matrix::refusal::number;
 ghost use mathlib.Core.Path.{_≡_};
 ghost use Rattle.matrix.specs.Outcomes.{value, refused};
 ghost use Rattle.matrix.specs.Refusals.{refusalNumber};
-ghost use Rattle.exports.specs.Answers.{measured};
+ghost use Rattle.exports.specs.Answers.{measured, indexed};
 
 // What a read answers: 0, the line 0, the numbers of taxa and characters, and the number of the order of placing that the file means; or
 // the number of the refusal, its line, and zeros.
@@ -24,6 +25,16 @@ pub struct Measured {
     pub length: u64,
 }
 
+// What the call for the index of a lent branching answers: 0 and 1, the quotient and the remainder, or zeros where there is no index; or the
+// number of the refusal and zeros.
+#[repr(C)]
+pub struct Indexed {
+    pub refusal: u64,
+    pub divided: u64,
+    pub quotient: u64,
+    pub remainder: u64,
+}
+
 // No refusal, and a length.
 pub(crate) fn is(length: u64) -> Measured
     ensures { λ r. ⌜ r ≡ measured (value length) ⌝ }
@@ -38,5 +49,40 @@ pub(crate) fn refused(refusal: Refusal) -> Measured
     Measured {
         refusal: number(refusal),
         length: 0,
+    }
+}
+
+// No refusal, and an index.
+pub(crate) fn index_is(index: Index) -> Indexed
+    ensures { λ r. ⌜ r ≡ indexed (value index) ⌝ }
+{
+    match index {
+        Index::Divided {
+            quotient,
+            remainder,
+        } => Indexed {
+            refusal: 0,
+            divided: 1,
+            quotient,
+            remainder,
+        },
+        Index::NoTotal => Indexed {
+            refusal: 0,
+            divided: 0,
+            quotient: 0,
+            remainder: 0,
+        },
+    }
+}
+
+// A refusal of the call for an index.
+pub(crate) fn index_refused(refusal: Refusal) -> Indexed
+    ensures { λ r. ⌜ r ≡ indexed (refused (refusalNumber refusal) 0) ⌝ }
+{
+    Indexed {
+        refusal: number(refusal),
+        divided: 0,
+        quotient: 0,
+        remainder: 0,
     }
 }

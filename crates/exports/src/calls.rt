@@ -1,17 +1,27 @@
 // The exported calls.
 use crate::answers::FileRead;
+use crate::answers::Indexed;
 use crate::answers::Measured;
+use crate::answers::index_is;
+use crate::answers::index_refused;
 use crate::answers::is;
 use crate::answers::refused;
+use crate::branches::LENT_NUMBERS;
+use crate::branches::records_in;
 use crate::orders::ask_fit_order;
 use crate::orders::ask_order;
 use crate::orders::order_number;
 use crate::orders::order_numbered;
+use consistency::calls::Consistency;
+use consistency::calls::floor;
+use consistency::calls::index;
+use difference::calls::Length;
 use fitting::whole::fit_tree;
 use listing::call::Listed;
 use listing::call::list;
 use listing::order::order_meant;
 use matrix::refusal::Asked;
+use matrix::refusal::Refusal;
 use matrix::refusal::number;
 use matrix_file::answer::Header;
 use matrix_file::answer::Read;
@@ -28,7 +38,7 @@ ghost use Rattle.fitting.specs.Calls.{listsFull};
 ghost use Rattle.exports.specs.Orders.{orderNumbered};
 ghost use Rattle.exports.specs.Answers.{fileRead};
 ghost use Rattle.exports.specs.Calls.{ListExported, ReadExported, networkExported, askBuild, BuildExported};
-ghost use Rattle.exports.specs.Calls.{askWagnerFit, FitExported};
+ghost use Rattle.exports.specs.Calls.{askWagnerFit, FitExported, floorExported, indexExported};
 
 // Writes the listing of a file's bytes, or the line of its refusal, into the front of lent bytes, and answers how many bytes that are: 0 if
 // not exactly 1,048,576 are lent, and then nothing is written.
@@ -191,5 +201,37 @@ pub extern "C" fn wagner_fit(
             high,
             chosen,
         ),
+    }
+}
+
+// The floor of a lent matrix, by the weights of its characters.
+#[no_mangle]
+pub extern "C" fn wagner_floor(matrix: &[i32], weights: &[u8], n: usize, m: usize) -> Measured
+    ensures { λ r. ⌜ r ≡ floorExported (now (matrix .entry)) (now (weights .entry)) n m ⌝ }
+{
+    match floor(matrix, weights, n, m) {
+        Length::Refused(refusal) => refused(refusal),
+        Length::Is(length) => is(length),
+    }
+}
+
+// The consistency index of a branching that is lent as 375 numbers, three for each of 125 records: a node, its immediate ancestor, and a
+// length, which is not read.
+#[no_mangle]
+pub extern "C" fn wagner_index(
+    matrix: &[i32],
+    weights: &[u8],
+    n: usize,
+    m: usize,
+    branches: &[usize],
+) -> Indexed
+    ensures { λ r. ⌜ r ≡ indexExported (now (matrix .entry)) (now (weights .entry)) n m (now (branches .entry)) ⌝ }
+{
+    if branches.len() != LENT_NUMBERS {
+        return index_refused(Refusal::ListSize);
+    }
+    match index(matrix, weights, n, m, records_in(branches)) {
+        Consistency::Refused(refusal) => index_refused(refusal),
+        Consistency::Is(found) => index_is(found),
     }
 }

@@ -1,0 +1,31 @@
+-- What the exported call for an index hands back, from the size of the lent list and what the call below it answers.
+use mathlib.Core.Path.{_≡_, ap, _∙_}
+use mathlib.Core.Logic.{_≢_}
+use mathlib.Core.List.{List}
+use Prim.Native.Nat.{ℕ}
+use borrow.Author.Tests.{eq-eqb, ne-eqb}
+use lib.IntN.{ℤ}
+use lib.ListN.{length}
+use Rattle.matrix.specs.Outcomes.{Outcome, refused}
+use Rattle.matrix.specs.Refusals.{refusalNumber}
+use Rattle.matrix.specs.declared.refusal.Refusal.the-variants.{ListSize}
+use Rattle.branching.specs.declared.branch.Branch.{Branch}
+use Rattle.consistency.specs.Calls.{indexAnswer}
+use Rattle.consistency.specs.declared.index.Index.{Index}
+use Rattle.exports.specs.Branches.{lentNumbers, recordsIn}
+use Rattle.exports.specs.Answers.{indexed}
+use Rattle.exports.specs.Calls.{indexExported}
+use Rattle.exports.specs.declared.answers.Indexed.{Indexed}
+
+module _ (codes : List ℤ) (weights : List ℕ) (n m : ℕ) (lent : List ℕ) (r : Indexed) where
+  -- a list of another size
+  pub index-unsized : length lent ≢ lentNumbers → r ≡ indexed (refused (refusalNumber ListSize) 0) → r ≡ indexExported codes weights n m lent
+  unfolding indexExported
+  index-unsized other is = rw (ne-eqb (length lent) lentNumbers other) is
+
+  -- a list of 375 numbers, with the records that it gives
+  pub index-said : length lent ≡ lentNumbers → (records : List Branch) → records ≡ recordsIn lent
+      → (answer : Outcome Index) → answer ≡ indexAnswer codes weights n m records → r ≡ indexed answer → r ≡ indexExported codes weights n m lent
+  unfolding indexExported
+  index-said size records given answer found is =
+      rw (eq-eqb (length lent) lentNumbers size) (is ∙ ap indexed (found ∙ ap (indexAnswer codes weights n m) given))
