@@ -1,7 +1,7 @@
 //! Lent lists with known contents, and what they should hold afterwards.
 
-use crate::{COLUMNS, MATRIX_SIZE, NAMES_SIZE, WEIGHTS_SIZE};
-use wagner_reference::data::Data;
+use crate::{BRANCHES_SIZE, COLUMNS, MATRIX_SIZE, NAMES_SIZE, WEIGHTS_SIZE};
+use wagner_reference::data::{Branch, Data};
 use wagner_reference::ranges::{Range, Ranges};
 
 /// A list of codes that are no codes, each place another one, so that every
@@ -90,4 +90,26 @@ pub fn write_chosen(list: &mut [i32], data: &Data, chosen: &[Vec<i32>]) {
             list[place(v, j)] = chosen[v][j - 1];
         }
     }
+}
+
+/// A list of numbers that are no nodes.
+pub fn numbers(size: usize) -> Vec<usize> {
+    (0..size).map(|i| 1_000_000 + i).collect()
+}
+
+/// A lent branching with the records of nodes 2, 3 and so on in front, with
+/// these immediate ancestors; what is no node and no ancestor is not to be read.
+pub fn branches_of(ancestors: impl IntoIterator<Item = usize>) -> Vec<usize> {
+    let mut list = numbers(BRANCHES_SIZE);
+    for (i, ancestor) in ancestors.into_iter().enumerate() {
+        list[3 * i] = i + 2;
+        list[3 * i + 1] = ancestor;
+    }
+    list
+}
+
+/// The records of a lent branching.
+pub fn records_of(branches: &[usize]) -> Vec<Branch> {
+    let records = branches.chunks_exact(3);
+    records.map(|record| Branch { node: record[0], ancestor: record[1], length: 0 }).collect()
 }

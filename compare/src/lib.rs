@@ -8,7 +8,7 @@ use wagner_reference::data::Requests;
 use wagner_reference::tree::Order;
 
 /// So many requests are in force, from M-100 on.
-pub const IN_FORCE: Requests = Requests(2);
+pub const IN_FORCE: Requests = Requests(3);
 
 /// A lent matrix has 126 rows of 128 codes.
 pub const ROWS: usize = 126;
@@ -17,6 +17,10 @@ pub const MATRIX_SIZE: usize = ROWS * COLUMNS;
 
 /// A lent list of weights has one for each column.
 pub const WEIGHTS_SIZE: usize = COLUMNS;
+
+/// A lent branching has 125 records of three numbers: a node, its immediate
+/// ancestor and a length.
+pub const BRANCHES_SIZE: usize = 375;
 
 /// A lent list of names has 64 names of 16 bytes.
 pub const NAMES_SIZE: usize = 1024;
@@ -58,8 +62,20 @@ pub struct Measured {
     pub length: u64,
 }
 
+/// What the call for the consistency index answers: refusal 0, divided 1,
+/// quotient and remainder, or for a total of 0 four zeros; or the number of
+/// the refusal and zeros.
+#[repr(C)]
+#[derive(Clone, Copy, PartialEq, Eq, Debug)]
+pub struct Indexed {
+    pub refusal: u64,
+    pub divided: u64,
+    pub quotient: u64,
+    pub remainder: u64,
+}
+
 mod library {
-    use super::{FileRead, Measured};
+    use super::{FileRead, Indexed, Measured};
 
     // A list is two arguments: where it begins, and how many items it has.
     extern "C" {
@@ -111,6 +127,24 @@ mod library {
             chosen: *mut i32,
             chosen_length: usize,
         ) -> Measured;
+        pub fn wagner_floor(
+            matrix: *const i32,
+            matrix_length: usize,
+            weights: *const u8,
+            weights_length: usize,
+            n: usize,
+            m: usize,
+        ) -> Measured;
+        pub fn wagner_index(
+            matrix: *const i32,
+            matrix_length: usize,
+            weights: *const u8,
+            weights_length: usize,
+            n: usize,
+            m: usize,
+            branches: *const usize,
+            branches_length: usize,
+        ) -> Indexed;
     }
 }
 
@@ -193,6 +227,30 @@ pub fn fit(
             high.len(),
             chosen.as_mut_ptr(),
             chosen.len(),
+        )
+    }
+}
+
+/// The floor of a lent matrix with weights.
+pub fn floor(matrix: &[i32], weights: &[u8], n: usize, m: usize) -> Measured {
+    unsafe {
+        library::wagner_floor(matrix.as_ptr(), matrix.len(), weights.as_ptr(), weights.len(), n, m)
+    }
+}
+
+/// The consistency index of a lent matrix with weights on a lent branching,
+/// whose lengths are not read.
+pub fn index(matrix: &[i32], weights: &[u8], n: usize, m: usize, branches: &[usize]) -> Indexed {
+    unsafe {
+        library::wagner_index(
+            matrix.as_ptr(),
+            matrix.len(),
+            weights.as_ptr(),
+            weights.len(),
+            n,
+            m,
+            branches.as_ptr(),
+            branches.len(),
         )
     }
 }

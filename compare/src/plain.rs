@@ -229,6 +229,44 @@ pub fn fit(
     (lengths, lengths.iter().sum())
 }
 
+/// The floor: of each character the highest less the lowest code among the
+/// taxa, by its weight.
+pub fn floor(matrix: &[i32], weights: &[u8], n: usize, m: usize) -> u64 {
+    let mut lowest = row(matrix, 1, m).to_vec();
+    let mut highest = lowest.clone();
+    for v in 2..=n {
+        for (j, &code) in row(matrix, v, m).iter().enumerate() {
+            lowest[j] = lowest[j].min(code);
+            highest[j] = highest[j].max(code);
+        }
+    }
+    let apart = highest.iter().zip(lowest).map(|(high, low)| high.abs_diff(low));
+    apart.zip(weights).map(|(steps, weight)| u64::from(steps) * u64::from(*weight)).sum()
+}
+
+/// Quotient and remainder of 1000 times the floor, divided by the fitted
+/// total; none for a total of 0.
+pub fn divided(floor: u64, total: u64) -> Option<(u64, u64)> {
+    (total > 0).then(|| (1000 * floor / total, 1000 * floor % total))
+}
+
+/// The consistency index on a branching of such records as are lent.
+pub fn index(
+    matrix: &[i32],
+    weights: &[u8],
+    n: usize,
+    m: usize,
+    branches: &[usize],
+) -> Option<(u64, u64)> {
+    let mut tree = [0; 127];
+    for record in branches.chunks_exact(3).take((2 * n).saturating_sub(3)) {
+        tree[record[0]] = record[1];
+    }
+    let [mut low, mut high, mut chosen] = [[0; MATRIX_SIZE]; 3];
+    let (_, total) = fit(matrix, weights, n, m, &tree, &mut low, &mut high, &mut chosen);
+    divided(floor(matrix, weights, n, m), total)
+}
+
 /// A whole number of 1 to 6 digits as a file writes it, with a minus if signed.
 fn number(field: &[u8], signed: bool) -> Option<i32> {
     let (minus, digits) = match field {
@@ -369,6 +407,19 @@ impl Page<'_> {
         self.number(value);
         self.text.push(b'\n');
     }
+
+    /// The line of the consistency index.
+    fn index(&mut self, index: Option<(u64, u64)>) {
+        self.text.push(b'c');
+        match index {
+            None => self.text.extend(b"\t-\t-"),
+            Some((quotient, remainder)) => {
+                self.number(quotient);
+                self.number(remainder);
+            }
+        }
+        self.text.push(b'\n');
+    }
 }
 
 /// The listing of a sound file, in the bytes of a list that is lent for it.
@@ -407,6 +458,7 @@ pub fn list(file: &[u8], lent: Vec<u8>) -> Option<Vec<u8>> {
         page.text.extend(if lengths[v] > 0 { b"\t+\n" } else { b"\t-\n" });
     }
     page.total(b't', t);
+    page.index(divided(floor(&matrix, &weights, n, m), t));
     for v in n + 1..(2 * n).saturating_sub(1) {
         for j in 1..=m {
             let at = (v - 1) * COLUMNS + j - 1;

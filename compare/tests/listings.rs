@@ -27,24 +27,36 @@ fn before() -> &'static [u8] {
     BYTES.get_or_init(|| lent::bytes(OUTPUT_SIZE))
 }
 
-/// The listing of these bytes is the reference's under these requests; answers
-/// the number of the refusal, or 0.
-fn check_listing(file: &[u8], requests: Requests) -> usize {
-    let expected = listing(file, requests).into_bytes();
+/// The listing of these bytes is the reference's; hands it back.
+fn check_listing(file: &[u8]) -> Vec<u8> {
+    let expected = listing(file, IN_FORCE).into_bytes();
     let mut out = before().to_vec();
     let length = list(file, &mut out);
     assert_eq!(length, expected.len());
     assert!(out[..length] == expected[..], "the listing differs");
     assert!(out[length..] == before()[length..], "a byte behind the listing differs");
-    let refusal = expected.strip_prefix(b"R\t").map(|rest| {
-        let digits = rest.iter().take_while(|byte| byte.is_ascii_digit());
-        digits.fold(0, |number, digit| number * 10 + usize::from(digit - b'0'))
-    });
     match plain::list(file, Vec::new()) {
-        None => assert!(refusal.is_some(), "the plain loops refuse it"),
+        None => assert!(expected.starts_with(b"R\t"), "the plain loops refuse it"),
         Some(text) => assert!(text == expected, "the plain loops' listing differs"),
     }
-    refusal.unwrap_or(0)
+    expected
+}
+
+/// The number of the refusal that a listing is, or 0.
+fn refusal(listing: &[u8]) -> usize {
+    let Some(rest) = listing.strip_prefix(b"R\t") else {
+        return 0;
+    };
+    let digits = rest.iter().take_while(|byte| byte.is_ascii_digit());
+    digits.fold(0, |number, digit| number * 10 + usize::from(digit - b'0'))
+}
+
+/// A listing without its `c` line, of which it has one.
+fn without_index(listing: &[u8]) -> Vec<u8> {
+    let lines = listing.split_inclusive(|&byte| byte == b'\n');
+    let (index, others): (Vec<&[u8]>, Vec<&[u8]>) = lines.partition(|line| line[0] == b'c');
+    assert_eq!(index.len(), 1);
+    others.concat()
 }
 
 /// One to three damages to a file: a digit changed, a byte changed, one bit of
@@ -106,7 +118,7 @@ impl Tally {
 #[test]
 fn generated_files() {
     let tally = Tally::none();
-    seeds::each(IN_FORCE, |_, file| tally.count(check_listing(&file, IN_FORCE)));
+    seeds::each(IN_FORCE, |_, file| tally.count(refusal(&check_listing(&file))));
     tally.print("generated files");
 }
 
@@ -115,23 +127,28 @@ fn damaged_files() {
     let tally = Tally::none();
     seeds::each(IN_FORCE, |seed, file| {
         let mut random = Random(seed ^ 0x6461_6d61_6765);
-        tally.count(check_listing(&damaged(file, &mut random), IN_FORCE));
+        tally.count(refusal(&check_listing(&damaged(file, &mut random))));
     });
     tally.print("damaged files");
 }
 
-/// What was accepted under earlier requests is listed as it was then. A file
-/// whose row 1 is named `V` is among the others: that row reads as weights now.
+/// What was accepted under earlier requests is listed as it was then, but for
+/// the `c` line. A file from before M-101 whose row 1 is named `V` is among the
+/// others: that row reads as weights now.
 fn check_earlier(requests: Requests, what: &str) {
     let (as_before, other) = (Tally::none(), Tally::none());
+    let weights_then = requests.in_force(101);
     seeds::each(requests, |_, file| {
-        if read(&file, requests).is_ok_and(|file| file.names[0] != "V") {
-            as_before.count(check_listing(&file, requests));
+        let now = check_listing(&file);
+        if read(&file, requests).is_ok_and(|file| weights_then || file.names[0] != "V") {
+            let then = listing(&file, requests).into_bytes();
+            assert!(without_index(&now) == then, "it was listed otherwise");
+            as_before.count(refusal(&now));
         } else {
-            other.count(check_listing(&file, IN_FORCE));
+            other.count(refusal(&now));
         }
     });
-    as_before.print(&format!("files of {what}, as before"));
+    as_before.print(&format!("files of {what}, as before but for the c line"));
     other.print(&format!("other files of {what}"));
 }
 
@@ -143,6 +160,11 @@ fn files_of_the_base() {
 #[test]
 fn files_of_m_100() {
     check_earlier(Requests(1), "M-100");
+}
+
+#[test]
+fn files_of_m_101() {
+    check_earlier(Requests(2), "M-101");
 }
 
 #[test]
@@ -161,9 +183,9 @@ fn bytes_of_another_size() {
 fn files_of_the_greatest_size() {
     let start = b"W\t1\t1\nA\t0\n";
     let lengths = [(44_999, 11), (45_000, 11), (45_001, 1), (45_002, 1), (3_000_000, 1)];
-    for (length, refusal) in lengths {
+    for (length, number) in lengths {
         let mut file = start.to_vec();
         file.resize(length, b'\n');
-        assert_eq!(check_listing(&file, IN_FORCE), refusal);
+        assert_eq!(refusal(&check_listing(&file)), number);
     }
 }

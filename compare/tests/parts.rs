@@ -1,11 +1,13 @@
-//! Read, network, build and fit, each held to the reference: what is handed
-//! back, and every item of the lent lists, also on refusals.
+//! Read, network, build, fit, floor and index, each held to the reference: what
+//! is handed back, and every item of the lent lists, also on refusals.
 
-use compare::lent;
-use compare::{order_number, FileRead, Measured, IN_FORCE, MATRIX_SIZE, NAMES_SIZE, WEIGHTS_SIZE};
+use compare::{lent, order_number, FileRead, Indexed, Measured, IN_FORCE};
+use compare::{BRANCHES_SIZE, MATRIX_SIZE, NAMES_SIZE, WEIGHTS_SIZE};
+use wagner_reference::consistency::{consistency, floor};
 use wagner_reference::data::{Data, Ends};
 use wagner_reference::files::Random;
 use wagner_reference::fit::fit;
+use wagner_reference::listing::listing;
 use wagner_reference::network::{network_length, prim_network};
 use wagner_reference::ranges::ranges;
 use wagner_reference::read::read;
@@ -27,6 +29,10 @@ const NO_CODES: [i32; 4] = [-1000, 1000, i32::MIN, i32::MAX];
 /// Pairs of n and m that are out of limits.
 const NO_LIMITS: [(usize, usize); 6] =
     [(0, 1), (1, 0), (65, 1), (1, 129), (usize::MAX, 1), (2, usize::MAX)];
+
+/// Sizes that are not the one of a lent branching.
+const NO_BRANCHES_SIZES: [usize; 6] =
+    [0, 1, BRANCHES_SIZE - 3, BRANCHES_SIZE - 1, BRANCHES_SIZE + 1, 2 * BRANCHES_SIZE];
 
 /// The sizes of the further lists of a fit.
 const FULL: [usize; 3] = [MATRIX_SIZE; 3];
@@ -97,7 +103,73 @@ fn check_network(data: &Data, weights: &[u8]) {
     assert_eq!(compare::plain::network(&matrix, weights, n, m).1, length as u64);
 }
 
-/// Build and fit of such a matrix in an order of placing.
+/// The floor of such a matrix.
+fn check_floor(data: &Data, weights: &[u8]) {
+    let (n, m) = (data.n, data.m);
+    let (matrix, held) = (lent::matrix_of(data), weights.to_vec());
+    let length = floor(data).unwrap();
+    assert_eq!(compare::floor(&matrix, weights, n, m), is(length));
+    assert!(matrix == lent::matrix_of(data) && weights == held);
+    assert_eq!(compare::plain::floor(&matrix, weights, n, m), length as u64);
+}
+
+/// The answer with this index, or with none for a total of 0.
+fn index_is(index: Option<(u64, u64)>) -> Indexed {
+    let (quotient, remainder) = index.unwrap_or((0, 0));
+    Indexed { refusal: 0, divided: u64::from(index.is_some()), quotient, remainder }
+}
+
+/// The refusal of an index.
+fn index_refused(refusal: u64) -> Indexed {
+    Indexed { refusal, divided: 0, quotient: 0, remainder: 0 }
+}
+
+/// The index of such a matrix on a lent branching, or refusal 14 where the
+/// records are none. Hands back the answer.
+fn check_index(data: &Data, weights: &[u8], branches: &[usize]) -> Indexed {
+    let (n, m) = (data.n, data.m);
+    let (matrix, held_weights) = (lent::matrix_of(data), weights.to_vec());
+    let held = branches.to_vec();
+    let answer = compare::index(&matrix, weights, n, m, branches);
+    assert!(matrix == lent::matrix_of(data) && weights == held_weights && branches == held);
+    match consistency(data, &lent::records_of(branches)) {
+        Err(why) => assert_eq!((14, index_refused(14)), (why.number, answer)),
+        Ok(found) => {
+            let found = found.map(|(quotient, remainder)| (quotient as u64, remainder as u64));
+            assert_eq!(answer, index_is(found));
+            assert_eq!(compare::plain::index(&matrix, weights, n, m, branches), found);
+        }
+    }
+    answer
+}
+
+/// The branching of a listing, by its `T` lines: they go by node number from 2
+/// on, so a name that none of them begins with is that of row 1.
+fn printed_branches(listing: &str) -> Vec<usize> {
+    let lines = listing.lines().filter_map(|line| line.strip_prefix("T\t"));
+    let fields: Vec<Vec<&str>> = lines.map(|line| line.split('\t').collect()).collect();
+    let number = |name| fields.iter().position(|line| line[0] == name).map_or(1, |i| i + 2);
+    lent::branches_of(fields.iter().map(|line| number(line[1])))
+}
+
+/// The index of a listing, by its `c` line.
+fn printed_index(listing: &str) -> Indexed {
+    let line = listing.lines().find_map(|line| line.strip_prefix("c\t")).unwrap();
+    let (quotient, remainder) = line.split_once('\t').unwrap();
+    index_is(quotient.parse().ok().zip(remainder.parse().ok()))
+}
+
+/// The index of the tree in the reference's listing of a file is the one in
+/// its `c` line. Hands it back.
+fn check_printed(file: &[u8], data: &Data, weights: &[u8]) -> Indexed {
+    let text = listing(file, IN_FORCE);
+    let answer = check_index(data, weights, &printed_branches(&text));
+    assert_eq!(answer, printed_index(&text));
+    answer
+}
+
+/// Build and fit of such a matrix in an order of placing, and the index of the
+/// tree.
 fn check_tree(mut data: Data, weights: &[u8], order: Order) {
     let (n, m, number) = (data.n, data.m, order_number(order));
     let (start, held_weights) = (lent::matrix_of(&data), weights.to_vec());
@@ -120,6 +192,8 @@ fn check_tree(mut data: Data, weights: &[u8], order: Order) {
     lent::write_chosen(&mut held_chosen, &data, &fitted.chosen);
     assert!(again == held && weights == held_weights);
     assert!(low == held_low && high == held_high && chosen == held_chosen);
+    let ancestors = (2..=data.node_count()).map(|v| built.tree.ancestor_of(v));
+    check_index(&data, weights, &lent::branches_of(ancestors));
 
     let mut plain = start;
     let (tree, _, length) = compare::plain::build(&mut plain, weights, n, m, number);
@@ -132,9 +206,10 @@ fn check_tree(mut data: Data, weights: &[u8], order: Order) {
     assert!(low == held_low && high == held_high && chosen == held_chosen);
 }
 
-/// Network, build and fit of such a matrix with lent weights.
+/// Network, floor, build, fit and index of such a matrix with lent weights.
 fn check_accepted(data: &Data, weights: &[u8]) {
     check_network(data, weights);
+    check_floor(data, weights);
     for order in ORDERS {
         check_tree(data.clone(), weights, order);
     }
@@ -165,6 +240,24 @@ fn check_tree_refused(
     assert!(work == matrix && weights == held && [low, high, chosen] == lists);
 }
 
+/// An index is refused by the number, whether the records are a branching or
+/// not, and by 12 where their list has another size; every list as before.
+fn check_index_refused(matrix: &[i32], weights: &[u8], n: usize, m: usize, number: u64) {
+    let (held, held_weights) = (matrix.to_vec(), weights.to_vec());
+    let check = |branches: &[usize], number| {
+        let held_branches = branches.to_vec();
+        assert_eq!(compare::index(matrix, weights, n, m, branches), index_refused(number));
+        assert!(matrix == held && weights == held_weights && branches == held_branches);
+    };
+    let sound = any_branching(&mut Random(number), n.clamp(1, 64));
+    check(&sound, number);
+    check(&lent::numbers(BRANCHES_SIZE), number);
+    for size in NO_BRANCHES_SIZES {
+        check(&resized(&sound, size), 12);
+        check(&lent::numbers(size), 12);
+    }
+}
+
 /// Calls on a lent matrix that is refused by the number in each order. A number
 /// of no order is refused by 15, unless a size was.
 fn check_refused(
@@ -178,6 +271,8 @@ fn check_refused(
     if sizes == FULL {
         let refusal = Measured { refusal: number, length: 0 };
         assert_eq!(compare::network(matrix, weights, n, m), refusal);
+        assert_eq!(compare::floor(matrix, weights, n, m), refusal);
+        check_index_refused(matrix, weights, n, m, number);
     }
     for order in ORDERS {
         check_tree_refused(matrix, weights, n, m, order_number(order), sizes, number);
@@ -201,6 +296,35 @@ fn any_data(random: &mut Random, most_taxa: usize, most_characters: usize) -> Da
     data
 }
 
+/// A branching of n taxa at random, as it is lent: the taxa are hung in any
+/// order on any branch, and the HTUs are numbered in any order.
+fn any_branching(random: &mut Random, n: usize) -> Vec<usize> {
+    let mut taxa: Vec<usize> = (2..=n).collect();
+    let mut htus: Vec<usize> = (n + 1..2 * n - 1).collect();
+    random.shuffle(&mut taxa);
+    random.shuffle(&mut htus);
+    let mut ancestor = vec![1; 2 * n];
+    let mut nodes = Vec::new();
+    for b in taxa {
+        if !nodes.is_empty() {
+            let (c, y) = (random.pick(&nodes), htus.pop().unwrap());
+            ancestor[y] = ancestor[c];
+            ancestor[c] = y;
+            ancestor[b] = y;
+            nodes.push(y);
+        }
+        nodes.push(b);
+    }
+    lent::branches_of((2..2 * n - 1).map(|v| ancestor[v]))
+}
+
+/// A list of this size that begins with a lent branching.
+fn resized(branches: &[usize], size: usize) -> Vec<usize> {
+    let mut list = lent::numbers(size);
+    list.iter_mut().zip(branches).for_each(|(place, number)| *place = *number);
+    list
+}
+
 /// Puts a code that is out of range into a taxon's row.
 fn put_no_code(random: &mut Random, data: &mut Data) {
     let (v, j) = (random.between(1, data.n), random.between(1, data.m));
@@ -209,9 +333,12 @@ fn put_no_code(random: &mut Random, data: &mut Data) {
 
 #[test]
 fn generated_files() {
-    seeds::each(IN_FORCE, |_, file| {
+    seeds::each(IN_FORCE, |seed, file| {
         if let Ok(data) = check_read(&file) {
-            check_accepted(&data, &lent::weights_of(&data));
+            let weights = lent::weights_of(&data);
+            check_accepted(&data, &weights);
+            check_printed(&file, &data, &weights);
+            check_index(&data, &weights, &any_branching(&mut Random(seed), data.n));
         }
     });
 }
@@ -286,6 +413,13 @@ fn lists_of_another_size() {
             check_refused(&lent::codes(MATRIX_SIZE, 0), &lent::bytes(size), n, m, FULL, 12);
         }
     }
+    for n in [1, 2, 3, 64] {
+        let sound = any_branching(&mut Random(12), n);
+        for size in NO_BRANCHES_SIZES {
+            let answer = compare::index(&zeros, &ones, n, 1, &resized(&sound, size));
+            assert_eq!(answer, index_refused(12));
+        }
+    }
 }
 
 #[test]
@@ -335,6 +469,102 @@ fn bytes_behind_the_weights() {
             let mut weights = lent::weights_of(&data);
             weights[data.m..].fill(behind);
             check_accepted(&data, &weights);
+        }
+    }
+}
+
+/// Matrices whose total is 0, equals the floor or passes it, by hand.
+#[test]
+fn indices_by_hand() {
+    let cases: [(&[u8], u64, Option<(u64, u64)>); 8] = [
+        (b"W\t1\t2\nA\t-999\t999\n", 0, None),
+        (b"W\t3\t1\nV\t9\nA\t-5\nB\t-5\nC\t-5\n", 0, None),
+        (b"W\t2\t1\nA\t0\nB\t1\n", 1, Some((1000, 0))),
+        (b"W\t2\t2\nV\t9\t9\nA\t-999\t999\nB\t999\t-999\n", 35_964, Some((1000, 0))),
+        (b"W\t4\t1\nV\t3\nA\t-2\nB\t-7\nC\t4\nD\t-1\n", 33, Some((1000, 0))),
+        (b"W\t4\t3\nA\t0\t0\t0\nB\t2\t1\t0\nC\t2\t3\t1\nD\t-1\t1\t2\n", 8, Some((888, 8))),
+        (b"W\t4\t2\nA\t0\t0\nB\t0\t1\nC\t1\t0\nD\t1\t1\n", 2, Some((666, 2))),
+        (b"W\t4\t2\nV\t9\t1\nA\t0\t0\nB\t0\t1\nC\t1\t0\nD\t1\t1\n", 10, Some((909, 1))),
+    ];
+    for (file, length, index) in cases {
+        let data = check_read(file).unwrap();
+        let (matrix, weights) = (lent::matrix_of(&data), lent::weights_of(&data));
+        assert_eq!(compare::floor(&matrix, &weights, data.n, data.m).length, length);
+        assert_eq!(check_printed(file, &data, &weights), index_is(index));
+    }
+}
+
+/// Records in order whose immediate ancestors make no branching.
+#[test]
+fn ancestors_of_no_branching() {
+    let refused: [(usize, &[usize]); 14] = [
+        (2, &[0]), // no node
+        (2, &[3]), // no node of two taxa
+        (2, &[usize::MAX]),
+        (2, &[(1 << 32) + 1]), // 1 in its lower half
+        (3, &[4, 4, 257]),     // 1 in its lowest byte
+        (2, &[2]),             // the node itself
+        (3, &[4, 4, 4]),
+        (3, &[1, 1, 1]),             // row 1 above three nodes
+        (3, &[4, 1, 1]),             // an HTU above one node
+        (4, &[5, 5, 5, 1, 5]),       // an HTU above four nodes, one above none
+        (4, &[3, 5, 3, 1, 5]),       // a taxon above two nodes
+        (4, &[1, 5, 6, 6, 5]),       // two HTUs in a circle
+        (5, &[6, 6, 1, 7, 8, 8, 7]), // two HTUs in a circle, one below them
+        (5, &[1, 6, 7, 8, 7, 8, 6]), // three HTUs in a circle
+    ];
+    for (n, ancestors) in refused {
+        let branches = lent::branches_of(ancestors.iter().copied());
+        let answer = check_index(&Data::blank(n, 1), &[1; WEIGHTS_SIZE], &branches);
+        assert_eq!(answer, index_refused(14));
+    }
+}
+
+/// A branching with a number of one record changed, or two ancestors or two
+/// records exchanged: it may be one still.
+#[test]
+fn records_changed() {
+    let mut random = Random(14);
+    let (mut accepted, mut refused) = (0, 0);
+    for _ in 0..400 {
+        let data = any_data(&mut random, 64, 8);
+        let (n, weights) = (data.n.max(2), lent::weights_of(&data));
+        let data = Data { n, ..data };
+        for _ in 0..10 {
+            let mut branches = any_branching(&mut random, n);
+            let (u, v) = (3 * random.below(2 * n - 3), 3 * random.below(2 * n - 3));
+            match random.below(5) {
+                0 => branches[u] = random.pick(&[0, 1, branches[v], 126, 127, usize::MAX]),
+                1 => branches[u + 1] = random.between(0, 2 * n),
+                2 => branches[u + 1] = random.pick(&[0, 1, 125, 126, 127, 128, usize::MAX]),
+                3 => branches.swap(u + 1, v + 1),
+                _ => (0..3).for_each(|i| branches.swap(u + i, v + i)),
+            }
+            match check_index(&data, &weights, &branches).refusal {
+                0 => accepted += 1,
+                _ => refused += 1,
+            }
+        }
+    }
+    println!("branchings with records changed: accepted {accepted}, refused {refused}");
+    assert!(accepted > 100 && refused > 100);
+}
+
+/// Neither the lengths of a lent branching are read, nor what stands behind the
+/// first 2n-3 records.
+#[test]
+fn numbers_beside_the_branching() {
+    let mut random = Random(375);
+    for _ in 0..100 {
+        let data = any_data(&mut random, 64, 16);
+        let weights = lent::weights_of(&data);
+        let branches = any_branching(&mut random, data.n);
+        let answer = check_index(&data, &weights, &branches);
+        for beside in [0, 1, data.n, 2 * data.n - 1, usize::MAX] {
+            let mut other = branches.clone();
+            other.iter_mut().skip(2).step_by(3).for_each(|length| *length = beside);
+            other[3 * (data.node_count() - 1)..].fill(beside);
+            assert_eq!(check_index(&data, &weights, &other), answer);
         }
     }
 }

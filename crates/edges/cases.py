@@ -6,9 +6,9 @@
 BIN is the folder of the reference's two programs, wagner-reference and wagner-files (cargo build --release in a copy of reference/). What
 a file brings is what wagner-reference prints with the requests in force; a text of more than 1,500 bytes stands as its length and its
 checksum Adler-32. Behind each stands how many of 1,048,576 lent bytes are left. The files of the base come first: they bring what they
-bring with --requests 0, but for a fourth field in line 1, which the base refuses, and for a row 1 named `V`, which is read as weights. A
-case is the length of the file and the number of bytes that are kept of it, each in three bytes, the highest first, and these bytes; the
-file goes on with `x`.
+bring with --requests 0 and a `c` line after the `t` line, but for a fourth field in line 1, which the base refuses, and for a row 1 named
+`V`, which is read as weights. A case is the length of the file and the number of bytes that are kept of it, each in three bytes, the
+highest first, and these bytes; the file goes on with `x`.
 """
 import os
 import subprocess
@@ -19,7 +19,7 @@ BIN = sys.argv[1]
 HERE = os.path.dirname(os.path.abspath(__file__))
 LENT = 1048576
 MOST_PRINTED = 1500
-IN_FORCE = 2  # so many requests, from M-100 on
+IN_FORCE = 3  # so many requests, from M-100 on
 EXAMPLE = b'W\t4\t3\nA\t0\t0\t0\nB\t2\t1\t0\nC\t2\t3\t1\nD\t-1\t1\t2\n'
 
 
@@ -161,6 +161,40 @@ def by_weights():
     yield with_field(weighed(largest, [b'%d' % (j % 9 + 1) for j in range(128)]), b'closest')
 
 
+def rows(*codes):
+    """A file with these rows of codes."""
+    return matrix(len(codes), len(codes[0]), lambda v, j: codes[v - 1][j - 1])
+
+
+def indices():
+    """The consistency index: none, of a total that equals the floor, of greater ones, and by weights."""
+    yield rows([-7, 0, 999])                                    # one taxon, a total of 0
+    yield weighed(rows([-7, 0, 999]), [b'9', b'1', b'5'])
+    yield rows(*[[-7, 0, 999]] * 6)                             # equal rows, a total of 0
+    yield with_field(weighed(rows(*[[3, -3]] * 64), [b'9', b'2']), b'closest')
+    yield rows([0], [1])                                        # a total of 1
+    yield rows([0, 5], [0, 5], [0, 6], [0, 5])                  # one character that varies, by one taxon
+    yield rows([0], [10], [20], [40], [30])                     # a total that equals the floor: row 1 lowest
+    yield rows([40], [10], [20], [0], [30])                     # row 1 highest
+    yield rows([20], [10], [40], [0], [30])                     # row 1 between
+    yield rows([-9, 4], [-2, 4], [-5, 9], [-9, 6])              # row 1 lowest in both, codes below 0 in one
+    yield rows([-2, 9], [-9, 4], [-5, 9], [-9, 6])              # highest in both
+    yield rows([-3, 3], [5, -5], [-8, 8], [1, -1], [-8, -5])    # codes on both sides of 0
+    yield rows([999, -999], [-999, 999], [-999, -999], [999, 999])
+    crossed = rows([0, 0], [0, 1], [1, 0], [1, 1])              # floor 2, total 3
+    yield crossed
+    for weights in [b'11', b'12', b'21', b'19', b'91', b'99']:
+        yield weighed(crossed, [b'%c' % weight for weight in weights])
+    yield rows([0, 0, 0], [0, 1, 1], [1, 0, 1], [1, 1, 0])      # floor 3, total 5: nothing left over
+    apart = matrix(9, 4, lambda v, j: (v * v * j + v) % 11 - 5)
+    for weights in [b'1111', b'9111', b'1191', b'1239', b'9999']:  # other totals in the other order, but for the third
+        yield weighed(apart, [b'%c' % weight for weight in weights])
+        yield with_field(weighed(apart, [b'%c' % weight for weight in weights]), b'closest')
+    yield matrix(64, 6, lambda v, j: (v - 1 >> j - 1) % 2)      # every combination of six characters
+    mixed = matrix(64, 128, lambda v, j: 999 if (40503 * v ** 3 * j ** 2 + 7919 * v * j >> 9) % 2 else -999)
+    yield weighed(mixed, [b'9'] * 128)                          # the largest floor, 2,301,696
+
+
 def generated(first, count, least, most, requests=0, right=lambda file: True):
     """Generated files from a seed on, with a length within limits, that are right for what is asked."""
     seed = first
@@ -185,11 +219,22 @@ def printed(file):
     return b'L\t%d\t%d\n' % (len(text), zlib.adler32(text)) + left
 
 
+def without_index(text):
+    """A listing without the line that follows its `t` line, a `c` line; a refusal as it is."""
+    before, end, behind = text.partition(b'\nt\t')
+    if not end:
+        return text
+    total, index, *others = behind.split(b'\n')
+    assert index.startswith(b'c\t')
+    return before + end + b'\n'.join([total, *others])
+
+
 def as_before(file):
-    """A file brings what it brought with the base alone, but for a fourth field, which the base refuses by 3, and a row 1 named `V`."""
+    """A file brings what it brought with the base alone and a `c` line, but for a fourth field, which the base refuses by 3, and a row 1
+    named `V`."""
     before = run('wagner-reference', requests=0, given=file)
     now = run('wagner-reference', requests=IN_FORCE, given=file)
-    return before == now or (before == b'R\t3\t1\n' and has_word(file)) or has_weights(file)
+    return before == without_index(now) or (before == b'R\t3\t1\n' and has_word(file)) or has_weights(file)
 
 
 def has_word(file):
@@ -207,7 +252,8 @@ assert all(map(as_before, base))
 files = [*base, *fourth_fields(), *in_both_orders()]
 files += [*generated(60000, 80, 0, 400, 1, has_word), *generated(80000, 10, 401, 1500, 1, has_word)]
 files += [*weight_lines(), *by_weights()]
-files += [*generated(100000, 80, 0, 400, IN_FORCE, has_weights), *generated(120000, 10, 401, 1500, IN_FORCE, has_weights)]
+files += [*generated(100000, 80, 0, 400, 2, has_weights), *generated(120000, 10, 401, 1500, 2, has_weights)]
+files += indices()
 # three numbers of lent bytes that are not the full size: refused with 12, 0 bytes counted, all of them left
 refused = b''.join(b'R\t12\t0\nk\t%d\n' % size for size in [40, LENT - 1, LENT + 1])
 with open(os.path.join(HERE, 'data', 'cases'), 'wb') as cases:

@@ -10,7 +10,7 @@ bytes are as they were.
 import os, subprocess, sys
 REF = sys.argv[1] + '/'
 OUT = os.path.dirname(os.path.abspath(__file__)) + '/'
-IN_FORCE=2  # so many requests, from M-100 on
+IN_FORCE=3  # so many requests, from M-100 on
 def ref(b):
     return subprocess.run([REF+'wagner-reference','--requests',str(IN_FORCE)],input=b,stdout=subprocess.PIPE,check=True).stdout
 def gen(seed,requests=0):

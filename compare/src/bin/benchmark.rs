@@ -5,6 +5,7 @@
 use compare::{lent, plain, ADVANCE, CLOSEST, IN_FORCE, MATRIX_SIZE, OUTPUT_SIZE};
 use std::hint::black_box;
 use std::time::{Duration, Instant};
+use wagner_reference::consistency::{consistency, floor};
 use wagner_reference::data::Data;
 use wagner_reference::files::Random;
 use wagner_reference::fit::fit;
@@ -56,8 +57,9 @@ fn time(mut work: impl FnMut()) -> f64 {
 }
 
 /// The parts of one program, in microseconds. `build` is by advancement and
-/// `closest` the other order; `both` is `build` and fit, `whole` is from a
-/// file's bytes to those of its listing, by advancement.
+/// `closest` the other order; `both` is `build` and fit, `index` that of the
+/// tree by advancement, lent as a branching, `whole` is from a file's bytes to
+/// those of its listing, by advancement.
 #[derive(Clone, Copy)]
 struct Parts {
     read: f64,
@@ -65,6 +67,8 @@ struct Parts {
     build: f64,
     closest: f64,
     both: f64,
+    floor: f64,
+    index: f64,
     whole: f64,
 }
 
@@ -76,7 +80,7 @@ impl Parts {
 
     /// The time of printing alone.
     fn print(self) -> f64 {
-        self.whole - self.read - self.network - self.both
+        self.whole - self.read - self.network - self.both - self.floor
     }
 
     /// The least times of two.
@@ -87,32 +91,44 @@ impl Parts {
             build: self.build.min(other.build),
             closest: self.closest.min(other.closest),
             both: self.both.min(other.both),
+            floor: self.floor.min(other.floor),
+            index: self.index.min(other.index),
             whole: self.whole.min(other.whole),
         }
     }
 
     /// All times, in the order of their names.
-    fn all(self) -> [f64; 7] {
+    fn all(self) -> [f64; COUNT] {
         let (fit, print) = (self.fit(), self.print());
-        [self.read, self.network, self.build, self.closest, fit, print, self.whole]
+        let Parts { read, network, build, closest, floor, index, whole, .. } = self;
+        [read, network, build, closest, fit, floor, index, print, whole]
     }
 }
 
 /// The least times of several rounds of measuring, so that other work on the
 /// machine shows less.
-fn rounds(measure: impl Fn() -> Parts) -> [f64; 7] {
+fn rounds(measure: impl Fn() -> Parts) -> [f64; COUNT] {
     (0..ROUNDS).map(|_| measure()).reduce(Parts::least).unwrap().all()
 }
 
 /// The same for two files, one after the other in each round.
-fn rounds_of_both(measure: impl Fn(&[u8]) -> Parts, files: [&[u8]; 2]) -> [[f64; 7]; 2] {
+fn rounds_of_both(measure: impl Fn(&[u8]) -> Parts, files: [&[u8]; 2]) -> [[f64; COUNT]; 2] {
     let both: Vec<[Parts; 2]> = (0..ROUNDS).map(|_| files.map(&measure)).collect();
     [0, 1].map(|i| both.iter().map(|parts| parts[i]).reduce(Parts::least).unwrap().all())
 }
 
 const ROUNDS: usize = 5;
 
-const NAMES: [&str; 7] = ["read", "network", "build", "closest", "fit", "print", "whole"];
+const COUNT: usize = 9;
+
+const NAMES: [&str; COUNT] =
+    ["read", "network", "build", "closest", "fit", "floor", "index", "print", "whole"];
+
+/// The Wagner tree of a lent matrix by advancement, as a lent branching.
+fn branches(matrix: &[i32], weights: &[u8], n: usize, m: usize) -> Vec<usize> {
+    let (tree, _, _) = plain::build(&mut matrix.to_vec(), weights, n, m, ADVANCE);
+    lent::branches_of((2..2 * n - 1).map(|v| tree[v]))
+}
 
 /// The parts of the proved library.
 fn ours(file: &[u8]) -> Parts {
@@ -137,11 +153,18 @@ fn ours(file: &[u8]) -> Parts {
         let matrix = black_box(&mut matrix);
         black_box(compare::fit(matrix, &weights, n, m, ADVANCE, &mut low, &mut high, &mut chosen));
     });
+    let floor = time(|| {
+        black_box(compare::floor(black_box(&matrix), &weights, n, m));
+    });
+    let branches = branches(&matrix, &weights, n, m);
+    let index = time(|| {
+        black_box(compare::index(black_box(&matrix), &weights, n, m, &branches));
+    });
     let mut out = lent::bytes(OUTPUT_SIZE);
     let whole = time(|| {
         black_box(compare::list(black_box(file), &mut out));
     });
-    Parts { read, network, build, closest, both, whole }
+    Parts { read, network, build, closest, both, floor, index, whole }
 }
 
 /// The parts of the plain loops.
@@ -167,12 +190,19 @@ fn plain_loops(file: &[u8]) -> Parts {
         let (tree, _, _) = plain::build(matrix, &weights, n, m, ADVANCE);
         black_box(plain::fit(matrix, &weights, n, m, &tree, &mut low, &mut high, &mut chosen));
     });
+    let floor = time(|| {
+        black_box(plain::floor(black_box(&matrix), &weights, n, m));
+    });
+    let branches = branches(&matrix, &weights, n, m);
+    let index = time(|| {
+        black_box(plain::index(black_box(&matrix), &weights, n, m, &branches));
+    });
     let mut out = Vec::with_capacity(OUTPUT_SIZE);
     let whole = time(|| {
         out = plain::list(black_box(file), std::mem::take(&mut out)).unwrap();
         black_box(&out);
     });
-    Parts { read, network, build, closest, both, whole }
+    Parts { read, network, build, closest, both, floor, index, whole }
 }
 
 /// The parts of the reference.
@@ -196,10 +226,17 @@ fn theirs(file: &[u8]) -> Parts {
         black_box(fit(black_box(&data), &built.branches).unwrap());
         black_box(ranges(black_box(&data), &built.branches).unwrap());
     });
+    let floor = time(|| {
+        black_box(floor(black_box(&data)).unwrap());
+    });
+    let branches = build(&mut built_data, Order::Advance).unwrap().branches;
+    let index = time(|| {
+        black_box(consistency(black_box(&data), &branches).unwrap());
+    });
     let whole = time(|| {
         black_box(listing(black_box(file), IN_FORCE));
     });
-    Parts { read: read_time, network, build: build_time, closest, both, whole }
+    Parts { read: read_time, network, build: build_time, closest, both, floor, index, whole }
 }
 
 /// Prints the times of one part.
@@ -219,8 +256,9 @@ fn growth(sizes: [(usize, usize); 4]) {
         for part in parts {
             print!(" {part:9.1}");
         }
-        println!(" {:8.2}", parts[6] / before);
-        before = parts[6];
+        let whole = parts[COUNT - 1];
+        println!(" {:8.2}", whole / before);
+        before = whole;
     }
 }
 
