@@ -1,10 +1,10 @@
 -- The index as it is computed is the one that the paper describes, and there is no other.
 use mathlib.Core.Path.{_≡_, refl, sym, ap, ap₂, _∙_}
 use Prim.Native.Nat.{ℕ, zero, suc, _+_, _*_, _/_, _%_, _≤_, _<_}
-use native.Mathlib.Nat.{div-add-mod', mod-lt, zero-lt-suc, zero-add, add-comm, add-mul-div-right, mul-add-mod-self-right, div-eq-of-lt, mod-eq-of-lt, div-lt-iff-lt-mul}
+use native.Mathlib.Nat.{div-add-mod', mod-lt, zero-lt-suc, zero-add, add-comm, add-mul-div-right, mul-add-mod-self-right, div-eq-of-lt, mod-eq-of-lt, div-lt-iff-lt-mul, le-of-mul-le-mul-right}
 use native.Mathlib.Omega.{arith}
 use Rattle.consistency.specs.declared.index.Index.{Index}
-use Rattle.consistency.specs.declared.index.Index.the-variants.{Divided, NoTotal}
+use Rattle.consistency.specs.declared.index.Index.the-variants.{Divided}
 use Rattle.consistency.specs.Index.{thousand, IsIndex, divided, noTotal, index}
 
 -- the index is what the paper says
@@ -37,3 +37,10 @@ pub thousandths-most : (floor total : ℕ) → floor ≤ total → 1 ≤ total �
 thousandths-most floor total below some =
     let less : thousand * floor / total < thousand + 1 = div-lt-iff-lt-mul some .1 (omega arith) in
     omega arith
+
+-- so its quotient is at most 1000
+pub quotient-most : (floor total quotient remainder : ℕ) → floor ≤ total → IsIndex floor total (Divided quotient remainder)
+    → quotient ≤ thousand
+quotient-most floor total q r below (divided quotient remainder e over) =
+    let most : quotient * total ≤ thousand * total = omega (arith, e, below) in
+    le-of-mul-le-mul-right most (omega arith)

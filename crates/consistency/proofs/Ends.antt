@@ -1,5 +1,5 @@
 -- The lowest and the highest of some codes: they are among the codes, and all codes lie between them.
-use mathlib.Core.Path.{_≡_, refl, sym, subst}
+use mathlib.Core.Path.{refl, sym, subst}
 use mathlib.Core.Logic.{⊎-elim}
 use mathlib.Core.List.{List, [], _∷_, List·Memᴰ, List·Memᴰ·head, List·Memᴰ·tail, List·Memᴰ·not-nil, List·Memᴰ·cases-cons}
 use Prim.Native.Nat.{ℕ, _≤_}
@@ -8,10 +8,9 @@ use native.Mathlib.Omega.{arith}
 use lib.IntN.{ℤ}
 use lib.ListN.{length}
 use lib.Signed.{_≤ℤ_, ≤ℤ-refl}
-use Rattle.difference.specs.Rows.{apart, part, lower, higher}
-use Rattle.difference.proofs.Laws.Order.{≤ℤ-total, lower-keeps, higher-keeps}
-use Rattle.difference.proofs.Laws.Places.{everywhere, apart-place, place-le}
-use Rattle.difference.proofs.Laws.Codes.{≤ℤ-trans, lower-first, lower-second, higher-first, higher-second}
+use Rattle.difference.specs.Rows.{part, lower, higher}
+use Rattle.difference.proofs.Laws.Order.{lower-keeps, higher-keeps}
+use Rattle.difference.proofs.Laws.Codes.{≤ℤ-trans, lower-least, higher-most, between-ends}
 use Rattle.consistency.specs.Floor.{lowest, highest, characterFloor}
 
 -- what holds of every code of a list holds of its lowest and of its highest
@@ -42,20 +41,6 @@ lowest-mem codes some = lowest-keeps (λ c. List·Memᴰ c codes) codes some (λ
 pub highest-mem : (codes : List ℤ) → 1 ≤ length codes → List·Memᴰ (highest codes) codes
 highest-mem codes some = highest-keeps (λ c. List·Memᴰ c codes) codes some (λ c i. i)
 
--- the lower of two codes is at most either
-lower-least : (a b : ℤ) → (lower a b ≤ℤ a) × (lower a b ≤ℤ b)
-lower-least a b = ⊎-elim
-    (λ (h : a ≤ℤ b). rw (lower-first a b h) (≤ℤ-refl a, h))
-    (λ (h : b ≤ℤ a). rw (lower-second a b h) (h, ≤ℤ-refl b))
-    (≤ℤ-total a b)
-
--- the higher of two codes is at least either
-higher-most : (a b : ℤ) → (a ≤ℤ higher a b) × (b ≤ℤ higher a b)
-higher-most a b = ⊎-elim
-    (λ (h : a ≤ℤ b). rw (higher-second a b h) (h, ≤ℤ-refl b))
-    (λ (h : b ≤ℤ a). rw (higher-first a b h) (≤ℤ-refl a, h))
-    (≤ℤ-total a b)
-
 -- no code of a list is below its lowest
 pub lowest-least : (codes : List ℤ) (code : ℤ) → List·Memᴰ code codes → lowest codes ≤ℤ code
 unfolding lowest
@@ -79,19 +64,6 @@ highest-most (c ∷ next ∷ codes) code i =
     (λ e. subst (λ x. x ≤ℤ higher c (highest (next ∷ codes))) (sym e) (high .0))
     (λ j. ≤ℤ-trans (highest-most (next ∷ codes) code j) (high .1))
     (List·Memᴰ·cases-cons i)
-
--- two codes between two ends lie no farther apart than these
-between-ends : (low high a b : ℤ) → low ≤ℤ a → a ≤ℤ high → low ≤ℤ b → b ≤ℤ high → apart a b ≤ apart high low
-between-ends low high a b =
-    everywhere
-    (λ z. z 0 ≤ℤ z 2 → z 2 ≤ℤ z 1 → z 0 ≤ℤ z 3 → z 3 ≤ℤ z 1 → apart (z 2) (z 3) ≤ apart (z 1) (z 0))
-    (λ K n p q r s.
-    let p′ = place-le K (n 0) (n 2) p in
-    let q′ = place-le K (n 2) (n 1) q in
-    let r′ = place-le K (n 0) (n 3) r in
-    let s′ = place-le K (n 3) (n 1) s in
-    simp apart-place (omega arith))
-    (low ∷ high ∷ a ∷ b ∷ [])
 
 -- the floor of a character is the greatest part between two taxa: none of two codes is greater
 pub widest : (w : ℕ) (codes : List ℤ) (a b : ℤ) → List·Memᴰ a codes → List·Memᴰ b codes → part w a b ≤ characterFloor (part w) codes

@@ -1,28 +1,26 @@
 -- The floor never passes the total, of any branching and any assignment.
-use mathlib.Core.Path.{_≡_, refl, sym, subst}
+use mathlib.Core.Path.{_≡_, sym, subst}
 use mathlib.Core.Bool.{true}
 use mathlib.Core.Logic.{by-cases}
-use mathlib.Core.List.{List, [], _∷_, map, List·Memᴰ}
-use Prim.Native.Nat.{ℕ, _*_, _-_, _≤_}
+use mathlib.Core.List.{List, List·Memᴰ}
+use Prim.Native.Nat.{ℕ, _≤_}
 use native.Mathlib.Omega.{arith}
 use native.Mathlib.Decide.{decLe}
 use lib.IntN.{ℤ}
 use lib.ListN.{length}
 use Rattle.lists.specs.Numbers.{numbers}
-use Rattle.lists.specs.Sums.{sumOver}
 use Rattle.lists.proofs.Numbers.{numbers-within, length-map-numbers}
 use Rattle.lists.proofs.Maps.{map-mem}
 use Rattle.lists.proofs.Sums.{sum-le, sum-none}
 use Rattle.matrix.specs.Shape.{weightOf}
 use Rattle.matrix.specs.Questions.{areWeights}
-use Rattle.difference.specs.Rows.{part, weighing}
+use Rattle.difference.specs.Rows.{weighing}
 use Rattle.difference.proofs.Laws.Weights.{part-sym, part-self, part-triangle}
 use Rattle.branching.specs.Growing.{branching}
 use Rattle.branching.proofs.Test.{branching-iff}
 use Rattle.branching.proofs.Whole.{branching-grown}
 use Rattle.fitting.specs.Assignments.{character, total, IsAssignment}
 use Rattle.fitting.specs.Fit.{chosenState, fittedTotal}
-use Rattle.fitting.proofs.Clades.Cost.{cost}
 use Rattle.fitting.proofs.Clades.Built.{CladeOf, clade-of}
 use Rattle.fitting.proofs.Matrix.EachFitted.{costOf, total-cost}
 use Rattle.fitting.proofs.Matrix.ThirdRival.{third-rival}

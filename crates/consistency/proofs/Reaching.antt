@@ -1,5 +1,5 @@
 -- How far the states of two nodes of a clade lie apart: never farther than the clade costs.
-use mathlib.Core.Path.{_≡_, sym, subst}
+use mathlib.Core.Path.{_≡_, subst}
 use mathlib.Core.Bool.{true, _||_}
 use Prim.Native.Nat.{ℕ, _+_, _≤_}
 use native.Mathlib.Omega.{arith}
@@ -11,11 +11,25 @@ use Rattle.fitting.specs.Clades.{Clade, tip, fork}
 use Rattle.fitting.proofs.Clades.Cost.{cost}
 use Rattle.fitting.proofs.Clades.Nodes.{has}
 
--- what a step costs that is the same either way round, is nothing from a state to itself, and is no shorter in two
+-- what a step costs that is the same either way round, nothing from a state to itself, and never less by way of a third state
 pub record Distance (step : ℤ → ℤ → ℕ) : Type 0 where
   pub same : (a b : ℤ) → step a b ≡ step b a
   pub none : (a : ℤ) → step a a ≡ 0
   pub triangle : (a b c : ℤ) → step a c ≤ step a b + step b c
+
+-- where a node of a fork stands: it is the fork's HTU, or on one of the two sides
+data Standing (u : ℕ) (a b : Clade) : ℕ → Type 0 where
+  here : Standing u a b u
+  first : (v : ℕ) → has a v ≡ true → Standing u a b v
+  second : (v : ℕ) → has b v ≡ true → Standing u a b v
+
+-- each of its nodes stands so
+standing : (u : ℕ) (a b : Clade) (v : ℕ) → has (fork u a b) v ≡ true → Standing u a b v
+unfolding has
+standing u a b v h =
+    or-cases (eqb u v) (has a v || has b v) h
+    (λ e. subst (λ w. Standing u a b w) (eqb-true u v e) here)
+    (λ below. or-cases (has a v) (has b v) below (λ i. first v i) (λ i. second v i))
 
 module _ (step : ℤ → ℤ → ℕ) (distance : Distance step) (f : ℕ → ℤ) where
   -- from a node of a clade to the state above it
@@ -30,20 +44,6 @@ module _ (step : ℤ → ℤ → ℕ) (distance : Distance step) (f : ℕ → �
       or-cases (has a v) (has b v) below
       (λ first. omega (arith, two, reach-above (f u) a v first))
       (λ second. omega (arith, two, reach-above (f u) b v second)))
-
-  -- where a node of a fork stands: it is the fork's HTU, or on one of the two sides
-  pub data Standing (u : ℕ) (a b : Clade) : ℕ → Type 0 where
-    here : Standing u a b u
-    first : (v : ℕ) → has a v ≡ true → Standing u a b v
-    second : (v : ℕ) → has b v ≡ true → Standing u a b v
-
-  -- each of its nodes stands so
-  standing : (u : ℕ) (a b : Clade) (v : ℕ) → has (fork u a b) v ≡ true → Standing u a b v
-  unfolding has
-  standing u a b v h =
-      or-cases (eqb u v) (has a v || has b v) h
-      (λ e. subst (λ w. Standing u a b w) (eqb-true u v e) here)
-      (λ below. or-cases (has a v) (has b v) below (λ i. first v i) (λ i. second v i))
 
   -- from one node of a clade to another
   pub reach-across : (y : ℤ) (t : Clade) (v w : ℕ) → has t v ≡ true → has t w ≡ true → step (f v) (f w) ≤ cost step f y t

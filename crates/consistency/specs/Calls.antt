@@ -2,7 +2,7 @@
 -- order, then the definition.
 use mathlib.Core.Path.{_≡_}
 use mathlib.Core.List.{List}
-use Prim.Native.Nat.{ℕ, _≤_}
+use Prim.Native.Nat.{ℕ, _≤_, _<_}
 use lib.IntN.{ℤ}
 use Rattle.matrix.specs.NodeRows.{rowsOf}
 use Rattle.matrix.specs.Refusals.{refusalNumber}
@@ -16,6 +16,7 @@ use Rattle.fitting.specs.Fit.{fittedTotal}
 use Rattle.consistency.specs.Floor.{floor}
 use Rattle.consistency.specs.Index.{index}
 use Rattle.consistency.specs.declared.index.Index.{Index}
+use Rattle.consistency.specs.declared.index.Index.the-variants.{NoTotal}
 use Rattle.consistency.specs.declared.calls.Consistency.{Consistency}
 use Rattle.consistency.specs.declared.calls.Consistency.the-variants.{Is, Refused}
 
@@ -27,13 +28,14 @@ lentFloor codes weights n m = floor (weighing weights .step) (rowsOf codes m n) 
 pub record FloorOf (codes : List ℤ) (weights : List ℕ) (n m r : ℕ) : Type 0 where
   pub is : LentMatrix codes n m → r ≡ lentFloor codes weights n m
 
--- no matrix has a higher floor than this, by which two rows can differ
+-- the highest floor that a matrix can have: as much as two rows can differ
 abbrev pub mostFloor : ℕ
 mostFloor = mostDifference
 
--- r is the index of a floor and a total, if the floor is one that a matrix can have
+-- r is the index of a floor and a total; for a floor that no matrix has there is none
 pub record IndexOf (floor total : ℕ) (r : Index) : Type 0 where
   pub is : floor ≤ mostFloor → r ≡ index floor total
+  pub above : mostFloor < floor → r ≡ NoTotal
 
 -- the floor of a lent matrix, once its questions are answered
 unfoldable pub floorAnswer : List ℤ → List ℕ → ℕ → ℕ → Outcome ℕ

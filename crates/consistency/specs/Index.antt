@@ -8,7 +8,7 @@ use Rattle.consistency.specs.declared.index.Index.the-variants.{Divided,
 abbrev pub thousand : ℕ
 thousand = 1000
 
--- the index of a floor and a total: 1000 times the floor is the quotient times the total and the remainder, which is below the total; with
+-- the index of a floor and a total: 1000 times the floor is the quotient times the total plus the remainder, which is below the total; with
 -- a total of 0 there is none
 pub data IsIndex (floor total : ℕ) : Index → Type 0 where
   divided : (quotient remainder : ℕ) → thousand * floor ≡ quotient * total + remainder → remainder < total

@@ -4,7 +4,7 @@ ghost use Rattle.consistency.specs.Calls.{IndexOf};
 // The index is counted in thousandths.
 const THOUSAND: u64 = 1000;
 
-// No matrix has a higher floor: 128 times 9 times 1998.
+// The highest floor that a matrix can have: 128 times 9 times 1998.
 const MOST_FLOOR: u64 = 2301696;
 
 // Quotient and remainder of 1000 times the floor, divided by a total; there are none with a total of 0.
@@ -13,7 +13,7 @@ pub enum Index {
     NoTotal,
 }
 
-// The index of a total, by a floor that a matrix can have.
+// The index of a floor and a total: none with a total of 0, nor for a floor that no matrix has.
 pub fn index_of(floor: u64, total: u64) -> Index
     ensures { λ r. ⌜ IndexOf floor total r ⌝ }
 {

@@ -18,7 +18,9 @@ use Rattle.matrix_file.specs.Job.{Job}
 use Rattle.matrix_file.specs.Reading.{readAnswer}
 use Rattle.matrix_file.specs.Report.{fullSize, readOutcome, withHeader}
 use Rattle.matrix_file.proofs.File.Numbered.{refused-bounds}
-use Rattle.exports.specs.Answers.{fileRead, measured}
+use Rattle.consistency.specs.declared.index.Index.{Index}
+use Rattle.consistency.specs.declared.index.Index.the-variants.{Divided, NoTotal}
+use Rattle.exports.specs.Answers.{fileRead, measured, indexed}
 
 -- no refusal has the number 0
 pub numbered : (refusal : Refusal) → 1 ≤ refusalNumber refusal
@@ -44,6 +46,20 @@ pub zero-passed : (asked : Asked) (length : ℕ) → (measured (answered asked l
 zero-passed Passed length = (λ e. refl, λ e. refl)
 zero-passed (Refused refusal) length =
     (λ e. absurd (omega (arith, numbered refusal)), λ e. absurd (let z : _≡_ {A = ℕ} 0 1 = cc in omega arith))
+
+-- so does the call for an index
+pub zero-indexed : (asked : Asked) (index : Index) → (indexed (answered asked index) .refusal ≡ 0) ↔ (asked ≡ Passed)
+zero-indexed Passed (Divided quotient remainder) = (λ e. refl, λ e. refl)
+zero-indexed Passed NoTotal = (λ e. refl, λ e. refl)
+zero-indexed (Refused refusal) index =
+    (λ e. absurd (omega (arith, numbered refusal)), λ e. absurd (let z : _≡_ {A = ℕ} 0 1 = cc in omega arith))
+
+-- which hands back 1 for divided exactly if there is an index
+pub one-divided : (outcome : Outcome Index)
+    → (indexed outcome .divided ≡ 1) ↔ ((quotient : ℕ) × (remainder : ℕ) × (outcome ≡ value (Divided quotient remainder)))
+one-divided (value (Divided quotient remainder)) = (λ e. (quotient, remainder, refl), λ is. refl)
+one-divided (value NoTotal) = (λ e. absurd (omega arith), λ is. let same = is .2 in absurd (let z : _≡_ {A = ℕ} 0 1 = cc in omega arith))
+one-divided (refused number line) = (λ e. absurd (omega arith), λ is. let same = is .2 in absurd (let z : _≡_ {A = ℕ} 0 1 = cc in omega arith))
 
 -- nor has any refusal of a read
 read-numbered : (file : List ℕ) (matrix : List ℤ) (weights names : List ℕ) (number line : ℕ)

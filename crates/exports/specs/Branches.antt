@@ -6,7 +6,7 @@ use Rattle.lists.specs.Numbers.{numbers}
 use Rattle.branching.specs.declared.branch.Branch.{Branch}
 use Rattle.branching.specs.Asking.{branchesSize}
 
--- a branch record is three numbers: a node, its immediate ancestor, a length
+-- a branch record is three numbers: a node, its immediate ancestor, and a length, which is not read
 abbrev pub recordSize : ℕ
 recordSize = 3
 
@@ -19,7 +19,7 @@ unfoldable pub recordAt : List ℕ → ℕ → Branch
 recordAt lent place = record {
   node = getD lent (recordSize * place) 0;
   ancestor = getD lent (recordSize * place + 1) 0;
-  length = getD lent (recordSize * place + 2) 0;
+  length = 0;
 }
 
 -- all records

@@ -18,15 +18,15 @@ pub struct FileRead {
     pub order: u64,
 }
 
-// What a call on a lent matrix answers: 0 and a length; or the number of the refusal and 0.
+// What a call on a lent matrix answers: 0 and a length, or the floor; or the number of the refusal and 0.
 #[repr(C)]
 pub struct Measured {
     pub refusal: u64,
     pub length: u64,
 }
 
-// What the call for the index of a lent branching answers: 0 and 1, the quotient and the remainder, or zeros where there is no index; or the
-// number of the refusal and zeros.
+// What the call for an index answers: refusal 0, divided 1, quotient and remainder; four zeros for a total of 0; or the number of the refusal
+// and zeros.
 #[repr(C)]
 pub struct Indexed {
     pub refusal: u64,

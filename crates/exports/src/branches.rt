@@ -6,7 +6,7 @@ ghost use Prim.Native.Nat.{_<_};
 ghost use lib.ListN.{length};
 ghost use Rattle.exports.specs.Branches.{lentNumbers, recordAt, recordsIn};
 
-// A branch record is three numbers: a node, its immediate ancestor, a length.
+// A branch record is three numbers: a node, its immediate ancestor, and a length, which is not read.
 const RECORD: usize = 3;
 
 // A lent branching is 125 records.
@@ -21,7 +21,7 @@ fn record_at(numbers: &[usize], place: usize) -> Branch
     Branch {
         node: numbers[start],
         ancestor: numbers[start + 1],
-        length: numbers[start + 2] as u64,
+        length: 0,
     }
 }
 

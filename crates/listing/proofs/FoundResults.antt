@@ -129,7 +129,7 @@ module _ (order : Order) (codes after : List ℤ) (weights : List ℕ) (n m : �
     (full : StateLists low high chosen) (answer : Answer) (links : NetworkAnswer codes weights n m answer)
     (built : WagnerTree) (done : BuildDone order codes after weights n m built)
     (fit : Fit) (fitted : TreeFitted after weights n m (ancestors (built .tree)) low low′ high high′ chosen chosen′ fit)
-    (lowest : ℕ) (floor : FloorOf codes weights n m lowest) (consistency : Index) (indexed : IndexOf lowest (fit .total) consistency) where
+    (least : ℕ) (floor : FloorOf codes weights n m least) (consistency : Index) (indexed : IndexOf least (fit .total) consistency) where
   -- no question refuses
   pass : askMatrix codes weights n m ≡ Passed
   pass = matrix-passes codes weights n m .1 (lent, weighed)

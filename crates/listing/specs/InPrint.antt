@@ -1,5 +1,5 @@
 -- Demand 3 for what is printed (document 01, "The three rivals"): the numbers that the listing of an accepted file prints, and that no
--- rival does better than they say; with the index of its tree and the floor beneath it (document 02, M-102).
+-- rival does better than they say; with the index of its tree and the claim about the floor (document 02, M-102).
 use mathlib.Core.Path.{_≡_}
 use mathlib.Core.Logic.{_↔_}
 use mathlib.Core.Bool.{Bool, true}

@@ -100,8 +100,8 @@ fn put_results(
     put_state_lines(out, d, n, m, names, low, high, chosen)
 }
 
-// The network, the build in an order of placing, the fit of a lent matrix and its index. The rows of the HTUs are written into the matrix, their
-// states into three lists of its shape.
+// The network of a lent matrix, its build in an order of placing, the fit of that tree and its index. The rows of the HTUs are written into the
+// matrix, their states into three lists of its shape.
 fn results_of(
     matrix: &mut [i32],
     weights: &[u8],

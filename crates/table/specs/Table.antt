@@ -61,7 +61,7 @@ file =
     ∷ "D\t-1\t1\t2\n"
     ∷ []
 
--- its listing
+-- its listing, with the line `c` of document 02's M-102
 abbrev pub listed : List String
 listed =
     "P\tB\tA\t3\n"

@@ -1,7 +1,7 @@
 -- The laws of the difference of two codes, of their lower and higher one, and of the median of three.
 use mathlib.Core.Path.{_≡_, refl, sym, ap, ap₂, subst, _∙_}
 use mathlib.Core.Bool.{true}
-use mathlib.Core.Logic.{_⊎_, inl, inr}
+use mathlib.Core.Logic.{_⊎_, inl, inr, ⊎-elim}
 use mathlib.Core.List.{[], _∷_}
 use Prim.Native.Nat.{ℕ, zero, suc, _+_, _*_, _≤_, min, max}
 use native.Mathlib.Nat.{min-comm, max-comm, le-trans}
@@ -9,7 +9,7 @@ use native.Mathlib.Omega.{arith}
 use borrow.Author.Tests.{leb-true}
 use lib.Dec.{T, leb→le}
 use lib.IntN.{ℤ, pos, negsuc, natAbs, subℕ, _-ℤ_, +ℤ-idr}
-use lib.Signed.{_≤ℤ_, leZ, nonNeg, pos-natAbs}
+use lib.Signed.{_≤ℤ_, ≤ℤ-refl, leZ, nonNeg, pos-natAbs}
 use Rattle.matrix.specs.Shape.{inRange}
 use Rattle.difference.specs.Rows.{apart, lower, higher, median}
 use Rattle.difference.proofs.Laws.Order.{leZ-true, leZ-false, ≤ℤ-total, cond-keeps, median-keeps}
@@ -51,6 +51,20 @@ higher-first a b h = cond-keeps (λ z. z ≡ a) (leZ a b) b a (λ e. ≤ℤ-anti
 pub higher-second : (a b : ℤ) → a ≤ℤ b → higher a b ≡ b
 unfolding higher
 higher-second a b h = cond-keeps (λ z. z ≡ b) (leZ a b) b a (λ e. refl) (λ e. ≤ℤ-antisym h (leZ-false a b e))
+
+-- the lower of two codes is at most either
+pub lower-least : (a b : ℤ) → (lower a b ≤ℤ a) × (lower a b ≤ℤ b)
+lower-least a b = ⊎-elim
+    (λ (h : a ≤ℤ b). rw (lower-first a b h) (≤ℤ-refl a, h))
+    (λ (h : b ≤ℤ a). rw (lower-second a b h) (h, ≤ℤ-refl b))
+    (≤ℤ-total a b)
+
+-- the higher of two codes is at least either
+pub higher-most : (a b : ℤ) → (a ≤ℤ higher a b) × (b ≤ℤ higher a b)
+higher-most a b = ⊎-elim
+    (λ (h : a ≤ℤ b). rw (higher-second a b h) (h, ≤ℤ-refl b))
+    (λ (h : b ≤ℤ a). rw (higher-first a b h) (≤ℤ-refl a, h))
+    (≤ℤ-total a b)
 
 -- ---- the difference of two codes
 
@@ -99,6 +113,19 @@ between-apart s a b =
     let t = simp apart-place at k in
     (le-place K (n 1) (n 0) (omega arith), le-place K (n 0) (n 2) (omega arith)))
     (s ∷ a ∷ b ∷ [])
+
+-- two codes between two ends lie no farther apart than these
+pub between-ends : (low high a b : ℤ) → low ≤ℤ a → a ≤ℤ high → low ≤ℤ b → b ≤ℤ high → apart a b ≤ apart high low
+between-ends low high a b =
+    everywhere
+    (λ z. z 0 ≤ℤ z 2 → z 2 ≤ℤ z 1 → z 0 ≤ℤ z 3 → z 3 ≤ℤ z 1 → apart (z 2) (z 3) ≤ apart (z 1) (z 0))
+    (λ K n p q r s.
+    let p′ = place-le K (n 0) (n 2) p in
+    let q′ = place-le K (n 2) (n 1) q in
+    let r′ = place-le K (n 0) (n 3) r in
+    let s′ = place-le K (n 3) (n 1) s in
+    simp apart-place (omega arith))
+    (low ∷ high ∷ a ∷ b ∷ [])
 
 -- a natural number less one that is at most it is not negative
 subℕ-nonNeg : (x y : ℕ) → y ≤ x → T (nonNeg (subℕ x y))

@@ -43,14 +43,14 @@ unfolding htuName bytes
 htu-size number h = omega (arith, number-size number h)
 
 -- a hyphen has one byte
-pub none-size : length hyphen ≡ 1
+pub hyphen-size : length hyphen ≡ 1
 unfolding hyphen bytes
-none-size = refl
+hyphen-size = refl
 
 -- a node up to 2n of a job within the limits has at most 16 bytes
 pub node-size : (job : Job) → JobWithinLimits job → (v : ℕ) → v ≤ 2 * job .n → length (nodeName (job .n) (job .names) v) ≤ 16
 unfolding nodeName
-node-size job within zero h = omega (arith, none-size)
+node-size job within zero h = omega (arith, hyphen-size)
 node-size job within (suc v) h =
     let known = limits (job .n) (job .m) (within .limits) in
     by-cases (decLe (suc v) (job .n))

@@ -49,7 +49,7 @@ use Rattle.listing.proofs.Parts.{
 use Rattle.listing.proofs.Totals.{Limits, limits, wagner-total, tree-total}
 use Rattle.listing.proofs.Bounds.Rows.{near-job, node-apart}
 use Rattle.listing.proofs.Bounds.Build.{SmallBuilt, wagner-small}
-use Rattle.listing.proofs.Bounds.Fields.{number-size, code-size, mark-size, none-size, node-size}
+use Rattle.listing.proofs.Bounds.Fields.{number-size, code-size, mark-size, hyphen-size, node-size}
 use Rattle.listing.proofs.Bounds.Fit.{state-near, range-near, fitted-apart, floor-below}
 
 -- a line has at most so many bytes
@@ -59,7 +59,7 @@ mostLine = 128
 -- the line of an index whose floor is no higher than its total
 index-size : (floor total : ℕ) → floor ≤ total → total < 1000000000 → length (indexLine (index floor total)) ≤ mostLine
 unfolding index indexLine sizes bytes
-index-size floor zero below small = omega (arith, line-size (bytes "c") (hyphen ∷ hyphen ∷ []), none-size)
+index-size floor zero below small = omega (arith, line-size (bytes "c") (hyphen ∷ hyphen ∷ []), hyphen-size)
 index-size floor (suc less) below small =
     let quotient = thousand * floor / suc less in
     let remainder = thousand * floor % suc less in

@@ -1,6 +1,5 @@
 -- `consistency::floor::character_floor` meets its contract: codes of 32 bits make a small floor. Assumes nothing.
-use mathlib.Core.Path.{_≡_, ap, ap₂, _∙_}
-use Prim.Native.Nat.{ℕ, _≤_}
+use mathlib.Core.Path.{ap, _∙_}
 use native.Mathlib.Omega.{arith}
 use borrow.Author.Needs.{needs, sfits-of}
 use lib.Signed.{natAbs-le}

@@ -1,5 +1,5 @@
 -- `consistency::floor::widened` meets its contract: it calls what the definition names. Assumes nothing.
-use mathlib.Core.Path.{_≡_, ap₂, _∙_}
+use mathlib.Core.Path.{ap₂, _∙_}
 use borrow.Author.Needs.{needs, sfits-of}
 use mir.Facts.{toZ-ofZ}
 use Rattle.difference.specs.Rows.{lower, higher}

@@ -10,10 +10,10 @@ use Rattle.consistency.proofs.index.index_of.Tie as tie
 
 returns : tie.Need-returns
 unfolding index
-returns c = record { is = λ small. rw (c .if1 .taken) refl }
+returns c = record { is = λ small. rw (c .if1 .taken) refl; above = λ big. refl }
 
 returns-2 : tie.Need-returns-2
-returns-2 c = record { is = λ small. absurd (omega (arith, c .if2 .taken)) }
+returns-2 c = record { is = λ small. absurd (omega (arith, c .if2 .taken)); above = λ big. refl }
 
 mul-thousandths : tie.Need-mul-thousandths
 mul-thousandths c = search needs
@@ -31,7 +31,12 @@ divided floor zero some = absurd (omega arith)
 divided floor (suc less) some = refl
 
 returns-3 : tie.Need-returns-3
-returns-3 c = record { is = λ small. divided (c .before .before .args .floor) (c .before .before .args .total) (omega (arith, c .before .if1 .left)) }
+returns-3 c =
+    let start = c .before .before in
+    record {
+      is = λ small. divided (start .args .floor) (start .args .total) (omega (arith, c .before .if1 .left));
+      above = λ big. absurd (omega (arith, c .if2 .left));
+    }
 
 pub index-of-spec : {M : Type 1} → statement M
 index-of-spec = tie.close (tie.spec returns returns-2 mul-thousandths div-t5 rem-t6 returns-3)

@@ -1,6 +1,4 @@
 -- `exports::answers::index_refused` meets its contract. Assumes nothing.
-use mathlib.Core.Path.{ap}
-use Prim.Native.Nat.{ℕ}
 use borrow.Author.Needs.{needs}
 use Rattle.exports.proofs.answers.index_refused.Statement.{statement}
 use Rattle.exports.proofs.answers.index_refused.Tie as tie

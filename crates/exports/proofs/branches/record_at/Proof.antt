@@ -1,4 +1,4 @@
--- `exports::branches::record_at` meets its contract: three numbers side by side. Assumes nothing.
+-- `exports::branches::record_at` meets its contract: two numbers side by side. Assumes nothing.
 use mathlib.Core.Path.{refl}
 use Rattle.exports.specs.Branches.{recordAt}
 use borrow.Author.Needs.{needs}
@@ -23,15 +23,6 @@ mul-t8 c = search needs
 shared-slice-read-t10 : tie.Need-shared-slice-read-t10
 shared-slice-read-t10 c = search needs
 
-add-t11 : tie.Need-add-t11
-add-t11 c = search needs
-
-mul-t12 : tie.Need-mul-t12
-mul-t12 c = search needs
-
-shared-slice-read-t14 : tie.Need-shared-slice-read-t14
-shared-slice-read-t14 c = search needs
-
 returns : tie.Need-returns
 unfolding recordAt
 returns c = refl
@@ -46,7 +37,4 @@ record-at-spec =
     add-t7
     mul-t8
     shared-slice-read-t10
-    add-t11
-    mul-t12
-    shared-slice-read-t14
     returns)
