@@ -15,21 +15,22 @@ use Rattle.matrix.specs.Questions.{LentMatrix, LentWeights}
 use Rattle.difference.specs.Rows.{part}
 use Rattle.difference.proofs.Laws.Weights.{part-inRange, weightOf-weight}
 use Rattle.fitting.specs.Sets.{only}
+use Rattle.fitting.specs.Handing.{stateAt}
 use Rattle.fitting.specs.Assignments.{character}
 use Rattle.fitting.proofs.Columns.{character-code, character-known}
 use Rattle.consistency.specs.Floor.{lowest, highest, codesOf, characterFloor, floor}
 use Rattle.consistency.specs.Calls.{lentFloor, mostFloor}
-use Rattle.consistency.specs.Steps.{codeAt, column, widened, endsOf, columnFloors}
+use Rattle.consistency.specs.Steps.{column, widened, endsOf, columnFloors}
 use Rattle.consistency.proofs.NeverPasses.{ends-keep}
 
 -- the ends of the code of one row are this code
-pub ends-one : (matrix : List ℤ) (j v : ℕ) → endsOf (column matrix j v 1) ≡ only (codeAt matrix j v)
+pub ends-one : (matrix : List ℤ) (j v : ℕ) → endsOf (column matrix j v 1) ≡ only (stateAt matrix v j)
 unfolding column numbers lowest highest only
 ends-one matrix j v = refl
 
 -- the ends of the codes of rows v - 1 to n, from those of rows v to n
 pub ends-next : (matrix : List ℤ) (j n v : ℕ) → 2 ≤ v → v ≤ n
-    → endsOf (column matrix j (v - 1) (n + 1 - (v - 1))) ≡ widened (codeAt matrix j (v - 1)) (endsOf (column matrix j v (n + 1 - v)))
+    → endsOf (column matrix j (v - 1) (n + 1 - (v - 1))) ≡ widened (stateAt matrix (v - 1) j) (endsOf (column matrix j v (n + 1 - v)))
 unfolding column numbers lowest highest
 ends-next matrix j n v later last =
     let all : n + 1 - (v - 1) ≡ suc (suc (n - v)) = omega arith in
@@ -46,7 +47,7 @@ module _ (codes : List ℤ) (weights : List ℕ) (n m : ℕ) (lent : LentMatrix 
   column-codes : (j : ℕ) → 1 ≤ j → j ≤ m → column codes j 1 n ≡ codesOf rows n j
   unfolding column codesOf
   column-codes j first last =
-      map-same (codeAt codes j) (character rows j) (numbers 1 n)
+      map-same (λ v. stateAt codes v j) (character rows j) (numbers 1 n)
       (λ v i.
       let within = numbers-within 1 n v i in
       sym (character-code codes n m lent v j (within .0) (omega (arith, within .1)) first last))

@@ -1,17 +1,20 @@
--- The lowest and the highest of some codes: they are among the codes, and all codes lie between them.
-use mathlib.Core.Path.{refl, sym, subst}
+-- The lowest and the highest of some codes: they are among the codes, and all codes lie between them; the floor in document 02's words.
+use mathlib.Core.Path.{_≡_, refl, sym, subst}
 use mathlib.Core.Logic.{⊎-elim}
 use mathlib.Core.List.{List, [], _∷_, List·Memᴰ, List·Memᴰ·head, List·Memᴰ·tail, List·Memᴰ·not-nil, List·Memᴰ·cases-cons}
-use Prim.Native.Nat.{ℕ, _≤_}
+use Prim.Native.Nat.{ℕ, _*_, _≤_}
 use native.Mathlib.Nat.{mul-le-mul-left}
 use native.Mathlib.Omega.{arith}
-use lib.IntN.{ℤ}
+use lib.IntN.{ℤ, pos, _-ℤ_}
 use lib.ListN.{length}
 use lib.Signed.{_≤ℤ_, ≤ℤ-refl}
-use Rattle.difference.specs.Rows.{part, lower, higher}
+use Rattle.lists.specs.Numbers.{numbers}
+use Rattle.lists.specs.Sums.{sumOver}
+use Rattle.matrix.specs.Shape.{weightOf}
+use Rattle.difference.specs.Rows.{apart, part, lower, higher, weighing}
 use Rattle.difference.proofs.Laws.Order.{lower-keeps, higher-keeps}
-use Rattle.difference.proofs.Laws.Codes.{≤ℤ-trans, lower-least, higher-most, between-ends}
-use Rattle.consistency.specs.Floor.{lowest, highest, characterFloor}
+use Rattle.difference.proofs.Laws.Codes.{≤ℤ-trans, lower-least, higher-most, between-ends, sub-first}
+use Rattle.consistency.specs.Floor.{lowest, highest, codesOf, characterFloor, floor}
 
 -- what holds of every code of a list holds of its lowest and of its highest
 module _ (P : ℤ → Type 0) where
@@ -72,3 +75,14 @@ widest w codes a b i j =
     mul-le-mul-left w
     (between-ends (lowest codes) (highest codes) a b (lowest-least codes a i) (highest-most codes a i) (lowest-least codes b j)
     (highest-most codes b j))
+
+-- how far highest and lowest lie apart is the highest less the lowest
+pub highest-less-lowest : (codes : List ℤ) → 1 ≤ length codes → highest codes -ℤ lowest codes ≡ pos (apart (highest codes) (lowest codes))
+highest-less-lowest codes some = sub-first (highest codes) (lowest codes) (lowest-least codes (highest codes) (highest-mem codes some))
+
+-- by weights the floor is the sum over characters of the weight times that
+pub floor-weighed : (weights : List ℕ) (rows : List (List ℤ)) (n m : ℕ)
+    → floor (weighing weights .step) rows n m
+    ≡ sumOver (λ j. weightOf weights j * apart (highest (codesOf rows n j)) (lowest (codesOf rows n j))) (numbers 1 m)
+unfolding floor characterFloor part
+floor-weighed weights rows n m = refl

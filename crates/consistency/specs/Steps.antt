@@ -2,23 +2,19 @@
 -- The codes of a column of a lent matrix, and what is found of them.
 use mathlib.Core.Path.{_≡_}
 use mathlib.Core.List.{List, map}
-use Prim.Native.Nat.{ℕ, _+_, _-_, _^_, _≤_}
-use lib.IntN.{ℤ, pos}
-use lib.ListN.{getD}
+use Prim.Native.Nat.{ℕ, _^_, _≤_}
+use lib.IntN.{ℤ}
 use Rattle.lists.specs.Numbers.{numbers}
 use Rattle.lists.specs.Sums.{sumOver}
-use Rattle.matrix.specs.Shape.{rowStart, weightOf}
+use Rattle.matrix.specs.Shape.{weightOf}
 use Rattle.difference.specs.Rows.{lower, higher, part}
+use Rattle.fitting.specs.Handing.{stateAt}
 use Rattle.fitting.specs.declared.spans.Span.{Span}
 use Rattle.consistency.specs.Floor.{lowest, highest, characterFloor}
 
--- the code in column j of the row of node v
-abbrev pub codeAt : List ℤ → ℕ → ℕ → ℤ
-codeAt matrix j v = getD matrix (rowStart v + (j - 1)) (pos 0)
-
 -- the codes in column j of the rows of nodes v, v+1, ..
 unfoldable pub column : List ℤ → ℕ → ℕ → ℕ → List ℤ
-column matrix j v count = map (codeAt matrix j) (numbers v count)
+column matrix j v count = map (λ u. stateAt matrix u j) (numbers v count)
 
 -- the ends of some codes with one code more
 abbrev pub widened : ℤ → Span → Span

@@ -13,13 +13,14 @@ ghost use mathlib.Core.Path.{_≡_};
 ghost use Prim.Native.Nat.{_≤_};
 ghost use lib.ListN.{length};
 ghost use Rattle.matrix.specs.Shape.{matrixSize};
+ghost use Rattle.fitting.specs.Handing.{stateAt};
 ghost use Rattle.consistency.specs.Calls.{FloorOf};
-ghost use Rattle.consistency.specs.Steps.{codeAt, widened, EndsOf, FloorIn, columnFloors};
+ghost use Rattle.consistency.specs.Steps.{widened, EndsOf, FloorIn, columnFloors};
 
 // The code of node v in character j.
 fn code_at(matrix: &[i32], v: usize, j: usize) -> i32
     requires { ⌜ (length (now matrix) ≡ matrixSize) × (1 ≤ v) × (v ≤ 126) × (1 ≤ j) × (j ≤ 128) ⌝ }
-    ensures { λ r. ⌜ r ≡ codeAt (now (matrix .entry)) j v ⌝ }
+    ensures { λ r. ⌜ r ≡ stateAt (now (matrix .entry)) v j ⌝ }
 {
     matrix[(v - 1) * COLUMNS + (j - 1)]
 }
