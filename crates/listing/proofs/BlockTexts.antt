@@ -10,7 +10,7 @@ use mir.Val.{SFits, ofZ, toZ}
 use lib.IntN.{ℤ}
 use Rattle.lists.specs.Numbers.{numbers}
 use Rattle.branching.specs.Nodes.{otherNodes}
-use Rattle.listing.specs.Blocks.{stateLine}
+use Rattle.lines.specs.Kinds.{stateLine}
 use Rattle.listing.specs.Handed.{branchTextAt, branchTexts, stateTextAt, nodeTexts, stateTexts}
 use Rattle.fitting.specs.Handing.{stateAt}
 

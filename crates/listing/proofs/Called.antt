@@ -7,11 +7,11 @@ use borrow.Author.Tests.{eq-eqb, ne-eqb}
 use lib.ListN.{length}
 use Rattle.matrix.specs.Outcomes.{value}
 use Rattle.matrix.specs.declared.refusal.Refusal.the-variants.{ListSize}
+use Rattle.lines.specs.Put.{Put}
 use Rattle.listing.specs.declared.call.Listed.the-variants.{Written, Refused}
 use Rattle.listing.specs.Listing.{output}
-use Rattle.listing.specs.Put.{Put}
 use Rattle.listing.specs.Call.{outputSize, askOutput, ListDone}
-use Rattle.listing.proofs.Puts.{put-front}
+use Rattle.listing.proofs.PutFront.{put-front}
 use Rattle.listing.proofs.Bounds.Output.{output-room}
 
 -- not as many bytes were lent as are asked for: nothing is written

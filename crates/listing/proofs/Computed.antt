@@ -39,7 +39,8 @@ use Rattle.fitting.specs.Assignments as fitting-Assignments
 use Rattle.fitting.specs.Fit as fitting-Fit
 use Rattle.consistency.specs.Floor as consistency-Floor
 use Rattle.consistency.specs.Index as consistency-Index
-use Rattle.listing.specs.Lines as listing-Lines
+use Rattle.lines.specs.Lines as lines-Lines
+use Rattle.lines.specs.Kinds as lines-Kinds
 use Rattle.listing.specs.Blocks as listing-Blocks
 use Rattle.listing.specs.Listing as listing-Listing
 
@@ -84,10 +85,10 @@ unfolding flatMap matrix-Shape.row matrix-Shape.inRange matrix-Shape.lastNode li
     fitting-Character.up fitting-Character.chosen fitting-Character.ranges fitting-Assignments.character
     fitting-Assignments.branchLength fitting-Assignments.total fitting-Fit.chosenState fitting-Fit.range fitting-Fit.fittedLength
     fitting-Fit.fittedTotal fitting-Fit.marked consistency-Floor.lowest consistency-Floor.highest consistency-Floor.codesOf
-    consistency-Floor.characterFloor consistency-Floor.floor consistency-Index.index listing-Lines.line listing-Lines.hyphen listing-Lines.htuName listing-Lines.nodeName
-    listing-Blocks.totalLine listing-Blocks.indexLine listing-Blocks.mark listing-Blocks.primLine listing-Blocks.wagnerLine listing-Blocks.branchLine
-    listing-Blocks.stateLine listing-Blocks.fittedLine
+    consistency-Floor.characterFloor consistency-Floor.floor consistency-Index.index lines-Lines.line lines-Lines.hyphen lines-Lines.htuName lines-Lines.nodeName
+    lines-Kinds.totalLine lines-Kinds.indexLine lines-Kinds.mark lines-Kinds.primLine lines-Kinds.wagnerLine lines-Kinds.branchLine
+    lines-Kinds.stateLine lines-Kinds.refusalLine listing-Blocks.fittedLine
     listing-Blocks.rangeLine listing-Blocks.fittedLines listing-Blocks.rangeLines listing-Listing.primBlock listing-Listing.wagnerBlock
-    listing-Listing.fittedBlock listing-Listing.indexBlock listing-Listing.rangeBlock listing-Listing.blocks listing-Listing.listing listing-Listing.refusalLine
+    listing-Listing.fittedBlock listing-Listing.indexBlock listing-Listing.rangeBlock listing-Listing.blocks listing-Listing.listing
     listing-Listing.printed listing-Listing.listingOf listing-Listing.output
 computed lines = listing-Listing.output (flatMap matrix-file-Text.bytes lines)

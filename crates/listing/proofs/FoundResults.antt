@@ -40,12 +40,13 @@ use Rattle.consistency.specs.Calls.{lentFloor, FloorOf, IndexOf}
 use Rattle.consistency.proofs.Columns.{floor-most}
 use Rattle.rivals.proofs.Lent.{same-network}
 use Rattle.rivals.proofs.Built.{built-whole}
+use Rattle.lines.specs.Lines.{joined}
+use Rattle.lines.specs.Kinds.{totalLine, indexLine}
+use Rattle.lines.specs.Names.{namesIn}
 use Rattle.listing.specs.Meant.{orderMeant}
 use Rattle.listing.specs.declared.job.Results.{Results}
-use Rattle.listing.specs.Lines.{joined}
-use Rattle.listing.specs.Blocks.{totalLine, indexLine}
 use Rattle.listing.specs.Listing.{listing}
-use Rattle.listing.specs.Handed.{namesIn, HoldsNames, HoldsPlacements, HoldsFit, HoldsStates, primTexts, wagnerTexts, fittedTexts, stateTexts}
+use Rattle.listing.specs.Handed.{HoldsNames, HoldsPlacements, HoldsFit, HoldsStates, primTexts, wagnerTexts, fittedTexts, stateTexts}
 use Rattle.listing.specs.Found.{StateLists, Listable, ResultsOf, resultTexts, heldJob}
 use Rattle.listing.proofs.Parts.{linksOf, builtOf, primLines, wagnerLines, treeLines, htuLines, primTotal, wagnerTotal, treeTotal, treeIndex, listing-text}
 use Rattle.listing.proofs.HandedTexts.{links-within, placements-within, prim-text, wagner-text, fitted-text, range-text}

@@ -18,10 +18,12 @@ use Rattle.prim.proofs.Holding.{holds-first}
 use Rattle.branching.specs.declared.placement.Placement.{Placement}
 use Rattle.branching.specs.Ancestors.{ancestor}
 use Rattle.branching.specs.Nodes.{otherNodes}
-use Rattle.listing.specs.Lines.{joined}
-use Rattle.listing.specs.Blocks.{primLine, wagnerLine, fittedLine, fittedLines, rangeLine, rangeLines, branchLine, stateLine}
-use Rattle.listing.specs.Listing.{refusalLine, printed}
-use Rattle.listing.specs.Handed.{namesIn, HoldsNames, HoldsPlacements, HoldsFit, HoldsStates, branchTextAt, branchTexts, stateTextAt, nodeTexts, stateTexts}
+use Rattle.lines.specs.Lines.{joined}
+use Rattle.lines.specs.Kinds.{primLine, wagnerLine, branchLine, stateLine, refusalLine}
+use Rattle.lines.specs.Names.{namesIn}
+use Rattle.listing.specs.Blocks.{fittedLine, fittedLines, rangeLine, rangeLines}
+use Rattle.listing.specs.Listing.{printed}
+use Rattle.listing.specs.Handed.{HoldsNames, HoldsPlacements, HoldsFit, HoldsStates, branchTextAt, branchTexts, stateTextAt, nodeTexts, stateTexts}
 use Rattle.branching.specs.Unasked.{noPlacement}
 use Rattle.wagner.specs.declared.order.Order.{Order}
 use Rattle.wagner.specs.Answers.{mostPlacements}

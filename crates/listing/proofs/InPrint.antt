@@ -17,8 +17,8 @@ use Rattle.consistency.proofs.Division.{index-is}
 use Rattle.rivals.specs.Demand.{NoRivalDoesBetter}
 use Rattle.rivals.proofs.Floor.{floor-of-every-file}
 use Rattle.rivals.proofs.InWords.{for-every-file}
+use Rattle.lines.specs.Lines.{joined}
 use Rattle.listing.specs.Meant.{orderMeant, measureMeant}
-use Rattle.listing.specs.Lines.{joined}
 use Rattle.listing.specs.Blocks.{fittedLine, fittedLines, rangeLine, rangeLines}
 use Rattle.listing.specs.Listing.{primBlock, wagnerBlock, fittedBlock, indexBlock, rangeBlock, blocks, listing, printed}
 use Rattle.listing.specs.InPrint.{PrintedNumbers, linesWith, NoRivalInPrint}

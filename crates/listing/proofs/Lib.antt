@@ -2,9 +2,8 @@
 pub mod Computed
 pub mod Examples
 pub mod OneTaxon
-pub mod Puts
-pub mod Fields
-pub mod LineFields
+pub mod PutFront
+pub mod LineSizes
 pub mod InTurn
 pub mod BlockTexts
 pub mod Joined

@@ -15,13 +15,13 @@ use Rattle.matrix_file.specs.Reading.{readAnswer}
 use Rattle.matrix_file.proofs.File.FileOfRead.{file-of-read}
 use Rattle.difference.specs.Rows.{Measure, plain}
 use Rattle.difference.proofs.Laws.Measure.{measure-alike}
-use Rattle.listing.specs.Lines.{joined}
+use Rattle.lines.specs.Lines.{joined}
+use Rattle.lines.specs.Kinds.{totalLine, indexLine, refusalLine}
 use Rattle.consistency.specs.declared.index.Index.the-variants.{NoTotal}
-use Rattle.listing.specs.Blocks.{totalLine, indexLine}
 use Rattle.listing.specs.Meant.{measureMeant}
-use Rattle.listing.specs.Listing.{listing, refusalLine, printed, output}
+use Rattle.listing.specs.Listing.{listing, printed, output}
 use Rattle.listing.proofs.Joined.{joined-one}
-use Rattle.listing.proofs.LineFields.{sizes, line-size}
+use Rattle.listing.proofs.LineSizes.{sizes, line-size}
 use Rattle.listing.proofs.OneTaxon.{one-taxon}
 use Rattle.listing.proofs.Parts.{primLines, primTotal, listing-text, OneOfEach, two-taxa}
 use Rattle.listing.proofs.Printed.{output-printed}

@@ -19,7 +19,8 @@ use Rattle.fitting.specs.Assignments.{total}
 use Rattle.fitting.specs.Fit.{fittedTotal}
 use Rattle.consistency.specs.Index.{index}
 use Rattle.consistency.specs.declared.index.Index.the-variants.{NoTotal}
-use Rattle.listing.specs.Blocks.{totalLine, indexLine, fittedLines, rangeLines}
+use Rattle.lines.specs.Kinds.{totalLine, indexLine}
+use Rattle.listing.specs.Blocks.{fittedLines, rangeLines}
 use Rattle.listing.specs.Listing.{primBlock, wagnerBlock, fittedBlock, indexBlock, rangeBlock, blocks, listing}
 
 -- one taxon: three totals of 0, and no index

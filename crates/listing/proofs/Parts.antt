@@ -19,9 +19,10 @@ use Rattle.fitting.specs.Fit.{fittedTotal}
 use Rattle.consistency.specs.declared.index.Index.{Index}
 use Rattle.consistency.specs.Floor.{floor}
 use Rattle.consistency.specs.Index.{index}
+use Rattle.lines.specs.Lines.{joined}
+use Rattle.lines.specs.Kinds.{totalLine, indexLine, primLine, wagnerLine}
 use Rattle.listing.specs.Meant.{orderMeant}
-use Rattle.listing.specs.Lines.{joined}
-use Rattle.listing.specs.Blocks.{totalLine, indexLine, primLine, wagnerLine, fittedLine, fittedLines, rangeLine, rangeLines}
+use Rattle.listing.specs.Blocks.{fittedLine, fittedLines, rangeLine, rangeLines}
 use Rattle.listing.specs.Listing.{primBlock, wagnerBlock, fittedBlock, indexBlock, rangeBlock, blocks, listing}
 use Rattle.listing.proofs.Joined.{flatMap-append}
 

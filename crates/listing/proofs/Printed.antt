@@ -5,7 +5,7 @@ use Prim.Native.Nat.{ℕ}
 use Rattle.matrix_file.specs.Job.{Job}
 use Rattle.matrix.specs.Outcomes.{Outcome}
 use Rattle.matrix_file.specs.Reading.{readAnswer}
-use Rattle.listing.specs.Lines.{joined}
+use Rattle.lines.specs.Lines.{joined}
 use Rattle.listing.specs.Listing.{printed, listingOf, output}
 
 -- the output for a file: the lines printed for its answer, joined

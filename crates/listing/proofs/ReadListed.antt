@@ -24,14 +24,15 @@ use Rattle.matrix_file.proofs.File.Outcomes.{then-refused}
 use Rattle.matrix_file.proofs.Lists.ReadLists.{job-lent, job-weighed, Accepting, read-accepting}
 use Rattle.difference.specs.Rows.{weighing}
 use Rattle.rivals.proofs.Reading.{read-rows, written-measure}
+use Rattle.lines.specs.Lines.{joined}
+use Rattle.lines.specs.Kinds.{refusalLine}
+use Rattle.lines.specs.Put.{Put}
+use Rattle.lines.proofs.Puts.{put-same}
 use Rattle.listing.specs.Meant.{measureMeant}
-use Rattle.listing.specs.Lines.{joined}
-use Rattle.listing.specs.Listing.{listing, printed, output, refusalLine}
-use Rattle.listing.specs.Put.{Put}
+use Rattle.listing.specs.Listing.{listing, printed, output}
 use Rattle.listing.specs.Handed.{HoldsNames}
 use Rattle.listing.specs.Found.{heldJob, ListsJob}
 use Rattle.listing.proofs.HandedTexts.{refusal-text}
-use Rattle.listing.proofs.Puts.{put-same}
 use Rattle.listing.proofs.ReadNames.{names-held}
 use Rattle.listing.proofs.Printed.{output-printed}
 use Rattle.listing.proofs.Totals.{limits}

@@ -8,7 +8,8 @@ use Rattle.lists.proofs.Every.{every-at}
 use Rattle.matrix_file.specs.Job.{Job, JobWithinLimits, nameForm}
 use Rattle.matrix_file.specs.Written.{namesSize, namesWritten}
 use Rattle.matrix_file.proofs.Lists.ReadLists.{job-name}
-use Rattle.listing.specs.Handed.{nameBytes, HoldsNames}
+use Rattle.lines.specs.Names.{nameBytes}
+use Rattle.listing.specs.Handed.{HoldsNames}
 
 -- the names of a job within the limits, written into a lent list of full size
 pub names-held : (job : Job) → JobWithinLimits job → (lent : List ℕ) → length lent ≡ namesSize

@@ -16,9 +16,10 @@ use Rattle.lists.proofs.Every.{every-head, every-tail}
 use Rattle.matrix_file.specs.Bytes.{underscore, isDigit, isLetter, partLength, firstPart}
 use Rattle.matrix_file.specs.Job.{nameSize, inName, nameForm}
 use Rattle.matrix_file.specs.Written.{padded}
-use Rattle.listing.specs.Lines.{nodeName}
-use Rattle.listing.specs.Handed.{namesIn, HoldsNames}
-use Rattle.listing.proofs.Fields.{part-goes-on, node-taxon, node-lent, node-htu}
+use Rattle.lines.specs.Lines.{nodeName}
+use Rattle.lines.specs.Names.{namesIn}
+use Rattle.lines.proofs.Fields.{part-goes-on, node-taxon, node-lent, node-htu}
+use Rattle.listing.specs.Handed.{HoldsNames}
 
 -- what passes one of two tests passes the first or the second
 either : {P : Type 0} (a b : Bool) → (a || b) ≡ true → (a ≡ true → P) → (b ≡ true → P) → P

@@ -19,11 +19,11 @@ use Rattle.fitting.specs.Calls.{FitOf}
 use Rattle.fitting.specs.Fit.{fittedTotal}
 use Rattle.consistency.specs.Index.{index}
 use Rattle.consistency.specs.Calls.{lentFloor}
+use Rattle.lines.specs.Lines.{joined}
+use Rattle.lines.specs.Kinds.{indexLine}
+use Rattle.lines.specs.Put.{Put}
 use Rattle.listing.specs.declared.job.Results.{Results}
-use Rattle.listing.specs.Lines.{joined}
-use Rattle.listing.specs.Blocks.{indexLine}
 use Rattle.listing.specs.Listing.{listing}
-use Rattle.listing.specs.Put.{Put}
 use Rattle.listing.specs.Handed.{HoldsNames, HoldsPlacements, HoldsStates, primTexts, wagnerTexts, fittedTexts, stateTexts}
 
 -- three lists have the matrix's size

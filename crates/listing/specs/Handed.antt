@@ -1,16 +1,13 @@
--- What the functions that put lines and blocks are handed, and the texts that they put. No public contract cites this.
+-- What the functions that put blocks are handed, and the texts that they put. No public contract cites this.
 use mathlib.Core.Path.{_≡_}
 use mathlib.Core.Bool.{Bool, true, false}
-use mathlib.Core.List.{List, [], _∷_, _++_, map, flatMap}
+use mathlib.Core.List.{List, [], _++_, flatMap}
 use Prim.Native.Nat.{ℕ, _+_, _-_, _*_, _≤_, _<_}
 use lib.IntN.{ℤ}
-use lib.ListN.{length, getD, take, drop}
+use lib.ListN.{length, getD, take}
 use Rattle.lists.specs.Filled.{filled}
 use Rattle.lists.specs.Numbers.{numbers}
-use Rattle.matrix_file.specs.Bytes.{firstPart}
-use Rattle.matrix_file.specs.Decimal.{digitsOf, decimal}
-use Rattle.matrix_file.specs.Text.{bytes}
-use Rattle.matrix_file.specs.Job.{nameSize, nameForm}
+use Rattle.matrix_file.specs.Job.{nameForm}
 use Rattle.matrix_file.specs.Written.{padded}
 use Rattle.prim.specs.declared.answer.Network.{Network}
 use Rattle.branching.specs.declared.placement.Placement.{Placement}
@@ -23,16 +20,8 @@ use Rattle.branching.specs.Nodes.{otherNodes}
 use Rattle.fitting.specs.Handing.{stateAt}
 use Rattle.fitting.specs.Fit.{chosenState, range, fittedLength, marked}
 use Rattle.fitting.specs.declared.whole.Fit.{Fit}
-use Rattle.listing.specs.Lines.{line, nodeName}
-use Rattle.listing.specs.Blocks.{totalLine, primLine, wagnerLine, branchLine, stateLine}
-
--- the bytes lent for the name at place k, the first at place 0
-unfoldable pub nameBytes : List ℕ → ℕ → List ℕ
-nameBytes lent k = take nameSize (drop (k * nameSize) lent)
-
--- the names of n taxa that lent bytes hold: each up to its first zero
-unfoldable pub namesIn : ℕ → List ℕ → List (List ℕ)
-namesIn n lent = map (λ k. firstPart 0 (nameBytes lent k)) (numbers 0 n)
+use Rattle.lines.specs.Kinds.{totalLine, primLine, wagnerLine, branchLine, stateLine}
+use Rattle.lines.specs.Names.{nameBytes}
 
 -- lent bytes hold the names of n taxa: each well formed, and padded with zeros
 pub record HoldsNames (n : ℕ) (names : List (List ℕ)) (lent : List ℕ) : Type 0 where
@@ -54,10 +43,6 @@ pub record HoldsStates (tree : List ℕ) (rows : List (List ℤ)) (n m : ℕ) (l
   pub lowAt : (v j : ℕ) → n < v → v ≤ 2 * n - 2 → 1 ≤ j → j ≤ m → stateAt low v j ≡ range tree rows n v j .low
   pub highAt : (v j : ℕ) → n < v → v ≤ 2 * n - 2 → 1 ≤ j → j ≤ m → stateAt high v j ≡ range tree rows n v j .high
   pub chosenAt : (v j : ℕ) → n < v → v ≤ 2 * n - 2 → 1 ≤ j → j ≤ m → stateAt chosen v j ≡ chosenState tree rows n v j
-
--- the line of a total, with the byte of its letter
-unfoldable pub totalText : ℕ → ℕ → List ℕ
-totalText letter total = line ((letter ∷ []) ∷ digitsOf total ∷ [])
 
 module _ (n : ℕ) (names : List (List ℕ)) where
   module _ (tree lengths : List ℕ) (marks : List Bool) where

@@ -25,9 +25,9 @@ use Rattle.consistency.specs.declared.index.Index.{Index}
 use Rattle.consistency.specs.Floor.{floor, FloorNeverPasses}
 use Rattle.consistency.specs.Index.{IsIndex}
 use Rattle.rivals.specs.Demand.{BuildIsLeast}
+use Rattle.lines.specs.Lines.{joined}
+use Rattle.lines.specs.Kinds.{totalLine, indexLine, primLine, wagnerLine, branchLine, stateLine}
 use Rattle.listing.specs.Meant.{orderMeant, measureMeant}
-use Rattle.listing.specs.Lines.{joined}
-use Rattle.listing.specs.Blocks.{totalLine, indexLine, primLine, wagnerLine, branchLine, stateLine}
 use Rattle.listing.specs.Listing.{output}
 
 -- the numbers that a listing prints

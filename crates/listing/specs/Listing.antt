@@ -3,8 +3,6 @@ use mathlib.Core.List.{List, [], _∷_, _++_, map, flatMap}
 use Prim.Native.Nat.{ℕ}
 use Rattle.matrix.specs.NodeRows.{rowOf}
 use Rattle.matrix.specs.Outcomes.{Outcome, value, refused}
-use Rattle.matrix_file.specs.Decimal.{digitsOf}
-use Rattle.matrix_file.specs.Text.{bytes}
 use Rattle.matrix_file.specs.Job.{Job}
 use Rattle.matrix_file.specs.Reading.{readAnswer}
 use Rattle.difference.specs.Rows.{Measure, nodeDifference}
@@ -13,9 +11,10 @@ use Rattle.wagner.specs.Build.{Built, wagner, wagnerLength}
 use Rattle.fitting.specs.Fit.{fittedTotal}
 use Rattle.consistency.specs.Floor.{floor}
 use Rattle.consistency.specs.Index.{index}
+use Rattle.lines.specs.Lines.{joined}
+use Rattle.lines.specs.Kinds.{totalLine, indexLine, primLine, wagnerLine, refusalLine}
 use Rattle.listing.specs.Meant.{orderMeant, measureMeant}
-use Rattle.listing.specs.Lines.{line, joined}
-use Rattle.listing.specs.Blocks.{totalLine, indexLine, primLine, wagnerLine, fittedLines, rangeLines}
+use Rattle.listing.specs.Blocks.{fittedLines, rangeLines}
 
 -- the Prim Network: its `P` lines, and `p`
 unfoldable pub primBlock : Measure → Job → List (List ℕ)
@@ -59,10 +58,6 @@ blocks measure job =
 -- the listing of a job, line by line
 unfoldable pub listing : Measure → Job → List (List ℕ)
 listing measure job = flatMap (λ (block : List (List ℕ)). block) (blocks measure job)
-
--- the one line of a refusal: `R`, its number, the line of the file
-unfoldable pub refusalLine : ℕ → ℕ → List ℕ
-refusalLine number at = line (bytes "R" ∷ digitsOf number ∷ digitsOf at ∷ [])
 
 -- the lines printed for what a file brings
 unfoldable pub printed : Outcome Job → List (List ℕ)

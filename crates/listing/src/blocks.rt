@@ -1,11 +1,11 @@
 // The blocks of the listing, each apart: the lines of the network, of the placements, of the fitted tree and of the states, and totals.
-use crate::lines::put_branch_line;
-use crate::lines::put_prim_line;
-use crate::lines::put_state_line;
-use crate::lines::put_total_line;
-use crate::lines::put_wagner_line;
 use branching::placement::Placement;
 use branching::tree::Tree;
+use lines::lines::put_branch_line;
+use lines::lines::put_prim_line;
+use lines::lines::put_state_line;
+use lines::lines::put_total_line;
+use lines::lines::put_wagner_line;
 use matrix::COLUMNS;
 use prim::answer::Link;
 use prim::answer::Network;
@@ -16,9 +16,10 @@ ghost use lib.ListN.{length, take};
 ghost use Rattle.matrix.specs.Shape.{columns, matrixSize};
 ghost use Rattle.branching.specs.Ancestors.{ancestors};
 ghost use Rattle.prim.specs.Answers.{mostLinks};
-ghost use Rattle.listing.specs.Blocks.{totalLine, primLine, wagnerLine};
-ghost use Rattle.listing.specs.Put.{Put};
-ghost use Rattle.listing.specs.Handed.{namesIn, branchTexts, nodeTexts, stateTexts};
+ghost use Rattle.lines.specs.Kinds.{totalLine, primLine, wagnerLine};
+ghost use Rattle.lines.specs.Put.{Put};
+ghost use Rattle.lines.specs.Names.{namesIn};
+ghost use Rattle.listing.specs.Handed.{branchTexts, nodeTexts, stateTexts};
 ghost use Rattle.wagner.specs.Answers.{mostPlacements};
 
 // Puts the `P` lines of the first `count` links.

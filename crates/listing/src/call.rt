@@ -1,6 +1,6 @@
 // From a file's bytes to the bytes of its listing.
 use crate::job::put_job;
-use crate::lines::put_refusal_line;
+use lines::lines::put_refusal_line;
 use matrix::COLUMNS;
 use matrix::LIGHTEST;
 use matrix::ROWS;
@@ -13,8 +13,8 @@ ghost use mathlib.Core.Path.{_≡_};
 ghost use lib.ListN.{length, replicate};
 ghost use Rattle.matrix.specs.Shape.{matrixSize, columns};
 ghost use Rattle.matrix_file.specs.Written.{namesSize};
+ghost use Rattle.lines.specs.Put.{Put};
 ghost use Rattle.listing.specs.Listing.{output};
-ghost use Rattle.listing.specs.Put.{Put};
 ghost use Rattle.listing.specs.Found.{StateLists};
 ghost use Rattle.listing.specs.Call.{ListDone};
 

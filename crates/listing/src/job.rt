@@ -6,7 +6,6 @@ use crate::blocks::put_prim_total;
 use crate::blocks::put_state_lines;
 use crate::blocks::put_wagner_lines;
 use crate::blocks::put_wagner_total;
-use crate::lines::put_index_line;
 use crate::order::order_meant;
 use branching::tree::Tree;
 use consistency::floor::floor_of;
@@ -14,6 +13,7 @@ use consistency::index::Index;
 use consistency::index::index_of;
 use fitting::whole::Fit;
 use fitting::whole::fit_tree;
+use lines::lines::put_index_line;
 use matrix_file::answer::Header;
 use prim::answer::Network;
 use prim::network::network;
@@ -24,8 +24,9 @@ ghost use Prim.Native.Nat.{_≤_};
 ghost use Rattle.matrix.specs.Questions.{LentMatrix, LentWeights};
 ghost use Rattle.prim.specs.Answers.{mostLinks};
 ghost use Rattle.wagner.specs.Answers.{mostPlacements};
-ghost use Rattle.listing.specs.Put.{Put};
-ghost use Rattle.listing.specs.Handed.{namesIn, primTexts, wagnerTexts, fittedTexts};
+ghost use Rattle.lines.specs.Put.{Put};
+ghost use Rattle.lines.specs.Names.{namesIn};
+ghost use Rattle.listing.specs.Handed.{primTexts, wagnerTexts, fittedTexts};
 ghost use Rattle.listing.specs.Found.{StateLists, Listable, resultTexts, ResultsOf, ListsJob};
 
 // What is listed of a matrix: its Prim Network, its Wagner tree, and the fit of that tree with its index.

@@ -1,7 +1,5 @@
-// The listing of a job: bytes, lines and blocks of lines, put into a lent list; and the call from a file's bytes to the bytes of its listing.
+// The listing of a job: blocks of lines, put into a lent list; and the call from a file's bytes to the bytes of its listing.
 mod blocks;
 pub mod call;
 mod job;
-mod lines;
 pub mod order;
-mod put;

@@ -15,9 +15,9 @@ use Rattle.matrix_file.specs.Decimal.{digitsOf, decimal}
 use Rattle.matrix_file.specs.Job.{Job, JobWithinLimits, nameForm}
 use Rattle.matrix_file.specs.Text.{bytes}
 use Rattle.matrix_file.proofs.Decimal.Digits.{digits-length}
-use Rattle.listing.specs.Lines.{hyphen, htuName, nodeName}
-use Rattle.listing.specs.Blocks.{mark}
-use Rattle.listing.proofs.Fields.{node-taxon, node-htu}
+use Rattle.lines.specs.Lines.{hyphen, htuName, nodeName}
+use Rattle.lines.specs.Kinds.{mark}
+use Rattle.lines.proofs.Fields.{node-taxon, node-htu}
 use Rattle.listing.proofs.Unpadded.{name-short}
 use Rattle.listing.proofs.Totals.{limits}
 

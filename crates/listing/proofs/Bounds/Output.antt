@@ -11,11 +11,12 @@ use Rattle.matrix_file.specs.Reading.{readAnswer}
 use Rattle.matrix_file.proofs.File.Numbered.{highestNumber, refused-bounds}
 use Rattle.matrix_file.specs.Text.{bytes}
 use Rattle.matrix_file.proofs.File.Accepted.{accepted-exactly}
-use Rattle.listing.specs.Lines.{joined}
-use Rattle.listing.specs.Listing.{refusalLine, printed, listingOf, output}
+use Rattle.lines.specs.Lines.{joined}
+use Rattle.lines.specs.Kinds.{refusalLine}
+use Rattle.listing.specs.Listing.{printed, listingOf, output}
 use Rattle.listing.specs.Call.{outputSize}
 use Rattle.listing.proofs.Joined.{joined-one}
-use Rattle.listing.proofs.LineFields.{sizes, line-size}
+use Rattle.listing.proofs.LineSizes.{sizes, line-size}
 use Rattle.listing.proofs.Bounds.Fields.{number-size}
 use Rattle.listing.proofs.Bounds.LineNumbers.{mostLines, LineWithin, none, some, file-line}
 use Rattle.listing.proofs.Bounds.Room.{job-room}

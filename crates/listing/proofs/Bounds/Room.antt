@@ -25,13 +25,14 @@ use Rattle.wagner.specs.Build.{wagnerLength}
 use Rattle.fitting.specs.Fit.{chosenState, range, fittedLength, fittedTotal, marked}
 use Rattle.consistency.specs.Index.{thousand, index}
 use Rattle.consistency.proofs.Division.{thousandths-most}
+use Rattle.lines.specs.Lines.{hyphen, nodeName, joined}
+use Rattle.lines.specs.Kinds.{mark, totalLine, indexLine, primLine, wagnerLine, branchLine, stateLine}
 use Rattle.listing.specs.Meant.{orderMeant, measureMeant}
-use Rattle.listing.specs.Lines.{hyphen, nodeName, joined}
-use Rattle.listing.specs.Blocks.{mark, totalLine, indexLine, primLine, wagnerLine, branchLine, stateLine, fittedLine, fittedLines, rangeLine, rangeLines}
+use Rattle.listing.specs.Blocks.{fittedLine, fittedLines, rangeLine, rangeLines}
 use Rattle.listing.specs.Listing.{listing}
 use Rattle.listing.specs.Call.{outputSize}
 use Rattle.listing.proofs.Joined.{joined-map, joined-each, texts-room}
-use Rattle.listing.proofs.LineFields.{sizes, line-size}
+use Rattle.listing.proofs.LineSizes.{sizes, line-size}
 use Rattle.listing.proofs.Parts.{
   linksOf,
   builtOf,

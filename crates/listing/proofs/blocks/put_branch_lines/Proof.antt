@@ -9,9 +9,10 @@ use native.Mathlib.Omega.{arith}
 use lib.ListN.{length, getD}
 use Rattle.lists.specs.Numbers.{numbers}
 use Rattle.branching.specs.Ancestors.{ancestors}
-use Rattle.listing.specs.Blocks.{branchLine}
-use Rattle.listing.specs.Handed.{namesIn, branchTextAt, branchTexts}
-use Rattle.listing.proofs.Puts.{Left, left-start, left-end, left-put, left-same, put-same}
+use Rattle.lines.specs.Kinds.{branchLine}
+use Rattle.lines.specs.Names.{namesIn}
+use Rattle.lines.proofs.Puts.{Left, left-start, left-end, left-put, left-same, put-same}
+use Rattle.listing.specs.Handed.{branchTextAt, branchTexts}
 use Rattle.listing.proofs.BlockTexts.{branches-from-two}
 use Rattle.listing.proofs.InTurn.{next-of, none-of}
 use Rattle.listing.proofs.blocks.put_branch_lines.Statement.{statement}

@@ -1,7 +1,6 @@
 -- `listing::blocks::put_fitted_total` meets its contract. Assumes nothing.
 use Rattle.matrix_file.specs.Text.{bytes}
-use Rattle.listing.specs.Blocks.{totalLine}
-use Rattle.listing.specs.Handed.{totalText}
+use Rattle.lines.specs.Kinds.{totalLine, totalText}
 use borrow.Author.Needs.{needs}
 use Rattle.listing.proofs.blocks.put_fitted_total.Statement.{statement}
 use Rattle.listing.proofs.blocks.put_fitted_total.Tie as tie

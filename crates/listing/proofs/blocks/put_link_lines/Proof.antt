@@ -6,9 +6,9 @@ use Prim.Native.Nat.{_-_, _≤_}
 use native.Mathlib.Omega.{arith}
 use lib.ListN.{length, take, drop}
 use Rattle.prim.specs.Answers.{noLink}
-use Rattle.listing.specs.Blocks.{primLine}
-use Rattle.listing.specs.Handed.{namesIn}
-use Rattle.listing.proofs.Puts.{Left, left-start, left-end, left-put, left-same}
+use Rattle.lines.specs.Kinds.{primLine}
+use Rattle.lines.specs.Names.{namesIn}
+use Rattle.lines.proofs.Puts.{Left, left-start, left-end, left-put, left-same}
 use Rattle.listing.proofs.InTurn.{next-item, none-left}
 use Rattle.listing.proofs.blocks.put_link_lines.Statement.{statement}
 use Rattle.listing.proofs.blocks.put_link_lines.Tie as tie

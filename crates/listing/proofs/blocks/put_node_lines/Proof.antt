@@ -7,8 +7,9 @@ use Prim.Native.Nat.{_+_, _-_, _≤_}
 use native.Mathlib.Omega.{arith}
 use lib.ListN.{length}
 use Rattle.lists.specs.Numbers.{numbers}
-use Rattle.listing.specs.Handed.{namesIn, stateTextAt, nodeTexts}
-use Rattle.listing.proofs.Puts.{Left, left-start, left-end, left-put, left-same, put-same}
+use Rattle.lines.specs.Names.{namesIn}
+use Rattle.lines.proofs.Puts.{Left, left-start, left-end, left-put, left-same, put-same}
+use Rattle.listing.specs.Handed.{stateTextAt, nodeTexts}
 use Rattle.listing.proofs.BlockTexts.{states-from-one, same-states}
 use Rattle.listing.proofs.InTurn.{next-of, none-of, to-last, past-last}
 use Rattle.listing.proofs.blocks.put_node_lines.Statement.{statement}

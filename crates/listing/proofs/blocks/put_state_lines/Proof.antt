@@ -7,8 +7,9 @@ use Prim.Native.Nat.{_+_, _-_, _≤_}
 use native.Mathlib.Omega.{arith}
 use lib.ListN.{length}
 use Rattle.lists.specs.Numbers.{numbers}
-use Rattle.listing.specs.Handed.{namesIn, nodeTexts, stateTexts}
-use Rattle.listing.proofs.Puts.{Left, left-start, left-end, left-put, left-same}
+use Rattle.lines.specs.Names.{namesIn}
+use Rattle.lines.proofs.Puts.{Left, left-start, left-end, left-put, left-same}
+use Rattle.listing.specs.Handed.{nodeTexts, stateTexts}
 use Rattle.listing.proofs.BlockTexts.{states-from-htu}
 use Rattle.listing.proofs.InTurn.{next-of, none-of}
 use Rattle.listing.proofs.blocks.put_state_lines.Statement.{statement}

@@ -5,10 +5,10 @@ use mathlib.Core.List.{flatMap}
 use Prim.Native.Nat.{_-_, _≤_}
 use native.Mathlib.Omega.{arith}
 use lib.ListN.{length, take, drop}
-use Rattle.listing.specs.Blocks.{wagnerLine}
-use Rattle.listing.specs.Handed.{namesIn}
+use Rattle.lines.specs.Kinds.{wagnerLine}
+use Rattle.lines.specs.Names.{namesIn}
+use Rattle.lines.proofs.Puts.{Left, left-start, left-end, left-put, left-same}
 use Rattle.branching.specs.Unasked.{noPlacement}
-use Rattle.listing.proofs.Puts.{Left, left-start, left-end, left-put, left-same}
 use Rattle.listing.proofs.InTurn.{next-item, none-left}
 use Rattle.listing.proofs.blocks.put_wagner_lines.Statement.{statement}
 use Rattle.listing.proofs.blocks.put_wagner_lines.Tie as tie

@@ -1,6 +1,6 @@
 -- `listing::call::put_file` meets its contract: the listing of what was read, or the line of the refusal. Assumes nothing.
 use borrow.Author.Needs.{needs}
-use Rattle.listing.proofs.Puts.{put-same}
+use Rattle.lines.proofs.Puts.{put-same}
 use Rattle.listing.proofs.ReadListed.{refused-printed, accepted-lent, accepted-weighed, accepted-printed}
 use Rattle.listing.proofs.call.put_file.Statement.{statement}
 use Rattle.listing.proofs.call.put_file.Tie as tie

@@ -1,7 +1,7 @@
 -- `listing::job::put_fitted_block` meets its contract: the `T` lines, then the line `t`. Assumes nothing.
 use borrow.Author.Needs.{needs}
+use Rattle.lines.proofs.Puts.{put-then}
 use Rattle.listing.specs.Handed.{fittedTexts}
-use Rattle.listing.proofs.Puts.{put-then}
 use Rattle.listing.proofs.job.put_fitted_block.Statement.{statement}
 use Rattle.listing.proofs.job.put_fitted_block.Tie as tie
 

@@ -1,6 +1,6 @@
 -- `listing::job::put_job` meets its contract: what is put for what was found is the job's listing. Assumes nothing.
 use borrow.Author.Needs.{needs}
-use Rattle.listing.proofs.Puts.{put-same}
+use Rattle.lines.proofs.Puts.{put-same}
 use Rattle.listing.proofs.FoundResults.{results-listed}
 use Rattle.listing.proofs.job.put_job.Statement.{statement}
 use Rattle.listing.proofs.job.put_job.Tie as tie

@@ -1,7 +1,7 @@
 -- `listing::job::put_prim_block` meets its contract: the `P` lines, then the line `p`. Assumes nothing.
 use borrow.Author.Needs.{needs}
+use Rattle.lines.proofs.Puts.{put-then}
 use Rattle.listing.specs.Handed.{primTexts}
-use Rattle.listing.proofs.Puts.{put-then}
 use Rattle.listing.proofs.job.put_prim_block.Statement.{statement}
 use Rattle.listing.proofs.job.put_prim_block.Tie as tie
 

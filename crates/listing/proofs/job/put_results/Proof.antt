@@ -1,7 +1,7 @@
 -- `listing::job::put_results` meets its contract: block after block. Assumes nothing.
 use borrow.Author.Needs.{needs}
+use Rattle.lines.proofs.Puts.{put-then}
 use Rattle.listing.specs.Found.{resultTexts}
-use Rattle.listing.proofs.Puts.{put-then}
 use Rattle.listing.proofs.job.put_results.Statement.{statement}
 use Rattle.listing.proofs.job.put_results.Tie as tie
 

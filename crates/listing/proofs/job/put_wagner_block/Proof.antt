@@ -1,7 +1,7 @@
 -- `listing::job::put_wagner_block` meets its contract: the `W` lines, then the line `w`. Assumes nothing.
 use borrow.Author.Needs.{needs}
+use Rattle.lines.proofs.Puts.{put-then}
 use Rattle.listing.specs.Handed.{wagnerTexts}
-use Rattle.listing.proofs.Puts.{put-then}
 use Rattle.listing.proofs.job.put_wagner_block.Statement.{statement}
 use Rattle.listing.proofs.job.put_wagner_block.Tie as tie
 
