@@ -1,7 +1,7 @@
 -- Branch records written and read one by one: what the loops over them know, and what is written when they end.
 use mathlib.Core.Path.{_≡_, refl, sym, ap, ap₂, _∙_}
 use mathlib.Core.Logic.{by-cases, _≢_}
-use mathlib.Core.List.{List, [], _∷_, _++_, map, map-append}
+use mathlib.Core.List.{List, _∷_, map}
 use mathlib.Core.Bool.{Bool, true, false, _&&_, _||_}
 use Prim.Native.Nat.{ℕ, zero, suc, _+_, _*_, _-_, _≤_, _<_, min}
 use native.Mathlib.Numerals.{add-one}
@@ -9,13 +9,14 @@ use native.Mathlib.Nat.{min-eq-left, min-eq-right}
 use native.Mathlib.Omega.{arith}
 use native.Mathlib.Decide.{decLe}
 use lib.Dec.{eqb}
-use lib.ListN.{length, getD, set, take, drop, length-map, length-take, drop-of-length-le}
+use lib.ListN.{length, getD, set, take, drop, length-map, length-take, drop-of-length-le, List·getD-map}
 use lib.Seq.{drop-cons, take-suc, take-all, getD-take, ext-getD}
 use borrow.Author.Tests.{eq-eqb, ne-eqb}
 use Rattle.lists.specs.Numbers.{numbers}
 use Rattle.lists.specs.Tests.{sameNumbers}
 use Rattle.lists.specs.Filters.{keep}
 use Rattle.lists.proofs.Every.{sameNumbers-iff}
+use Rattle.lists.proofs.Maps.{map-take}
 use Rattle.lists.proofs.Numbers.{length-numbers, length-map-numbers, map-numbers}
 use Rattle.lists.specs.Over.{over}
 use Rattle.lists.specs.Filled.{filled}
@@ -23,7 +24,7 @@ use Rattle.lists.proofs.Over.{length-over, over-item, over-more, over-part}
 use Rattle.lists.proofs.Filled.{filled-at, filled-snoc, length-filled}
 use Rattle.branching.specs.declared.branch.Branch.{Branch}
 use Rattle.branching.specs.Nodes.{nodesIn, otherNodes, taxaPlaced}
-use Rattle.branching.specs.Ancestors.{ancestor}
+use Rattle.branching.specs.Ancestors.{ancestor, treeWith}
 use Rattle.branching.specs.Growing.{rowOneAlone, grown, growingTree, branching}
 use Rattle.branching.specs.Facts.{Branching}
 use Rattle.branching.specs.Within.{branchingWithin}
@@ -65,9 +66,20 @@ module _ (d : ℕ → ℕ → ℕ) (n : ℕ) (tree : List ℕ) (old : List Branc
   unfolding withRecords
   written-all count size is = over-part 0 count (branchRecords d n tree) old (omega (arith, records-count))
 
--- the ancestors that the first i records give, with a place for node 0 and for node 1
+-- one more node gets its place in a tree that is filled up to 127 places: the next immediate ancestor stands behind those that are there
+pub places-next : (above : List ℕ) (i : ℕ) → i < length above → length above ≤ 125
+    → set (filled 127 0 (treeWith (take i above))) (i + 2) (getD above i 0) ≡ filled 127 0 (treeWith (take (i + 1) above))
+places-next above i h most =
+    filled-snoc 0 127 (i + 2) (treeWith (take i above)) (getD above i 0) (omega (arith, length-take i above)) (omega arith)
+    ∙ ap (λ (rest : List ℕ). filled 127 0 (treeWith rest)) (sym (take-suc above i 0 h) ∙ ap (λ (k : ℕ). take k above) (sym (add-one i)))
+
+-- the immediate ancestors that records give
+abbrev ancestorsGiven : List Branch → List ℕ
+ancestorsGiven records = map (λ (branch : Branch). branch .ancestor) records
+
+-- the tree that the first i records give
 abbrev pub ancestorsTo : ℕ → List Branch → List ℕ
-ancestorsTo i records = 0 ∷ (0 ∷ map (λ (branch : Branch). branch .ancestor) (take i records))
+ancestorsTo i records = treeWith (take i (ancestorsGiven records))
 
 -- what is left of the records from i on names the nodes from i + 2 on
 abbrev pub namedFrom : List Branch → ℕ → ℕ → Bool
@@ -75,27 +87,14 @@ namedFrom records n i =
     sameNumbers (map (λ (branch : Branch). branch .node) (drop i (take (2 * n - 3) records))) (numbers (i + 2) (2 * n - 3 - i))
 
 module _ (records : List Branch) (size : length records ≡ 125) where
-  -- there are i + 2 of them
-  length-ancestors : (i : ℕ) → i ≤ 125 → length (ancestorsTo i records) ≡ i + 2
-  length-ancestors i h =
-      let read = length-take i records in
-      let all = length-map (take i records) (λ (branch : Branch). branch .ancestor) in
-      omega arith
-
   -- one more record is read into the places
   pub read-next : (now : List ℕ) (i : ℕ) → i < 125 → now ≡ filled 127 0 (ancestorsTo i records)
       → set now (i + 2) (getD records i noBranch .ancestor) ≡ filled 127 0 (ancestorsTo (i + 1) records)
   read-next now i h inv =
       let f : Branch → ℕ = λ (branch : Branch). branch .ancestor in
-      let x = getD records i noBranch .ancestor in
-      let below : i < length records = omega arith in
-      let more : ancestorsTo i records ++ (x ∷ []) ≡ ancestorsTo (i + 1) records =
-      ap (λ (rest : List ℕ). 0 ∷ (0 ∷ rest))
-      (sym (ap (map f) (take-suc records i noBranch below) ∙ map-append f (take i records) (getD records i noBranch ∷ [])))
-      ∙ ap (λ (k : ℕ). ancestorsTo k records) (sym (add-one i)) in
-      ap (λ (l : List ℕ). set l (i + 2) x) inv
-      ∙ filled-snoc 0 127 (i + 2) (ancestorsTo i records) x (sym (length-ancestors i (omega arith))) (omega arith)
-      ∙ ap (filled 127 0) more
+      let count = length-map records f in
+      ap₂ (λ (list : List ℕ) (x : ℕ). set list (i + 2) x) inv (sym (List·getD-map f records i noBranch))
+      ∙ places-next (ancestorsGiven records) i (omega arith) (omega arith)
 
   -- as many records as there are, or fewer, are the same read from the list
   take-min : (k : ℕ) → take (min k 125) records ≡ take k records
@@ -111,8 +110,9 @@ module _ (records : List Branch) (size : length records ≡ 125) where
   pub read-all : (n count : ℕ) → count ≡ min (2 * n - 3) 125 → filled 127 0 (ancestorsTo count records) ≡ placesOf n records
   unfolding placesOf ancestorsOf branchesRead
   read-all n count is =
-      ap (λ (read : List Branch). filled 127 0 (0 ∷ (0 ∷ map (λ (branch : Branch). branch .ancestor) read)))
-      (ap (λ (k : ℕ). take k records) is ∙ take-min (2 * n - 3))
+      ap (λ (read : List ℕ). filled 127 0 (treeWith read))
+      (sym (map-take (λ (branch : Branch). branch .ancestor) count records)
+      ∙ ap ancestorsGiven (ap (λ (k : ℕ). take k records) is ∙ take-min (2 * n - 3)))
 
   module _ (n : ℕ) (most : n ≤ 64) where
     -- the record at i and those behind it
@@ -206,7 +206,7 @@ unfolding placesOf ancestorsOf branchesRead
 length-places n records size =
     let read = length-take (2 * n - 3) records in
     let all = length-map (take (2 * n - 3) records) (λ (branch : Branch). branch .ancestor) in
-    length-filled 0 127 (ancestorsTo (2 * n - 3) records) (omega arith)
+    length-filled 0 127 (ancestorsOf n records) (omega arith)
 
 -- of at most 64 taxa, the records are a branching exactly if they name the nodes in order and their places are a branching
 pub lent-places : (n : ℕ) (records : List Branch) → n ≤ 64
@@ -237,7 +237,7 @@ module _ (d : ℕ → ℕ → ℕ) (n : ℕ) (tree : List ℕ) (old : List Branc
   -- they give the ancestors that its records give
   ancestors-written : ancestorsOf n (withRecords d n tree old) ≡ ancestorsOf n (branchRecords d n tree)
   unfolding ancestorsOf
-  ancestors-written = ap (λ (read : List Branch). 0 ∷ (0 ∷ map (λ (branch : Branch). branch .ancestor) read)) read-written
+  ancestors-written = ap (λ (read : List Branch). treeWith (ancestorsGiven read)) read-written
 
   module _ (b : Branching n tree) where
     -- they are a branching
@@ -248,7 +248,7 @@ module _ (d : ℕ → ℕ → ℕ) (n : ℕ) (tree : List ℕ) (old : List Branc
         lent : List Branch → Bool
         lent read =
             sameNumbers (map (λ (branch : Branch). branch .node) read) (otherNodes n)
-            && branching n (0 ∷ (0 ∷ map (λ (branch : Branch). branch .ancestor) read))
+            && branching n (treeWith (ancestorsGiven read))
 
     -- and they give the tree back, if it has 127 places
     pub written-tree : length tree ≡ 127 → placesOf n (withRecords d n tree old) ≡ tree

@@ -15,6 +15,7 @@ pub mod Descending
 pub mod Walks
 pub mod Along
 pub mod Lending
+pub mod LentNumbers
 pub mod Linking
 pub mod Lengths
 pub mod Whole

@@ -1,7 +1,7 @@
 -- A tree is a list of immediate ancestors by node number: place v holds the ancestor of node v, and 0 where node v has none or is not
 -- in the tree. Place 0 is that of no node, and holds 0.
 use mathlib.Core.Path.{_≡_}
-use mathlib.Core.List.{List}
+use mathlib.Core.List.{List, _∷_}
 use Prim.Native.Nat.{ℕ, _≤_, _<_}
 use lib.Dec.{eqb}
 use lib.ListN.{getD}
@@ -19,6 +19,10 @@ ancestors tree = tree .ancestors
 -- the immediate ancestor of node v
 unfoldable pub ancestor : List ℕ → ℕ → ℕ
 ancestor tree v = getD tree v 0
+
+-- the tree in which nodes 2, 3, .. have these immediate ancestors
+abbrev pub treeWith : List ℕ → List ℕ
+treeWith above = 0 ∷ (0 ∷ above)
 
 -- of a list of nodes, those whose immediate ancestor is v
 unfoldable pub descendants : List ℕ → List ℕ → ℕ → List ℕ

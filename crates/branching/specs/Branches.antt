@@ -1,5 +1,5 @@
 -- The length of a tree, and branch records: the form in which a branching is lent and a finished tree handed back.
-use mathlib.Core.List.{List, _∷_, map}
+use mathlib.Core.List.{List, map}
 use mathlib.Core.Bool.{Bool, _&&_}
 use Prim.Native.Nat.{ℕ, _*_, _-_}
 use lib.ListN.{getD, take}
@@ -8,7 +8,7 @@ use Rattle.lists.specs.Filled.{filled}
 use Rattle.lists.specs.Sums.{sumOver}
 use Rattle.lists.specs.Tests.{sameNumbers}
 use Rattle.branching.specs.declared.branch.Branch.{Branch}
-use Rattle.branching.specs.Ancestors.{places, ancestor}
+use Rattle.branching.specs.Ancestors.{places, ancestor, treeWith}
 use Rattle.branching.specs.Nodes.{nodesIn, otherNodes}
 use Rattle.branching.specs.Growing.{branching}
 
@@ -38,7 +38,7 @@ branchesRead n records = take (2 * n - 3) records
 
 -- the tree that the first 2n-3 branches give, if they name nodes 2 to 2n-2 in order
 unfoldable pub ancestorsOf : ℕ → List Branch → List ℕ
-ancestorsOf n records = 0 ∷ (0 ∷ map (λ (branch : Branch). branch .ancestor) (branchesRead n records))
+ancestorsOf n records = treeWith (map (λ (branch : Branch). branch .ancestor) (branchesRead n records))
 
 -- the same tree with a place for each of the nodes 0 to 126
 unfoldable pub placesOf : ℕ → List Branch → List ℕ

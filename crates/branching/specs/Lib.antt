@@ -10,6 +10,7 @@ pub mod Walks
 pub mod Steps
 pub mod Branches
 pub mod Asking
+pub mod LentNumbers
 pub mod RowLengths
 pub mod Placing
 pub mod Rival

@@ -33,7 +33,7 @@ use Rattle.fitting.specs.declared.characters.States.{States}
 use Rattle.fitting.specs.declared.whole.BranchFit.{BranchFit}
 use Rattle.fitting.specs.declared.whole.Which.{Which}
 use Rattle.fitting.specs.declared.whole.Which.the-variants.{Low, High, Chosen}
-use Rattle.fitting.proofs.Filling.{sum-next}
+use Rattle.lists.proofs.Filling.{sum-next}
 use Rattle.fitting.proofs.Columns.{column-codes, character-known}
 use Rattle.fitting.proofs.Rewriting.{written-none, written-next}
 use Rattle.fitting.proofs.Matrix.OnlyCodes.{chosenState-each}

@@ -1,7 +1,6 @@
 -- What is proved about fitting: laws of sets, of clades, of one character and of whole matrices; worked examples.
 pub mod Bits
 pub mod Cases
-pub mod Filling
 pub mod Sets
 pub mod Clades
 pub mod OneCharacter

@@ -9,4 +9,5 @@ pub mod Least
 pub mod Over
 pub mod Stripes
 pub mod Filled
+pub mod Filling
 pub mod Pairs

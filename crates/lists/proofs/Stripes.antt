@@ -72,6 +72,15 @@ module _ {A : Type 0} where
         ∙ over-behind none place item old (place + width + k * width + i) (omega (arith, narrow 0))
         ∙ ap (λ p. getD old p none) (sym there)
 
+    -- behind the last item all stays
+    pub stripes-behind : (none : A) (place : ℕ) (items : List (List A)) (old : List A) → Narrow width items → (i : ℕ)
+        → place + length items * width ≤ i → getD (stripes width place items old) i none ≡ getD old i none
+    unfolding stripes
+    stripes-behind none place [] old narrow i h = refl
+    stripes-behind none place (item ∷ items) old narrow i h =
+        stripes-behind none (place + width) items (over place item old) (λ j. narrow (suc j)) i (omega arith)
+        ∙ over-behind none place item old i (omega (arith, narrow 0))
+
     -- so an item is read back from its place
     pub stripes-item : (none : A) (place : ℕ) (items : List (List A)) (old : List A) → Narrow width items → (k : ℕ)
         → place + k * width + length (getD items k []) ≤ length old

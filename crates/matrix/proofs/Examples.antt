@@ -14,7 +14,7 @@ use Rattle.matrix.specs.Outcomes.{ask, andThen, Outcome, value, refused,
 use Rattle.matrix.specs.declared.refusal.Refusal.{Refusal}
 use Rattle.matrix.specs.declared.refusal.Refusal.the-variants.{FileTooLong, FileEmpty, FirstLine, BeyondLimits, LineMissing}
 use Rattle.matrix.specs.declared.refusal.Refusal.the-variants.{NameForm, NameTaken, FieldCount, CodeForm, CodeRange, FileGoesOn}
-use Rattle.matrix.specs.declared.refusal.Refusal.the-variants.{ListSize, NotThere, NotBranching, UnknownOrder, WeightForm}
+use Rattle.matrix.specs.declared.refusal.Refusal.the-variants.{ListSize, NotThere, NotBranching, UnknownOrder, WeightForm, BranchForm}
 use Rattle.matrix.specs.declared.refusal.Asked.{Asked}
 use Rattle.matrix.specs.declared.refusal.Asked.the-variants.{Passed, Refused}
 
@@ -37,12 +37,13 @@ all =
     ∷ NotBranching
     ∷ UnknownOrder
     ∷ WeightForm
+    ∷ BranchForm
     ∷ []
 
 -- numbers, first refusals, lines and lent memory
 pub record Examples : Type 0 where
-  -- the numbers of the refusals are 1 to 16
-  pub numbers : map refusalNumber all ≡ 1 ∷ 2 ∷ 3 ∷ 4 ∷ 5 ∷ 6 ∷ 7 ∷ 8 ∷ 9 ∷ 10 ∷ 11 ∷ 12 ∷ 13 ∷ 14 ∷ 15 ∷ 16 ∷ []
+  -- the numbers of the refusals are 1 to 17
+  pub numbers : map refusalNumber all ≡ 1 ∷ 2 ∷ 3 ∷ 4 ∷ 5 ∷ 6 ∷ 7 ∷ 8 ∷ 9 ∷ 10 ∷ 11 ∷ 12 ∷ 13 ∷ 14 ∷ 15 ∷ 16 ∷ 17 ∷ []
   -- the first "no" ends the questions
   pub first : ask false ListSize (ask false CodeRange Passed) ≡ Refused ListSize
   pub later : andThen (ask true ListSize Passed) (ask false CodeRange Passed) ≡ Refused CodeRange

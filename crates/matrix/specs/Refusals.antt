@@ -3,7 +3,7 @@ use Prim.Native.Nat.{ℕ}
 use Rattle.matrix.specs.declared.refusal.Refusal.{Refusal}
 use Rattle.matrix.specs.declared.refusal.Refusal.the-variants.{FileTooLong, FileEmpty, FirstLine, BeyondLimits, LineMissing}
 use Rattle.matrix.specs.declared.refusal.Refusal.the-variants.{NameForm, NameTaken, FieldCount, CodeForm, CodeRange, FileGoesOn}
-use Rattle.matrix.specs.declared.refusal.Refusal.the-variants.{ListSize, NotThere, NotBranching, UnknownOrder, WeightForm}
+use Rattle.matrix.specs.declared.refusal.Refusal.the-variants.{ListSize, NotThere, NotBranching, UnknownOrder, WeightForm, BranchForm}
 
 -- the number of a refusal
 abbrev pub refusalNumber : Refusal → ℕ
@@ -23,3 +23,4 @@ refusalNumber NotThere = 13
 refusalNumber NotBranching = 14
 refusalNumber UnknownOrder = 15
 refusalNumber WeightForm = 16
+refusalNumber BranchForm = 17

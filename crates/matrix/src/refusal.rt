@@ -20,6 +20,7 @@ pub enum Refusal {
     NotBranching,
     UnknownOrder,
     WeightForm,
+    BranchForm,
 }
 
 // What the questions put to an input answer: nothing refuses it, or the first "no".
@@ -49,5 +50,6 @@ pub fn number(refusal: Refusal) -> u64
         Refusal::NotBranching => 14,
         Refusal::UnknownOrder => 15,
         Refusal::WeightForm => 16,
+        Refusal::BranchForm => 17,
     }
 }

@@ -45,9 +45,10 @@ loop-less c = search needs
 
 loop-again : tie.Need-loop-again Inv-loop μ-loop
 loop-again c = let loop = c .before .before .loop in
-    let size : length (c .before .before .before .before .args .t1) ≡ 125 = search needs in
+    let records = c .before .before .before .before .args .t1 in
+    let size : length records ≡ 125 = search needs in
     let inv = loop .inv in
-    (omega arith, inv .1, read-next _ size (loop .places) (loop .i) (omega arith) (inv .2))
+    (omega arith, inv .1, read-next records size (loop .places) (loop .i) (omega arith) (inv .2))
 
 returns : tie.Need-returns Inv-loop μ-loop
 returns c = let loop = c .before .loop in

@@ -7,7 +7,7 @@ use Rattle.lists.specs.Numbers.{numbers}
 use Rattle.lists.specs.Sums.{sumOver}
 use Rattle.matrix.specs.Shape.{weightOf}
 use Rattle.difference.specs.Rows.{part}
-use Rattle.fitting.proofs.Filling.{sum-next}
+use Rattle.lists.proofs.Filling.{sum-next}
 use Rattle.consistency.specs.Floor.{characterFloor}
 use Rattle.consistency.specs.Steps.{column, columnFloors}
 use Rattle.consistency.proofs.floor.sum_floors.Statement.{statement}

@@ -8,7 +8,7 @@ use lib.ListN.{length, getD, length-set}
 use mir.Syntax.{w32}
 use mir.Facts.{toZ-ofZ}
 use Rattle.matrix.specs.Shape.{rowStart}
-use Rattle.fitting.proofs.Filling.{filled-next}
+use Rattle.lists.proofs.Filling.{filled-next}
 use Rattle.fitting.proofs.characters.codes_of.Statement.{statement}
 use Rattle.fitting.proofs.characters.codes_of.Tie as tie
 

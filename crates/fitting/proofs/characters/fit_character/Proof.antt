@@ -13,7 +13,7 @@ use mir.Facts.{toZ-ofZ}
 use Rattle.matrix.specs.Shape.{lastNode}
 use Rattle.branching.specs.Walks.{belowAt}
 use Rattle.fitting.specs.Steps.{partAt, seenAt, statesAt, statesFrom}
-use Rattle.fitting.proofs.Filling.{filled-next}
+use Rattle.lists.proofs.Filling.{filled-next}
 use Rattle.fitting.proofs.Pass.Found.{states-found}
 use Rattle.fitting.proofs.characters.fit_character.Statement.{statement}
 use Rattle.fitting.proofs.characters.fit_character.Tie as tie

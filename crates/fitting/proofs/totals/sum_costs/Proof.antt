@@ -12,7 +12,7 @@ use Rattle.matrix.specs.Questions.{LentMatrix, LentWeights}
 use Rattle.branching.specs.Ancestors.{ancestors}
 use Rattle.branching.specs.Within.{branchingWithin}
 use Rattle.fitting.specs.Steps.{characterLength}
-use Rattle.fitting.proofs.Filling.{sum-next}
+use Rattle.lists.proofs.Filling.{sum-next}
 use Rattle.fitting.proofs.Columns.{column-codes, character-most, characters-most}
 use Rattle.fitting.proofs.Matrix.LeastCost.{total-characters}
 use Rattle.fitting.proofs.totals.sum_costs.Statement.{statement}

@@ -7,7 +7,7 @@ use lib.ListN.{length, length-set}
 use Rattle.branching.specs.Ancestors.{ancestors, ancestor}
 use Rattle.fitting.specs.Steps.{statesAt}
 use Rattle.fitting.specs.Lists.{noBranch, branchAt, Longer}
-use Rattle.fitting.proofs.Filling.{FilledTo, filled-more}
+use Rattle.lists.proofs.Filling.{FilledTo, filled-more}
 use Rattle.fitting.proofs.whole.add_lengths.Statement.{statement}
 use Rattle.fitting.proofs.whole.add_lengths.Tie as tie
 

@@ -7,7 +7,7 @@ use borrow.Author.Needs.{needs}
 use lib.ListN.{length, length-set}
 use Rattle.lists.proofs.Filled.{getD-replicate}
 use Rattle.fitting.specs.Lists.{branchAt}
-use Rattle.fitting.proofs.Filling.{FilledTo, filled-more}
+use Rattle.lists.proofs.Filling.{FilledTo, filled-more}
 use Rattle.fitting.proofs.whole.fit_of.Statement.{statement}
 use Rattle.fitting.proofs.whole.fit_of.Tie as tie
 

@@ -7,7 +7,7 @@ use Rattle.lists.specs.Numbers.{numbers}
 use Rattle.lists.specs.Sums.{sumOver}
 use Rattle.branching.specs.Nodes.{otherNodes}
 use Rattle.fitting.specs.Lists.{branchAt}
-use Rattle.fitting.proofs.Filling.{sum-next}
+use Rattle.lists.proofs.Filling.{sum-next}
 use Rattle.fitting.proofs.whole.sum_lengths.Statement.{statement}
 use Rattle.fitting.proofs.whole.sum_lengths.Tie as tie
 

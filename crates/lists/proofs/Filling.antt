@@ -6,11 +6,11 @@ use Prim.Native.Nat.{ℕ, suc, _+_, _-_, _≤_, _<_}
 use native.Mathlib.Omega.{arith}
 use native.Mathlib.Decide.{ℕ-discrete}
 use lib.ListN.{length, getD, set}
-use Rattle.lists.specs.Numbers.{numbers}
-use Rattle.lists.specs.Sums.{sumOver}
-use Rattle.lists.proofs.Numbers.{numbers-snoc}
-use Rattle.lists.proofs.Sums.{sum-snoc}
 use lib.Seq.{getD-set-same, getD-set-other}
+use Rattle.lists.specs.Numbers.{numbers}
+use Rattle.lists.specs.Sums.{sumOver}
+use Rattle.lists.proofs.Numbers.{numbers-snoc}
+use Rattle.lists.proofs.Sums.{sum-snoc}
 
 -- what holds of the entries at the places from `first` to i, and of the one that is written at i, holds at the places to i + 1
 pub filled-next : {A : Type 0} (P : ℕ → A → Type 0) (none : A) (xs : List A) (first i : ℕ) (x : A) → i < length xs
