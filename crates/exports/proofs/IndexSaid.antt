@@ -7,16 +7,16 @@ use Prim.Native.Nat.{ℕ}
 use borrow.Author.Tests.{eq-eqb, ne-eqb}
 use lib.IntN.{ℤ}
 use lib.ListN.{length}
-use Rattle.lists.proofs.Numbers.{length-map-numbers}
 use Rattle.matrix.specs.Outcomes.{Outcome, refused}
 use Rattle.matrix.specs.Refusals.{refusalNumber}
 use Rattle.matrix.specs.declared.refusal.Refusal.the-variants.{ListSize}
 use Rattle.branching.specs.declared.branch.Branch.{Branch}
-use Rattle.branching.specs.Asking.{branchesSize, askBranching}
+use Rattle.branching.specs.Asking.{askBranching}
 use Rattle.branching.specs.Branches.{branchesRead, ancestorsOf, namedInOrder, lentBranching}
+use Rattle.branching.specs.LentNumbers.{lentNumbers, recordsIn}
+use Rattle.branching.proofs.LentNumbers.{length-recordsIn}
 use Rattle.consistency.specs.Calls.{indexAnswer}
 use Rattle.consistency.specs.declared.index.Index.{Index}
-use Rattle.exports.specs.Branches.{lentNumbers, recordAt, recordsIn}
 use Rattle.exports.specs.Answers.{indexed}
 use Rattle.exports.specs.Calls.{indexExported}
 use Rattle.exports.specs.declared.answers.Indexed.{Indexed}
@@ -33,11 +33,6 @@ module _ (codes : List ℤ) (weights : List ℕ) (n m : ℕ) (lent : List ℕ) (
   unfolding indexExported
   index-said size records given answer found is =
       rw (eq-eqb (length lent) lentNumbers size) (is ∙ ap indexed (found ∙ ap (indexAnswer codes weights n m) given))
-
--- 125 records are read from lent numbers
-length-recordsIn : (lent : List ℕ) → length (recordsIn lent) ≡ branchesSize
-unfolding recordsIn
-length-recordsIn lent = length-map-numbers (recordAt lent) 0 branchesSize
 
 -- two lists of one size whose first 2n-3 records name the same nodes and ancestors bring the same answer, whatever else they hold
 pub first-records : (codes : List ℤ) (weights : List ℕ) (n m : ℕ) (lent other : List ℕ) → length lent ≡ length other

@@ -1,22 +1,21 @@
 -- The number handed back is 0 exactly if nothing was refused.
 use mathlib.Core.Path.{_≡_, refl}
 use mathlib.Core.Logic.{_↔_}
-use mathlib.Core.Bool.{Bool, true, false}
 use mathlib.Core.List.{List}
 use Prim.Native.Nat.{ℕ, _≤_}
 use native.Mathlib.Omega.{arith}
-use lib.IntN.{ℤ}
-use Rattle.matrix.specs.Outcomes.{Outcome, value, refused, ask, onLine, answered}
+use Rattle.matrix.specs.Outcomes.{Outcome, value, refused, onLine, answered}
 use Rattle.matrix.specs.Refusals.{refusalNumber}
 use Rattle.matrix.specs.declared.refusal.Refusal.{Refusal}
 use Rattle.matrix.specs.declared.refusal.Refusal.the-variants.{FileTooLong, FileEmpty, FirstLine, BeyondLimits, LineMissing}
 use Rattle.matrix.specs.declared.refusal.Refusal.the-variants.{NameForm, NameTaken, FieldCount, CodeForm, CodeRange, FileGoesOn}
-use Rattle.matrix.specs.declared.refusal.Refusal.the-variants.{ListSize, NotThere, NotBranching, UnknownOrder, WeightForm}
+use Rattle.matrix.specs.declared.refusal.Refusal.the-variants.{ListSize, NotThere, NotBranching, UnknownOrder, WeightForm, BranchForm}
 use Rattle.matrix.specs.declared.refusal.Asked.{Asked}
 use Rattle.matrix.specs.declared.refusal.Asked.the-variants.{Passed, Refused}
 use Rattle.matrix_file.specs.Job.{Job}
 use Rattle.matrix_file.specs.Reading.{readAnswer}
-use Rattle.matrix_file.specs.Report.{fullSize, readOutcome, withHeader}
+use Rattle.matrix_file.specs.Report.{askSize, readOutcome, withHeader}
+use Rattle.matrix_file.specs.Written.{LentLists}
 use Rattle.matrix_file.proofs.File.Numbered.{refused-bounds}
 use Rattle.consistency.specs.declared.index.Index.{Index}
 use Rattle.consistency.specs.declared.index.Index.the-variants.{Divided, NoTotal}
@@ -40,6 +39,7 @@ numbered NotThere = omega arith
 numbered NotBranching = omega arith
 numbered UnknownOrder = omega arith
 numbered WeightForm = omega arith
+numbered BranchForm = omega arith
 
 -- a call on a lent matrix hands back 0 exactly if its questions passed
 pub zero-passed : (asked : Asked) (length : ℕ) → (measured (answered asked length) .refusal ≡ 0) ↔ (asked ≡ Passed)
@@ -62,14 +62,13 @@ one-divided (value NoTotal) = (λ e. absurd (omega arith), λ is. let same = is 
 one-divided (refused number line) = (λ e. absurd (omega arith), λ is. let same = is .2 in absurd (let z : _≡_ {A = ℕ} 0 1 = cc in omega arith))
 
 -- nor has any refusal of a read
-read-numbered : (file : List ℕ) (matrix : List ℤ) (weights names : List ℕ) (number line : ℕ)
-    → readOutcome file matrix weights names ≡ refused number line → 1 ≤ number
+read-numbered : (file : List ℕ) (lists : LentLists) (number line : ℕ) → readOutcome file lists ≡ refused number line → 1 ≤ number
 unfolding readOutcome
-read-numbered file matrix weights names number line e = go (fullSize matrix weights names) e
+read-numbered file lists number line e = go (askSize lists) e
   where
-    go : (full : Bool) → onLine 0 (ask full ListSize Passed) (readAnswer file) ≡ refused number line → 1 ≤ number
-    go true e = refused-bounds file number line e .0
-    go false e = let same : 12 ≡ number = cc in omega arith
+    go : (asked : Asked) → onLine 0 asked (readAnswer file) ≡ refused number line → 1 ≤ number
+    go Passed e = refused-bounds file number line e .0
+    go (Refused refusal) e = let same : refusalNumber refusal ≡ number = cc in omega (arith, numbered refusal)
 
 -- what a file brings is a job, or it is refused by a number that is not 0
 zero-value : (outcome : Outcome Job) → ((number line : ℕ) → outcome ≡ refused number line → 1 ≤ number)
@@ -79,8 +78,6 @@ zero-value (refused number line) counts =
     (λ e. absurd (omega (arith, counts number line refl)), λ e. absurd (let same = e .1 in let z : _≡_ {A = ℕ} 0 1 = cc in omega arith))
 
 -- a read hands back 0 exactly if the file was accepted
-pub zero-accepted : (file : List ℕ) (matrix : List ℤ) (weights names : List ℕ)
-    → (fileRead (withHeader (readOutcome file matrix weights names)) .refusal ≡ 0)
-    ↔ ((job : Job) × (readOutcome file matrix weights names ≡ value job))
-zero-accepted file matrix weights names =
-    zero-value (readOutcome file matrix weights names) (read-numbered file matrix weights names)
+pub zero-accepted : (file : List ℕ) (lists : LentLists)
+    → (fileRead (withHeader (readOutcome file lists)) .refusal ≡ 0) ↔ ((job : Job) × (readOutcome file lists ≡ value job))
+zero-accepted file lists = zero-value (readOutcome file lists) (read-numbered file lists)

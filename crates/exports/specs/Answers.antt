@@ -2,6 +2,8 @@
 use Prim.Native.Nat.{ℕ}
 use Rattle.matrix.specs.Outcomes.{Outcome, value, refused}
 use Rattle.matrix_file.specs.declared.answer.Header.{Header}
+use Rattle.matrix_file.specs.declared.answer.Kind.{Kind}
+use Rattle.matrix_file.specs.declared.answer.Kind.the-variants.{Wagner, Own}
 use Rattle.listing.specs.Meant.{orderMeant}
 use Rattle.exports.specs.Orders.{orderNumber}
 use Rattle.consistency.specs.declared.index.Index.{Index}
@@ -15,12 +17,24 @@ abbrev pub bytesSaid : Outcome ℕ → ℕ
 bytesSaid (value count) = count
 bytesSaid (refused number line) = 0
 
+-- the number of a kind of file: 1 for `W`, 2 for `F`
+abbrev pub kindNumber : Kind → ℕ
+kindNumber Wagner = 1
+kindNumber Own = 2
+
 -- the header of an accepted file and the order of placing that it means, with 0 for the refusal and its line; or the number of the refusal
 -- and its line, with 0 for the others
 abbrev pub fileRead : Outcome Header → FileRead
 fileRead (value header) =
-    record { refusal = 0; line = 0; n = header .n; m = header .m; order = orderNumber (orderMeant (header .order)) }
-fileRead (refused number line) = record { refusal = number; line = line; n = 0; m = 0; order = 0 }
+    record {
+      refusal = 0;
+      line = 0;
+      kind = kindNumber (header .kind);
+      n = header .n;
+      m = header .m;
+      order = orderNumber (orderMeant (header .order));
+    }
+fileRead (refused number line) = record { refusal = number; line = line; kind = 0; n = 0; m = 0; order = 0 }
 
 -- a length, with 0 for the refusal; or the number of the refusal, with 0 for the length
 abbrev pub measured : Outcome ℕ → Measured

@@ -15,9 +15,10 @@ use Rattle.matrix.specs.declared.refusal.Asked.{Asked}
 use Rattle.matrix.specs.declared.refusal.Asked.the-variants.{Passed, Refused}
 use Rattle.difference.specs.Rows.{difference, nodeDifference, weighing}
 use Rattle.matrix_file.specs.Reading.{jobIn}
-use Rattle.matrix_file.specs.Written.{matrixWritten, weightsWritten, namesWritten}
+use Rattle.matrix_file.specs.Written.{LentLists, jobWritten}
 use Rattle.matrix_file.specs.Report.{withHeader, readOutcome}
 use Rattle.prim.specs.Network.{network, networkLength}
+use Rattle.branching.specs.LentNumbers.{lentNumbers, recordsIn}
 use Rattle.wagner.specs.declared.order.Order.{Order}
 use Rattle.wagner.specs.Build.{wagnerLength}
 use Rattle.wagner.specs.Matrix.{matrixAfter}
@@ -32,7 +33,6 @@ use Rattle.consistency.specs.Calls.{floorAnswer, indexAnswer}
 use Rattle.listing.specs.Listing.{output}
 use Rattle.listing.specs.Call.{askOutput}
 use Rattle.exports.specs.Orders.{askOrder, askFitOrder}
-use Rattle.exports.specs.Branches.{lentNumbers, recordsIn}
 use Rattle.exports.specs.Answers.{bytesSaid, fileRead, measured, indexed}
 use Rattle.exports.specs.declared.answers.FileRead.{FileRead}
 use Rattle.exports.specs.declared.answers.Measured.{Measured}
@@ -48,23 +48,10 @@ pub record ListExported (file old new : List ℕ) (r : ℕ) : Type 0 where
   pub within : r ≤ length new
   pub counted : r ≡ length (take r new)
 
--- a read answers what the file brings; the lent lists then hold what is said of them for the read, and on a refusal what they held
-pub record ReadExported
-    (file : List ℕ)
-    (oldMatrix : List ℤ)
-    (oldWeights : List ℕ)
-    (oldNames : List ℕ)
-    (newMatrix : List ℤ)
-    (newWeights : List ℕ)
-    (newNames : List ℕ)
-    (r : FileRead) : Type 0 where
-  pub answers : r ≡ fileRead (withHeader (readOutcome file oldMatrix oldWeights oldNames))
-  pub matrix :
-      newMatrix ≡ afterwards (readOutcome file oldMatrix oldWeights oldNames) (matrixWritten (jobIn file .rows) oldMatrix) oldMatrix
-  pub weights :
-      newWeights ≡ afterwards (readOutcome file oldMatrix oldWeights oldNames) (weightsWritten (jobIn file .weights) oldWeights) oldWeights
-  pub names :
-      newNames ≡ afterwards (readOutcome file oldMatrix oldWeights oldNames) (namesWritten (jobIn file .names) oldNames) oldNames
+-- a read answers what the file brings; what an accepted file says is then written into the lent lists, and on a refusal they are as before
+pub record ReadExported (file : List ℕ) (old new : LentLists) (r : FileRead) : Type 0 where
+  pub answers : r ≡ fileRead (withHeader (readOutcome file old))
+  pub lists : new ≡ afterwards (readOutcome file old) (jobWritten (jobIn file) old) old
 
 -- the length of the Prim Network by the weighted difference, or the refusal
 unfoldable pub networkExported : List ℤ → List ℕ → ℕ → ℕ → Measured

@@ -7,12 +7,13 @@ ghost use Rattle.matrix.specs.Outcomes.{value, refused};
 ghost use Rattle.matrix.specs.Refusals.{refusalNumber};
 ghost use Rattle.exports.specs.Answers.{measured, indexed};
 
-// What a read answers: 0, the line 0, the numbers of taxa and characters, and the number of the order of placing that the file means; or
-// the number of the refusal, its line, and zeros.
+// What a read answers: 0, the line 0, the number of the kind of file, the numbers of taxa and characters, and the number of the order of
+// placing that the file means; or the number of the refusal, its line, and zeros.
 #[repr(C)]
 pub struct FileRead {
     pub refusal: u64,
     pub line: usize,
+    pub kind: u64,
     pub n: usize,
     pub m: usize,
     pub order: u64,

@@ -6,12 +6,12 @@ use crate::answers::index_is;
 use crate::answers::index_refused;
 use crate::answers::is;
 use crate::answers::refused;
-use crate::branches::LENT_NUMBERS;
-use crate::branches::records_in;
 use crate::orders::ask_fit_order;
 use crate::orders::ask_order;
 use crate::orders::order_number;
 use crate::orders::order_numbered;
+use branching::numbers::LENT_NUMBERS;
+use branching::numbers::records_in;
 use consistency::calls::Consistency;
 use consistency::calls::floor;
 use consistency::calls::index;
@@ -24,6 +24,7 @@ use matrix::refusal::Asked;
 use matrix::refusal::Refusal;
 use matrix::refusal::number;
 use matrix_file::answer::Header;
+use matrix_file::answer::Kind;
 use matrix_file::answer::Read;
 use matrix_file::reading::read;
 use prim::network::network;
@@ -34,9 +35,10 @@ ghost use mathlib.Core.Bool.{true};
 ghost use lib.ListN.{length};
 ghost use Rattle.matrix.specs.Outcomes.{value};
 ghost use Rattle.matrix.specs.Questions.{askMatrix};
+ghost use Rattle.matrix_file.specs.Written.{lent};
 ghost use Rattle.fitting.specs.Calls.{listsFull};
 ghost use Rattle.exports.specs.Orders.{orderNumbered};
-ghost use Rattle.exports.specs.Answers.{fileRead};
+ghost use Rattle.exports.specs.Answers.{kindNumber, fileRead};
 ghost use Rattle.exports.specs.Calls.{ListExported, ReadExported, networkExported, askBuild, BuildExported};
 ghost use Rattle.exports.specs.Calls.{askWagnerFit, FitExported, floorExported, indexExported};
 
@@ -52,35 +54,51 @@ pub extern "C" fn wagner_list(file: &[u8], out: &mut [u8]) -> usize
     }
 }
 
+// The number of a kind of file: 1 for `W`, 2 for `F`.
+fn kind_number(kind: Kind) -> u64
+    ensures { λ r. ⌜ r ≡ kindNumber kind ⌝ }
+{
+    match kind {
+        Kind::Wagner => 1,
+        Kind::Own => 2,
+    }
+}
+
 // No refusal, and what the header of a file says.
 fn accepted(header: Header) -> FileRead
     ensures { λ r. ⌜ r ≡ fileRead (value header) ⌝ }
 {
     let word = header.order;
+    let kind = header.kind;
     FileRead {
         refusal: 0,
         line: 0,
+        kind: kind_number(kind),
         n: header.n,
         m: header.m,
         order: order_number(order_meant(word)),
     }
 }
 
-// Reads a file into a lent matrix and lent lists of weights and names.
+// Reads a file into a lent matrix and lent lists of weights, names and branch records, three numbers for each of 125: the branching of an
+// `F` file is handed back with length 0.
 #[no_mangle]
 pub extern "C" fn wagner_read(
     file: &[u8],
     matrix: &mut [i32],
     weights: &mut [u8],
     names: &mut [u8],
+    branches: &mut [usize],
 ) -> FileRead
-    ensures { λ r. ⌜ ReadExported (now (file .entry)) (now (matrix .entry)) (now (weights .entry)) (now (names .entry))
-        (now (matrix .exit)) (now (weights .exit)) (now (names .exit)) r ⌝ }
+    ensures { λ r. ⌜ ReadExported (now (file .entry))
+        (lent (now (matrix .entry)) (now (weights .entry)) (now (names .entry)) (now (branches .entry)))
+        (lent (now (matrix .exit)) (now (weights .exit)) (now (names .exit)) (now (branches .exit))) r ⌝ }
 {
-    match read(file, matrix, weights, names) {
+    match read(file, matrix, weights, names, branches) {
         Read::Refused { refusal, line } => FileRead {
             refusal: number(refusal),
             line,
+            kind: 0,
             n: 0,
             m: 0,
             order: 0,

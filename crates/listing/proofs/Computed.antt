@@ -19,6 +19,7 @@ use Rattle.matrix_file.specs.Lines as matrix-file-Lines
 use Rattle.matrix_file.specs.Header as matrix-file-Header
 use Rattle.matrix_file.specs.Optional as matrix-file-Optional
 use Rattle.matrix_file.specs.Weights as matrix-file-Weights
+use Rattle.matrix_file.specs.Branches as matrix-file-Branches
 use Rattle.matrix_file.specs.Rows as matrix-file-Rows
 use Rattle.matrix_file.specs.Reading as matrix-file-Reading
 use Rattle.matrix_file.specs.Text as matrix-file-Text
@@ -62,6 +63,8 @@ unfolding flatMap matrix-Shape.row matrix-Shape.inRange matrix-Shape.lastNode li
     matrix-file-Header.firstLineForm matrix-file-Header.askFirstLine matrix-file-Header.askWeights matrix-file-Header.askHeader
     matrix-file-Optional.optionalThere matrix-file-Optional.optionalFields matrix-file-Optional.askOptional
     matrix-file-Weights.weightForm matrix-file-Weights.weightIn matrix-file-Weights.weightsForm matrix-file-Weights.weightsSaid
+    matrix-file-Header.isKind matrix-file-Header.kindSaid matrix-file-Branches.branchForm matrix-file-Branches.ancestorIn
+    matrix-file-Branches.branchText matrix-file-Branches.branchTexts matrix-file-Branches.askBranches matrix-file-Reading.askAfter
     matrix-file-Rows.nameIn matrix-file-Rows.codesIn matrix-file-Rows.askCodes matrix-file-Rows.askRow matrix-file-Rows.askRows
     matrix-file-Reading.jobOf matrix-file-Reading.nothingMore matrix-file-Reading.askEnd matrix-file-Reading.askBehind
     matrix-file-Reading.askFile matrix-file-Reading.askLength matrix-file-Reading.readAnswer matrix-file-Text.bytes prim-Network.taxa
@@ -89,6 +92,6 @@ unfolding flatMap matrix-Shape.row matrix-Shape.inRange matrix-Shape.lastNode li
     lines-Kinds.totalLine lines-Kinds.indexLine lines-Kinds.mark lines-Kinds.primLine lines-Kinds.wagnerLine lines-Kinds.branchLine
     lines-Kinds.stateLine lines-Kinds.refusalLine listing-Blocks.fittedLine
     listing-Blocks.rangeLine listing-Blocks.fittedLines listing-Blocks.rangeLines listing-Listing.primBlock listing-Listing.wagnerBlock
-    listing-Listing.fittedBlock listing-Listing.indexBlock listing-Listing.rangeBlock listing-Listing.blocks listing-Listing.listing
+    listing-Listing.fittedBlock listing-Listing.indexBlock listing-Listing.rangeBlock listing-Listing.treeBlocks listing-Listing.blocksFor listing-Listing.blocks listing-Listing.listing
     listing-Listing.printed listing-Listing.listingOf listing-Listing.output
 computed lines = listing-Listing.output (flatMap matrix-file-Text.bytes lines)

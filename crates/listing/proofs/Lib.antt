@@ -12,7 +12,9 @@ pub mod ReadNames
 pub mod HandedTexts
 pub mod Parts
 pub mod Printed
+pub mod FittedTrees
 pub mod FoundResults
+pub mod PutJobs
 pub mod ReadListed
 pub mod Called
 pub mod InPrint

@@ -9,9 +9,11 @@ use Rattle.lists.specs.Numbers.{numbers}
 use Rattle.lists.proofs.Numbers.{length-numbers, length-map-numbers}
 use Rattle.matrix.specs.NodeRows.{rowOf}
 use Rattle.matrix_file.specs.Job.{Job}
+use Rattle.matrix_file.specs.declared.answer.Kind.the-variants.{Wagner, Own}
 use Rattle.difference.specs.Rows.{Measure, nodeDifference}
 use Rattle.prim.specs.Network.{Link, network, networkLength}
 use Rattle.prim.proofs.Placing.{network-length}
+use Rattle.branching.specs.Ancestors.{treeWith}
 use Rattle.branching.specs.Nodes.{otherNodes}
 use Rattle.wagner.specs.declared.order.Order.{Order}
 use Rattle.wagner.specs.Build.{Built, wagner, wagnerLength, build, buildOn}
@@ -23,15 +25,21 @@ use Rattle.lines.specs.Lines.{joined}
 use Rattle.lines.specs.Kinds.{totalLine, indexLine, primLine, wagnerLine}
 use Rattle.listing.specs.Meant.{orderMeant}
 use Rattle.listing.specs.Blocks.{fittedLine, fittedLines, rangeLine, rangeLines}
-use Rattle.listing.specs.Listing.{primBlock, wagnerBlock, fittedBlock, indexBlock, rangeBlock, blocks, listing}
+use Rattle.listing.specs.Listing.{primBlock, wagnerBlock, fittedBlock, indexBlock, rangeBlock, treeBlocks, blocksFor, blocks, listing}
 use Rattle.listing.proofs.Joined.{flatMap-append}
 
--- three blocks with a line behind each, a block of one line, and a last block
-parts : (a b c d : List (List ℕ)) (x y z w : List ℕ)
-    → joined (flatMap (λ (block : List (List ℕ)). block) ((a ++ (x ∷ [])) ∷ (b ++ (y ∷ [])) ∷ (c ++ (z ∷ [])) ∷ (w ∷ []) ∷ d ∷ []))
-    ≡ joined a ++ (x ++ (joined b ++ (y ++ (joined c ++ (z ++ (w ++ joined d))))))
+-- blocks, the first with a line behind it
+after-block : (a : List (List ℕ)) (x : List ℕ) (others : List (List (List ℕ)))
+    → joined (flatMap (λ (block : List (List ℕ)). block) ((a ++ (x ∷ [])) ∷ others))
+    ≡ joined a ++ (x ++ joined (flatMap (λ (block : List (List ℕ)). block) others))
 unfolding flatMap
-parts a b c d x y z w = simp (flatMap-append, append-nil, append-assoc)
+after-block a x others = simp (flatMap-append, append-nil, append-assoc)
+
+-- a block of one line and a last block
+last-blocks : (w : List ℕ) (d : List (List ℕ))
+    → joined (flatMap (λ (block : List (List ℕ)). block) ((w ∷ []) ∷ d ∷ [])) ≡ w ++ joined d
+unfolding flatMap
+last-blocks w d = simp (flatMap-append, append-nil, append-assoc)
 
 -- so many items, each with as many texts
 length-each : {A B : Type 0} (f : A → List B) (size : ℕ) (xs : List A) → ((x : A) → length (f x) ≡ size) → length (flatMap f xs) ≡ length xs * size
@@ -69,14 +77,6 @@ module _ (measure : Measure) (job : Job) where
   abbrev pub wagnerLines : List (List ℕ)
   wagnerLines = map (wagnerLine (job .n) (job .names)) (builtOf .placements)
 
-  -- its `T` lines
-  abbrev pub treeLines : List (List ℕ)
-  treeLines = fittedLines (job .n) (job .names) (builtOf .tree) (job .rows) (job .m) (measure .step)
-
-  -- its `H` lines
-  abbrev pub htuLines : List (List ℕ)
-  htuLines = rangeLines (job .n) (job .names) (builtOf .tree) (job .rows) (job .m)
-
   -- the line `p`
   abbrev pub primTotal : List ℕ
   primTotal = totalLine "p" (networkLength linksOf)
@@ -85,25 +85,70 @@ module _ (measure : Measure) (job : Job) where
   abbrev pub wagnerTotal : List ℕ
   wagnerTotal = totalLine "w" (wagnerLength (measure .rows) (job .n) builtOf)
 
-  -- the line `t`
-  abbrev pub treeTotal : List ℕ
-  treeTotal = totalLine "t" (fittedTotal (measure .step) (builtOf .tree) (job .rows) (job .n) (job .m))
+  -- a tree
+  module _ (tree : List ℕ) where
+    -- its `T` lines
+    abbrev pub treeLines : List (List ℕ)
+    treeLines = fittedLines (job .n) (job .names) tree (job .rows) (job .m) (measure .step)
 
-  -- the index of its fitted tree
-  abbrev pub indexOf : Index
-  indexOf =
-      index (floor (measure .step) (job .rows) (job .n) (job .m))
-      (fittedTotal (measure .step) (builtOf .tree) (job .rows) (job .n) (job .m))
+    -- its `H` lines
+    abbrev pub htuLines : List (List ℕ)
+    htuLines = rangeLines (job .n) (job .names) tree (job .rows) (job .m)
 
-  -- the line `c`
-  abbrev pub treeIndex : List ℕ
-  treeIndex = indexLine indexOf
+    -- the line `t`
+    abbrev pub treeTotal : List ℕ
+    treeTotal = totalLine "t" (fittedTotal (measure .step) tree (job .rows) (job .n) (job .m))
 
-  -- the whole listing, joined: `P` lines, `p`, `W` lines, `w`, `T` lines, `t`, `c`, `H` lines
-  pub listing-text : joined (listing measure job)
-      ≡ joined primLines ++ (primTotal ++ (joined wagnerLines ++ (wagnerTotal ++ (joined treeLines ++ (treeTotal ++ (treeIndex ++ joined htuLines))))))
-  unfolding listing blocks primBlock wagnerBlock fittedBlock indexBlock rangeBlock
-  listing-text = parts primLines wagnerLines treeLines htuLines primTotal wagnerTotal treeTotal treeIndex
+    -- its index
+    abbrev pub indexOf : Index
+    indexOf =
+        index (floor (measure .step) (job .rows) (job .n) (job .m)) (fittedTotal (measure .step) tree (job .rows) (job .n) (job .m))
+
+    -- the line `c`
+    abbrev pub treeIndex : List ℕ
+    treeIndex = indexLine indexOf
+
+    -- its lines, joined: `T` lines, `t`, `c`, `H` lines
+    abbrev pub treeText : List ℕ
+    treeText = joined treeLines ++ (treeTotal ++ (treeIndex ++ joined htuLines))
+
+    -- they are its blocks
+    pub tree-text : joined (flatMap (λ (block : List (List ℕ)). block) (treeBlocks measure job tree)) ≡ treeText
+    unfolding treeBlocks fittedBlock indexBlock rangeBlock
+    tree-text = after-block treeLines treeTotal _ ∙ ap (λ rest. joined treeLines ++ (treeTotal ++ rest)) (last-blocks treeIndex htuLines)
+
+    -- 2n-3 `T` lines
+    pub tree-count : length treeLines ≡ 2 * job .n - 3
+    unfolding fittedLines otherNodes
+    tree-count =
+        length-map-numbers (fittedLine (job .n) (job .names) tree (job .rows) (job .m) (measure .step)) 2 (2 * job .n - 3)
+
+    -- (n-2)m `H` lines
+    pub htu-count : length htuLines ≡ (job .n - 2) * job .m
+    unfolding rangeLines
+    htu-count =
+        length-each (λ v. map (line v) (numbers 1 (job .m))) (job .m) (numbers (job .n + 1) (job .n - 2))
+        (λ v. length-map-numbers (line v) 1 (job .m))
+        ∙ ap (λ (count : ℕ). count * job .m) (length-numbers (job .n + 1) (job .n - 2))
+      where
+        line : ℕ → ℕ → List ℕ
+        line = rangeLine (job .n) (job .names) tree (job .rows) (job .m)
+
+  -- the listing of a `W` file, joined: `P` lines, `p`, `W` lines, `w`, and the lines of the tree built
+  pub built-text : job .kind ≡ Wagner → joined (listing measure job)
+      ≡ joined primLines ++ (primTotal ++ (joined wagnerLines ++ (wagnerTotal ++ treeText (builtOf .tree))))
+  unfolding listing blocks blocksFor primBlock wagnerBlock
+  built-text kind =
+      ap (λ k. joined (flatMap (λ (block : List (List ℕ)). block) (blocksFor k measure job))) kind
+      ∙ after-block primLines primTotal _
+      ∙ ap (λ rest. joined primLines ++ (primTotal ++ rest))
+      (after-block wagnerLines wagnerTotal _ ∙ ap (λ rest. joined wagnerLines ++ (wagnerTotal ++ rest)) (tree-text (builtOf .tree)))
+
+  -- the listing of an `F` file, joined: the lines of its own branching
+  pub own-text : job .kind ≡ Own → joined (listing measure job) ≡ treeText (treeWith (job .ancestors))
+  unfolding listing blocks blocksFor
+  own-text kind =
+      ap (λ k. joined (flatMap (λ (block : List (List ℕ)). block) (blocksFor k measure job))) kind ∙ tree-text (treeWith (job .ancestors))
 
   -- n-1 `P` lines
   pub prim-count : length primLines ≡ job .n - 1
@@ -115,29 +160,12 @@ module _ (measure : Measure) (job : Job) where
       length-map (builtOf .placements) (wagnerLine (job .n) (job .names))
       ∙ wagner-count (measure .rows) (orderMeant (job .order)) (job .n) (job .rows)
 
-  -- 2n-3 `T` lines
-  pub tree-count : length treeLines ≡ 2 * job .n - 3
-  unfolding fittedLines otherNodes
-  tree-count =
-      length-map-numbers (fittedLine (job .n) (job .names) (builtOf .tree) (job .rows) (job .m) (measure .step)) 2 (2 * job .n - 3)
-
-  -- (n-2)m `H` lines
-  pub htu-count : length htuLines ≡ (job .n - 2) * job .m
-  unfolding rangeLines
-  htu-count =
-      length-each (λ v. map (line v) (numbers 1 (job .m))) (job .m) (numbers (job .n + 1) (job .n - 2))
-      (λ v. length-map-numbers (line v) 1 (job .m))
-      ∙ ap (λ (count : ℕ). count * job .m) (length-numbers (job .n + 1) (job .n - 2))
-    where
-      line : ℕ → ℕ → List ℕ
-      line = rangeLine (job .n) (job .names) (builtOf .tree) (job .rows) (job .m)
-
--- two taxa: one `P`, one `W` and one `T` line, and no `H`
+-- two taxa: one `P`, one `W` and one `T` line, and no `H`, whatever the tree
 pub record OneOfEach (measure : Measure) (job : Job) : Type 0 where
   pub p : length (primLines measure job) ≡ 1
   pub w : length (wagnerLines measure job) ≡ 1
-  pub t : length (treeLines measure job) ≡ 1
-  pub h : htuLines measure job ≡ []
+  pub t : (tree : List ℕ) → length (treeLines measure job tree) ≡ 1
+  pub h : (tree : List ℕ) → htuLines measure job tree ≡ []
 
 -- a list of no entries
 no-lines : {A : Type 0} (xs : List A) → length xs ≡ 0 → xs ≡ []
@@ -149,6 +177,6 @@ pub two-taxa : (measure : Measure) (job : Job) → job .n ≡ 2 → OneOfEach me
 two-taxa measure job e = record {
   p = omega (arith, prim-count measure job);
   w = omega (arith, wagner-lines measure job);
-  t = omega (arith, tree-count measure job);
-  h = no-lines (htuLines measure job) (htu-count measure job ∙ ap (λ (n : ℕ). (n - 2) * job .m) e ∙ omega arith);
+  t = λ tree. omega (arith, tree-count measure job tree);
+  h = λ tree. no-lines (htuLines measure job tree) (htu-count measure job tree ∙ ap (λ (n : ℕ). (n - 2) * job .m) e ∙ omega arith);
 }

@@ -1,7 +1,7 @@
 -- The totals that are printed are the sums of what the lines of their blocks print.
 use mathlib.Core.Path.{_≡_, refl, sym}
 use mathlib.Core.Bool.{true}
-use mathlib.Core.List.{[]}
+use mathlib.Core.List.{List, []}
 use Prim.Native.Nat.{ℕ, _-_, _≤_}
 use native.Mathlib.Omega.{arith}
 use lib.Dec.{leb}
@@ -52,10 +52,10 @@ unfolding networkLength
 prim-total measure job = refl
 
 -- `t` is the sum of the lengths of the `T` lines
-pub tree-total : (measure : Measure) (job : Job)
-    → fittedTotal (measure .step) (builtOf measure job .tree) (job .rows) (job .n) (job .m)
-    ≡ sumOver (fittedLength (measure .step) (builtOf measure job .tree) (job .rows) (job .n) (job .m)) (otherNodes (job .n))
-tree-total measure job = sym (lengths-total (measure .step) (job .n) (job .m) (builtOf measure job .tree) (job .rows))
+pub tree-total : (measure : Measure) (job : Job) (tree : List ℕ)
+    → fittedTotal (measure .step) tree (job .rows) (job .n) (job .m)
+    ≡ sumOver (fittedLength (measure .step) tree (job .rows) (job .n) (job .m)) (otherNodes (job .n))
+tree-total measure job tree = sym (lengths-total (measure .step) (job .n) (job .m) tree (job .rows))
 
 module _ (job : Job) (within : JobWithinLimits job) where
   -- each row has m codes

@@ -4,9 +4,12 @@ use Prim.Native.Nat.{ℕ}
 use Rattle.matrix.specs.NodeRows.{rowOf}
 use Rattle.matrix.specs.Outcomes.{Outcome, value, refused}
 use Rattle.matrix_file.specs.Job.{Job}
+use Rattle.matrix_file.specs.declared.answer.Kind.{Kind}
+use Rattle.matrix_file.specs.declared.answer.Kind.the-variants.{Wagner, Own}
 use Rattle.matrix_file.specs.Reading.{readAnswer}
 use Rattle.difference.specs.Rows.{Measure, nodeDifference}
 use Rattle.prim.specs.Network.{network, networkLength}
+use Rattle.branching.specs.Ancestors.{treeWith}
 use Rattle.wagner.specs.Build.{Built, wagner, wagnerLength}
 use Rattle.fitting.specs.Fit.{fittedTotal}
 use Rattle.consistency.specs.Floor.{floor}
@@ -44,16 +47,21 @@ indexBlock measure job tree =
 unfoldable pub rangeBlock : Job → List ℕ → List (List ℕ)
 rangeBlock job tree = rangeLines (job .n) (job .names) tree (job .rows) (job .m)
 
--- the blocks that a job prints, as change is measured, in their order
-unfoldable pub blocks : Measure → Job → List (List (List ℕ))
-blocks measure job =
+-- the blocks of a fitted tree: its branches, its index and its ranges
+unfoldable pub treeBlocks : Measure → Job → List ℕ → List (List (List ℕ))
+treeBlocks measure job tree = fittedBlock measure job tree ∷ indexBlock measure job tree ∷ rangeBlock job tree ∷ []
+
+-- the blocks that a job of a kind prints, as change is measured, in their order: in a `W` file the Prim Network, the Wagner tree, and this
+-- tree fitted; in an `F` file its own branching fitted, and nothing else
+unfoldable pub blocksFor : Kind → Measure → Job → List (List (List ℕ))
+blocksFor Wagner measure job =
     let built = wagner (measure .rows) (orderMeant (job .order)) (job .n) (job .rows) in
-    primBlock measure job
-    ∷ wagnerBlock measure job built
-    ∷ fittedBlock measure job (built .tree)
-    ∷ indexBlock measure job (built .tree)
-    ∷ rangeBlock job (built .tree)
-    ∷ []
+    primBlock measure job ∷ wagnerBlock measure job built ∷ treeBlocks measure job (built .tree)
+blocksFor Own measure job = treeBlocks measure job (treeWith (job .ancestors))
+
+-- the blocks that a job prints
+unfoldable pub blocks : Measure → Job → List (List (List ℕ))
+blocks measure job = blocksFor (job .kind) measure job
 
 -- the listing of a job, line by line
 unfoldable pub listing : Measure → Job → List (List ℕ)

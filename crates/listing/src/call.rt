@@ -1,5 +1,6 @@
 // From a file's bytes to the bytes of its listing.
 use crate::job::put_job;
+use branching::numbers::LENT_NUMBERS;
 use lines::lines::put_refusal_line;
 use matrix::COLUMNS;
 use matrix::LIGHTEST;
@@ -13,6 +14,7 @@ ghost use mathlib.Core.Path.{_≡_};
 ghost use lib.ListN.{length, replicate};
 ghost use Rattle.matrix.specs.Shape.{matrixSize, columns};
 ghost use Rattle.matrix_file.specs.Written.{namesSize};
+ghost use Rattle.branching.specs.LentNumbers.{lentNumbers};
 ghost use Rattle.lines.specs.Put.{Put};
 ghost use Rattle.listing.specs.Listing.{output};
 ghost use Rattle.listing.specs.Found.{StateLists};
@@ -35,18 +37,30 @@ fn put_file(
     matrix: &mut [i32],
     weights: &mut [u8],
     names: &mut [u8],
+    branches: &mut [usize],
     low: &mut [i32],
     high: &mut [i32],
     chosen: &mut [i32],
 ) -> usize
-    requires { ⌜ (length (now matrix) ≡ matrixSize) × (now weights ≡ replicate columns 1) × (length (now names) ≡ namesSize) ⌝ }
+    requires { ⌜ (length (now matrix) ≡ matrixSize) × (now weights ≡ replicate columns 1) × (length (now names) ≡ namesSize)
+        × (length (now branches) ≡ lentNumbers) ⌝ }
     requires { ⌜ StateLists (now low) (now high) (now chosen) ⌝ }
     ensures { λ r. ⌜ Put (output (now (file .entry))) (now (out .entry)) 0 (now (out .exit)) r ⌝ }
 {
-    match read(file, matrix, weights, names) {
+    match read(file, matrix, weights, names, branches) {
         Read::Refused { refusal, line } => put_refusal_line(out, 0, number(refusal), line),
         Read::Accepted(header) => {
-            put_job(out, header, names, matrix, weights, low, high, chosen)
+            put_job(
+                out,
+                header,
+                names,
+                matrix,
+                weights,
+                branches,
+                low,
+                high,
+                chosen,
+            )
         }
     }
 }
@@ -61,6 +75,7 @@ pub fn list(file: &[u8], out: &mut [u8]) -> Listed
     let mut matrix = [0i32; ROWS * COLUMNS];
     let mut weights = [LIGHTEST; COLUMNS];
     let mut names = [0u8; NAMES_SIZE];
+    let mut branches = [0usize; LENT_NUMBERS];
     let mut low = [0i32; ROWS * COLUMNS];
     let mut high = [0i32; ROWS * COLUMNS];
     let mut chosen = [0i32; ROWS * COLUMNS];
@@ -70,6 +85,7 @@ pub fn list(file: &[u8], out: &mut [u8]) -> Listed
         &mut matrix,
         &mut weights,
         &mut names,
+        &mut branches,
         &mut low,
         &mut high,
         &mut chosen,

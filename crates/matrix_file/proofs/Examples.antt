@@ -1,5 +1,5 @@
--- Document 01's example file and its further edges, read; the words for the order; the `V` line; one refusal of each number 1 to 11, of 15
--- and of 16 with its line; and reads into lent lists.
+-- Document 01's example file and its further edges, read; the words for the order; the `V` line; files with a branching of their own; one
+-- refusal of each number 1 to 11 and 14 to 17 with its line; and reads into lent lists.
 use mathlib.Core.Path.{_≡_, refl}
 use mathlib.Core.Bool.{Bool, true, false}
 use mathlib.Core.List.{List, [], _∷_, _++_, map, zipWith}
@@ -7,9 +7,14 @@ use Prim.Native.Nat.{ℕ}
 use Prim.Native.String.{String}
 use lib.IntN.{ℤ, pos, negsuc}
 use lib.ListN.{replicate}
-use Rattle.matrix.specs.Shape.{inRange}
+use Rattle.matrix.specs.Shape.{inRange, lastNode}
 use Rattle.matrix.specs.Questions.{oneTo, withinLimits}
 use Rattle.lists.specs.Numbers.{numbers}
+use Rattle.lists.specs.Filters.{keep}
+use Rattle.branching.specs.Ancestors.{ancestor, descendants}
+use Rattle.branching.specs.Nodes.{hasAncestor, inTree, nodesIn, otherNodes, taxaPlaced}
+use Rattle.branching.specs.Growing.{descendantCount, descendantsWanted, climbs, rowOneAlone, nodesOnly, htusIn, ancestorsIn, descendantsRight}
+use Rattle.branching.specs.Growing.{allClimb, grown, growingTree, branching}
 use Rattle.matrix.specs.Outcomes.{Outcome, value, refused}
 use Rattle.lists.specs.Tests.{every, sameNumbers as sameText}
 use Rattle.matrix_file.specs.Bytes.{wordAdvance, wordClosest, isDigit, isLetter, partsAt, joinedBy}
@@ -18,27 +23,31 @@ use Rattle.matrix_file.specs.Job.{Job, inName, nameForm, differsFromAll,
 use Rattle.matrix_file.specs.Lines.{linesOf, fieldsOf}
 use Rattle.matrix_file.specs.Optional.{optionalThere, optionalFields, askOptional, optionalLine}
 use Rattle.matrix_file.specs.Weights.{weightForm, weightIn, weightsForm, weightsSaid}
-use Rattle.matrix_file.specs.Header.{orderIn, headerIn, firstForm, firstLineForm, isOrder, orderKnown}
+use Rattle.matrix_file.specs.Header.{isKind, kindSaid, orderIn, headerIn, firstForm, firstLineForm, isOrder, orderKnown}
 use Rattle.matrix_file.specs.Header.{askFirstLine, askWeights, askHeader}
 use Rattle.matrix_file.specs.Rows.{nameIn, codesIn, askCodes, askRow, askRows}
-use Rattle.matrix_file.specs.Reading.{jobOf, nothingMore, askEnd, askBehind, askFile, askLength, readAnswer}
-use Rattle.matrix_file.specs.Report.{readSays, withHeader, fullSize, readOutcome}
+use Rattle.matrix_file.specs.Branches.{branchForm, ancestorIn, branchText, branchTexts, askBranches}
+use Rattle.matrix_file.specs.Reading.{jobOf, nothingMore, askEnd, askAfter, askBehind, askFile, askLength, readAnswer}
+use Rattle.matrix_file.specs.Report.{readSays, withHeader, fullSize, askSize, readOutcome}
 use Rattle.matrix_file.specs.declared.answer.Header.{Header}
+use Rattle.matrix_file.specs.declared.answer.Kind.the-variants.{Wagner, Own}
 use Rattle.matrix_file.specs.declared.answer.OrderWord.{OrderWord}
 use Rattle.matrix_file.specs.declared.answer.OrderWord.the-variants.{Unsaid, Advance, Closest}
 use Rattle.matrix_file.specs.declared.answer.Read.the-variants.{Accepted, Refused}
 use Rattle.matrix.specs.declared.refusal.Refusal.the-variants.{NameTaken}
 use Rattle.matrix_file.specs.Text.{bytes}
-use Rattle.matrix_file.specs.Written.{padded, matrixWritten, weightsWritten, namesWritten}
+use Rattle.matrix_file.specs.Written.{padded, matrixWritten, weightsWritten, namesWritten, lent}
 use Rattle.lists.specs.Over.{over, stripes}
 use Rattle.lists.specs.Filled.{filled}
 
 -- a file of these bytes, read
 read : List ℕ → Outcome Job
-unfolding inRange withinLimits oneTo every isDigit isLetter sameText partsAt digitsIn digitsOf noLeadingZero numberForm numberFrom
+unfolding inRange lastNode withinLimits oneTo every isDigit isLetter sameText partsAt digitsIn digitsOf noLeadingZero numberForm numberFrom
     numberOf codeForm codeOf inName nameForm differsFromAll linesOf fieldsOf orderIn headerIn nameIn codesIn jobOf firstForm firstLineForm
     isOrder orderKnown askFirstLine optionalThere optionalFields askOptional weightForm weightIn weightsForm weightsSaid askWeights
-    askHeader askCodes askRow askRows nothingMore askEnd askBehind askFile askLength readAnswer
+    askHeader askCodes askRow askRows isKind kindSaid branchForm ancestorIn askBranches ancestor hasAncestor inTree nodesIn otherNodes keep
+    numbers taxaPlaced descendants descendantCount descendantsWanted climbs rowOneAlone nodesOnly htusIn ancestorsIn descendantsRight allClimb
+    grown growingTree branching nothingMore askEnd askAfter askBehind askFile askLength readAnswer
 read file = readAnswer file
 
 -- a file of this text, read
@@ -50,6 +59,7 @@ readText text = read (bytes text)
 exampleJob : OrderWord → Bool → List ℕ → Job
 exampleJob order weighed weights =
     record {
+      kind = Wagner;
       n = 4;
       m = 3;
       order = order;
@@ -58,6 +68,7 @@ exampleJob order weighed weights =
       names = (65 ∷ []) ∷ (66 ∷ []) ∷ (67 ∷ []) ∷ (68 ∷ []) ∷ [];
       rows = (pos 0 ∷ pos 0 ∷ pos 0 ∷ []) ∷ (pos 2 ∷ pos 1 ∷ pos 0 ∷ []) ∷ (pos 2 ∷ pos 3 ∷ pos 1 ∷ [])
           ∷ (negsuc 0 ∷ pos 1 ∷ pos 2 ∷ []) ∷ [];
+      ancestors = [];
     }
 
 -- its rows behind these first lines, read
@@ -99,7 +110,17 @@ words = (refl, refl)
 one-taxon : List ℕ → ℤ → Bool → ℕ → Outcome Job
 one-taxon name code weighed weight =
     value
-    (record { n = 1; m = 1; order = Unsaid; weighed = weighed; weights = weight ∷ []; names = name ∷ []; rows = (code ∷ []) ∷ [] })
+    (record {
+      kind = Wagner;
+      n = 1;
+      m = 1;
+      order = Unsaid;
+      weighed = weighed;
+      weights = weight ∷ [];
+      names = name ∷ [];
+      rows = (code ∷ []) ∷ [];
+      ancestors = [];
+    })
 
 -- one taxon `A` with one code
 one-code : ℤ → Outcome Job
@@ -198,6 +219,95 @@ counted =
     ∷ ("W\t1\t1\nV\t1\nA\t0\n\n", refused 11 4)
     ∷ []
 
+-- two characters of three taxa `A`, `B` and `C`, with the branching in which `C` is nearest to row 1
+ownJob : Job
+ownJob =
+    record {
+      kind = Own;
+      n = 3;
+      m = 1;
+      order = Unsaid;
+      weighed = false;
+      weights = 1 ∷ [];
+      names = (65 ∷ []) ∷ (66 ∷ []) ∷ (67 ∷ []) ∷ [];
+      rows = (pos 0 ∷ []) ∷ (pos 2 ∷ []) ∷ (pos 5 ∷ []) ∷ [];
+      ancestors = 4 ∷ 4 ∷ 1 ∷ [];
+    }
+
+-- one taxon in an `F` file, of this weight, written in a `V` line or not: it has no `C` line
+own-taxon : Bool → ℕ → Outcome Job
+own-taxon weighed weight =
+    value
+    (record {
+      kind = Own;
+      n = 1;
+      m = 1;
+      order = Unsaid;
+      weighed = weighed;
+      weights = weight ∷ [];
+      names = (65 ∷ []) ∷ [];
+      rows = (pos 0 ∷ []) ∷ [];
+      ancestors = [];
+    })
+
+-- an `F` file of these taxa with these lines behind its rows, read
+readOwn : String → Outcome Job
+unfolding read bytes
+readOwn behind = read (bytes "F\t3\t1\nA\t0\nB\t2\nC\t5\n" ++ bytes behind)
+
+-- it is read with its branching, and is the file of the job
+own-read : (readOwn "C\t2\t4\nC\t3\t4\nC\t4\t1\n" ≡ value ownJob) × (read (fileOf ownJob) ≡ value ownJob)
+unfolding readOwn read ownJob joinedBy decimal zipWith numbers firstText optionalLine rowText branchText branchTexts ended fileOf
+own-read = (refl, refl)
+
+-- its `C` lines: one is missing, has no line feed, another number of fields, another letter, a number of a wrong form (a leading zero, seven
+-- digits, a sign, none, a carriage return), or is not its node's turn, which is 17 with its line; then 11 with the line behind the last;
+-- then 14 with line 0: an ancestor is 0, too large or the node itself, or there is a ring, or a node has too many descendants
+ownLines : List (String × Outcome Job)
+ownLines =
+    ("", refused 17 5)
+    ∷ ("C\t2\t4\nC\t3\t4\n", refused 17 7)
+    ∷ ("C\t2\t4\nC\t3\t4\nC\t4\t1", refused 17 7)
+    ∷ ("C\t2\nC\t3\t4\nC\t4\t1\n", refused 17 5)
+    ∷ ("C\t2\t4\t\nC\t3\t4\nC\t4\t1\n", refused 17 5)
+    ∷ ("c\t2\t4\nC\t3\t4\nC\t4\t1\n", refused 17 5)
+    ∷ ("C\t2\t04\nC\t3\t4\nC\t4\t1\n", refused 17 5)
+    ∷ ("C\t02\t4\nC\t3\t4\nC\t4\t1\n", refused 17 5)
+    ∷ ("C\t2\t1000000\nC\t3\t4\nC\t4\t1\n", refused 17 5)
+    ∷ ("C\t2\t-4\nC\t3\t4\nC\t4\t1\n", refused 17 5)
+    ∷ ("C\t2\t\nC\t3\t4\nC\t4\t1\n", refused 17 5)
+    ∷ ("C\t2\t4\r\nC\t3\t4\nC\t4\t1\n", refused 17 5)
+    ∷ ("C\t2\t4\nC\t4\t1\nC\t3\t4\n", refused 17 6)
+    ∷ ("C\t2\t4\nC\t3\t4\nC\t5\t1\n", refused 17 7)
+    ∷ ("C\t2\t4\nC\t3\t4\nC\t4\t1\nC\t5\t1\n", refused 11 8)
+    ∷ ("C\t2\t4\nC\t3\t4\nC\t4\t0\nD", refused 11 8)
+    ∷ ("C\t2\t4\nC\t3\t4\nC\t4\t0\n", refused 14 0)
+    ∷ ("C\t2\t4\nC\t3\t4\nC\t4\t999999\n", refused 14 0)
+    ∷ ("C\t2\t4\nC\t3\t4\nC\t4\t4\n", refused 14 0)
+    ∷ ("C\t2\t4\nC\t3\t4\nC\t4\t2\n", refused 14 0)
+    ∷ ("C\t2\t1\nC\t3\t4\nC\t4\t1\n", refused 14 0)
+    ∷ []
+
+-- files that begin with `F`: three fields, and a fourth is 3 even if it is a word for the order; one taxon has no `C` line; a `V` line is
+-- allowed, and counted; two taxa have one; a `W` file has none
+ownFiles : List (String × Outcome Job)
+ownFiles =
+    ("F\t1\t1\nA\t0\n", own-taxon false 1)
+    ∷ ("F\t1\t1\nV\t9\nA\t0\n", own-taxon true 9)
+    ∷ ("F\t1\t1\tadvance\nA\t0\n", refused 3 1)
+    ∷ ("F\t1\t1\tnot\nA\t0\n", refused 3 1)
+    ∷ ("F\t1\nA\t0\n", refused 3 1)
+    ∷ ("f\t1\t1\nA\t0\n", refused 3 1)
+    ∷ ("FW\t1\t1\nA\t0\n", refused 3 1)
+    ∷ ("F\t0\t1\n", refused 4 1)
+    ∷ ("F\t1\t1\nV\t0\nA\t0\n", refused 16 2)
+    ∷ ("F\t1\t1\nA\t0\nC\t2\t1\n", refused 11 3)
+    ∷ ("F\t2\t1\nA\t0\nB\t1\nC\t2\t2\n", refused 14 0)
+    ∷ ("F\t2\t1\nV\t1\nA\t0\nB\t1\nC\t3\t1\n", refused 17 5)
+    ∷ ("F\t2\t1\nA\t0\nB\tx\nC\t2\t2\n", refused 9 3)
+    ∷ ("W\t2\t1\nA\t0\nB\t1\nC\t2\t1\n", refused 11 4)
+    ∷ []
+
 -- each file of a table is read as the table says
 AsSaid : List (String × Outcome Job) → Type 0
 AsSaid table = map (λ row. readText (row .0)) table ≡ map (λ row. row .1) table
@@ -227,6 +337,16 @@ counted-read : AsSaid counted
 unfolding AsSaid readText counted
 counted-read = refl
 
+-- and so are the `C` lines
+own-lines-read : map (λ row. readOwn (row .0)) ownLines ≡ map (λ row. row .1) ownLines
+unfolding readOwn ownLines
+own-lines-read = refl
+
+-- and so are the files that begin with `F`
+own-files-read : AsSaid ownFiles
+unfolding AsSaid readText ownFiles own-taxon
+own-files-read = refl
+
 -- refusal 1
 too-long : read (replicate 45001 65) ≡ refused 1 0
 unfolding read
@@ -237,6 +357,7 @@ alike : ℕ → Job
 unfolding digitsIn digitsOf numbers
 alike n =
     record {
+      kind = Wagner;
       n = n;
       m = 1;
       order = Unsaid;
@@ -244,16 +365,17 @@ alike n =
       weights = 1 ∷ [];
       names = map (λ k. 116 ∷ digitsOf k) (numbers 1 n);
       rows = replicate n (pos 0 ∷ []);
+      ancestors = [];
     }
 
 -- 64 taxa pass
 sixty-four-taxa : read (fileOf (alike 64)) ≡ value (alike 64)
-unfolding read alike joinedBy decimal zipWith firstText optionalLine rowText ended fileOf
+unfolding read alike joinedBy decimal zipWith numbers firstText optionalLine rowText branchTexts ended fileOf
 sixty-four-taxa = refl
 
 -- 65 are 4
 sixty-five-taxa : read (fileOf (alike 65)) ≡ refused 4 1
-unfolding read alike joinedBy decimal zipWith firstText optionalLine rowText ended fileOf
+unfolding read alike joinedBy decimal zipWith numbers firstText optionalLine rowText branchTexts ended fileOf
 sixty-five-taxa = refl
 
 -- a long number is written at once
@@ -285,34 +407,36 @@ three-weights = refl
 
 -- what an answer says: a header, and a refusal with its line
 accepted-says :
-    readSays (Accepted (record { n = 4; m = 3; order = Closest; weighed = true }))
-    ≡ value (record { n = 4; m = 3; order = Closest; weighed = true })
+    readSays (Accepted (record { kind = Wagner; n = 4; m = 3; order = Closest; weighed = true }))
+    ≡ value (record { kind = Wagner; n = 4; m = 3; order = Closest; weighed = true })
 accepted-says = refl
 
 -- a refusal: its number and its line
 refused-says : readSays (Refused NameTaken 4) ≡ refused 7 4
 refused-says = refl
 
--- a file read into a matrix of so many codes and lists of so many weights and bytes of names
-readInto : List ℕ → ℕ → ℕ → ℕ → Outcome Header
-unfolding read readOutcome fullSize
-readInto file codes weights names = withHeader (readOutcome file (replicate codes (pos 0)) (replicate weights 0) (replicate names 0))
+-- a file read into a matrix of so many codes and lists of so many weights, bytes of names and numbers of records
+readInto : List ℕ → ℕ → ℕ → ℕ → ℕ → Outcome Header
+unfolding read readOutcome askSize fullSize
+readInto file codes weights names branches =
+    withHeader (readOutcome file (lent (replicate codes (pos 0)) (replicate weights 0) (replicate names 0) (replicate branches 0)))
 
 -- lists of full size: the file decides
-full-size : readInto (bytes "W\t1\t2\nV\t2\t3\nA\t0\t1\n") 16128 128 1024
-    ≡ value (record { n = 1; m = 2; order = Unsaid; weighed = true })
+full-size : readInto (bytes "W\t1\t2\nV\t2\t3\nA\t0\t1\n") 16128 128 1024 375
+    ≡ value (record { kind = Wagner; n = 1; m = 2; order = Unsaid; weighed = true })
 unfolding readInto bytes
 full-size = refl
 
 -- and refuses
-full-size-refused : readInto (bytes "W\t1\t2\nA\t0\n") 16128 128 1024 ≡ refused 8 2
+full-size-refused : readInto (bytes "W\t1\t2\nA\t0\n") 16128 128 1024 375 ≡ refused 8 2
 unfolding readInto bytes
 full-size-refused = refl
 
--- a list that is one too short or too long, the matrix, the weights or the names: 12 with line 0, whatever the file holds
+-- a list that is one too short or too long, the matrix, the weights, the names or the records: 12 with line 0, whatever the file holds
 wrong-sizes : (file : List ℕ)
-    → map (λ (sizes : ℕ × ℕ × ℕ). readInto file (sizes .0) (sizes .1) (sizes .2))
-    ((16127, 128, 1024) ∷ (16129, 128, 1024) ∷ (16128, 127, 1024) ∷ (16128, 129, 1024) ∷ (16128, 128, 1023) ∷ (16128, 128, 1025) ∷ [])
-    ≡ replicate 6 (refused 12 0)
+    → map (λ (sizes : ℕ × ℕ × ℕ × ℕ). readInto file (sizes .0) (sizes .1) (sizes .2) (sizes .3))
+    ((16127, 128, 1024, 375) ∷ (16129, 128, 1024, 375) ∷ (16128, 127, 1024, 375) ∷ (16128, 129, 1024, 375) ∷ (16128, 128, 1023, 375)
+    ∷ (16128, 128, 1025, 375) ∷ (16128, 128, 1024, 374) ∷ (16128, 128, 1024, 376) ∷ [])
+    ≡ replicate 8 (refused 12 0)
 unfolding readInto
 wrong-sizes file = refl

@@ -3,6 +3,7 @@
 pub mod Text
 pub mod Decimal
 pub mod Rows
+pub mod BranchLines
 pub mod File
 pub mod Lists
 pub mod Examples

@@ -1,5 +1,6 @@
 -- The lent lists: what a walk over the lines writes, and what the lists then hold.
 pub mod LinesWalk
+pub mod LinesEnd
 pub mod WrittenLines
 pub mod ReadLists
 pub mod ReadWalk

@@ -25,6 +25,14 @@ underscore = 95
 abbrev pub wordW : List ℕ
 wordW = 87 ∷ []
 
+-- the word `F`
+abbrev pub wordF : List ℕ
+wordF = 70 ∷ []
+
+-- the word `C`
+abbrev pub wordC : List ℕ
+wordC = 67 ∷ []
+
 -- the word `advance`
 abbrev pub wordAdvance : List ℕ
 wordAdvance = 97 ∷ 100 ∷ 118 ∷ 97 ∷ 110 ∷ 99 ∷ 101 ∷ []

@@ -12,14 +12,29 @@ use Rattle.matrix.specs.declared.refusal.Refusal.the-variants.{FirstLine, Unkno
 use Rattle.matrix.specs.declared.refusal.Asked.{Asked}
 use Rattle.matrix.specs.declared.refusal.Asked.the-variants.{Passed}
 use Rattle.matrix_file.specs.declared.answer.Header.{Header}
+use Rattle.matrix_file.specs.declared.answer.Kind.{Kind}
+use Rattle.matrix_file.specs.declared.answer.Kind.the-variants.{Wagner, Own}
 use Rattle.matrix_file.specs.declared.answer.OrderWord.{OrderWord}
 use Rattle.matrix_file.specs.declared.answer.OrderWord.the-variants.{Unsaid, Advance, Closest}
-use Rattle.matrix_file.specs.Bytes.{wordW, wordAdvance, wordClosest}
+use Rattle.matrix_file.specs.Bytes.{wordW, wordF, wordAdvance, wordClosest}
 use Rattle.matrix_file.specs.Decimal.{numberForm, numberOf}
 use Rattle.matrix_file.specs.Job.{Job}
 use Rattle.matrix_file.specs.Optional.{optionalThere, optionalFields, askOptional, linesTaken}
 use Rattle.matrix_file.specs.Weights.{letterV, weightsForm}
 use Rattle.matrix_file.specs.Lines.{fieldsOf}
+
+-- one of the two words with which line 1 begins
+unfoldable pub isKind : List ℕ → Bool
+isKind word = sameText word wordW || sameText word wordF
+
+-- the kind that such a word says
+unfoldable pub kindSaid : List ℕ → Kind
+kindSaid word = cond (sameText word wordF) Own Wagner
+
+-- how many fields line 1 of a kind has at most: a word for the order stands in a `W` file alone
+abbrev pub mostFields : Kind → ℕ
+mostFields Wagner = 4
+mostFields Own = 3
 
 -- the word that a field for the order says, if there is one
 abbrev pub orderSaid : List (List ℕ) → OrderWord
@@ -30,11 +45,12 @@ orderSaid (word ∷ fields) = cond (sameText word wordAdvance) Advance (cond (sa
 unfoldable pub orderIn : List (List ℕ) → OrderWord
 orderIn fields = orderSaid (drop 3 fields)
 
--- what the fields of line 1 say: n is the second, m the third, and a fourth is the word for the order; and whether the lines behind it
--- begin with a `V` line
+-- what the fields of line 1 say: the first is the word of the kind, n is the second, m the third, and a fourth is the word for the order;
+-- and whether the lines behind it begin with a `V` line
 abbrev pub headerFrom : List (List ℕ) → List (List ℕ) → Header
 headerFrom fields behind =
     record {
+      kind = kindSaid (getD fields 0 []);
       n = numberOf (getD fields 1 []);
       m = numberOf (getD fields 2 []);
       order = orderIn fields;
@@ -51,7 +67,7 @@ headerIn lines = headerFrom (firstFields lines) (drop 1 lines)
 
 -- the header of a job
 abbrev pub headerOf : Job → Header
-headerOf job = record { n = job .n; m = job .m; order = job .order; weighed = job .weighed }
+headerOf job = record { kind = job .kind; n = job .n; m = job .m; order = job .order; weighed = job .weighed }
 
 -- how many lines a header takes: line 1, and the `V` line if there is one
 abbrev pub headerLines : Header → ℕ
@@ -65,11 +81,11 @@ rowLine header k = headerLines header + k
 abbrev pub behindHeader : Header → List (List ℕ) → List (List ℕ)
 behindHeader header lines = drop (headerLines header) lines
 
--- three or four fields, of which the first is `W` and the next two are numbers
+-- three fields, and in a `W` file perhaps a fourth: the first is `W` or `F` and the next two are numbers
 unfoldable pub firstForm : List (List ℕ) → Bool
 firstForm fields =
-    (leb 3 (length fields) && leb (length fields) 4)
-    && (sameText (getD fields 0 []) wordW && (numberForm (getD fields 1 []) && numberForm (getD fields 2 [])))
+    (leb 3 (length fields) && leb (length fields) (mostFields (kindSaid (getD fields 0 []))))
+    && (isKind (getD fields 0 []) && (numberForm (getD fields 1 []) && numberForm (getD fields 2 [])))
 
 -- line 1 is ended by a line feed and has the right form
 unfoldable pub firstLineForm : List (List ℕ) → Bool

@@ -4,6 +4,7 @@ pub mod Decimal
 pub mod Lines
 pub mod Optional
 pub mod Weights
+pub mod Branches
 pub mod Job
 pub mod Header
 pub mod Rows

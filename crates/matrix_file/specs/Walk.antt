@@ -1,9 +1,9 @@
--- No public contract cites this file. What a walk over the rows of a file knows and answers: the names that it has passed, that rows are
--- well formed, and where the rows end.
+-- No public contract cites this file. What a walk over the rows or the `C` lines of a file knows and answers: the names that it has
+-- passed, that lines are well formed, and where they end.
 use mathlib.Core.Path.{_≡_}
-use mathlib.Core.List.{List, [], _∷_}
+use mathlib.Core.List.{List, [], _∷_, map}
 use mathlib.Core.Bool.{Bool, true, _&&_}
-use Prim.Native.Nat.{ℕ, zero, suc, _<_}
+use Prim.Native.Nat.{ℕ, zero, suc, _+_, _<_}
 use lib.Dec.{leb}
 use lib.ListN.{length, getD, take, drop}
 use Rattle.lists.specs.Tests.{every}
@@ -11,18 +11,23 @@ use Rattle.matrix.specs.Outcomes.{Outcome, refused}
 use Rattle.matrix.specs.Refusals.{refusalNumber}
 use Rattle.matrix.specs.declared.refusal.Asked.{Asked}
 use Rattle.matrix.specs.declared.refusal.Asked.the-variants as Asked
+use Rattle.branching.specs.LentNumbers.{recordNumbers}
 use Rattle.matrix_file.specs.declared.answer.Header.{Header}
 use Rattle.matrix_file.specs.declared.answer.Read.{Read}
 use Rattle.matrix_file.specs.declared.answer.Read.the-variants as Read
-use Rattle.matrix_file.specs.declared.answer.RowsAnswer.{RowsAnswer}
-use Rattle.matrix_file.specs.declared.answer.RowsAnswer.the-variants.{Ended, Refused}
+use Rattle.matrix_file.specs.declared.answer.LinesAnswer.{LinesAnswer}
+use Rattle.matrix_file.specs.declared.answer.LinesAnswer.the-variants.{Ended, Refused}
 use Rattle.matrix_file.specs.declared.bytes.Alphabet.{Alphabet}
 use Rattle.matrix_file.specs.declared.bytes.Alphabet.the-variants.{Digits, Name}
 use Rattle.matrix_file.specs.Bytes.{tab, isDigit, firstPart}
-use Rattle.matrix_file.specs.Decimal.{codeForm}
+use Rattle.matrix_file.specs.Decimal.{numberOf, codeForm}
 use Rattle.matrix_file.specs.Job.{Job, inName, nameForm}
 use Rattle.matrix_file.specs.Lines.{linesOf, fieldsOf}
 use Rattle.matrix_file.specs.Rows.{nameIn, askRows}
+use Rattle.matrix_file.specs.Branches.{branchCount, branchForm, ancestorIn, askBranches}
+use Rattle.matrix_file.specs.Header.{headerOf}
+use Rattle.matrix_file.specs.Reading.{askAfter}
+use Rattle.matrix_file.specs.Report.{readSays, withHeader}
 use Rattle.matrix_file.specs.Written.{padded}
 
 -- a byte is one of an alphabet
@@ -55,12 +60,42 @@ abbrev pub headerOn : ℕ → Asked → Header → Read
 headerOn line Asked.Passed header = Read.Accepted header
 headerOn line (Asked.Refused refusal) header = Read.Refused refusal line
 
--- what the rows of a text bring, as a walk answers: what follows them, with the number of the next line and the lines left, or the refusal
-abbrev pub rowsSay : List ℕ → RowsAnswer → (ℕ → List (List ℕ) → Outcome Job) → Outcome Job
-rowsSay rows (Ended at line) follow = follow line (linesOf (drop at rows))
-rowsSay rows (Refused refusal line) follow = refused (refusalNumber refusal) line
+-- what lines of a text bring, as a walk answers: what follows them, with the number of the next line and the lines left, or the refusal
+abbrev pub linesSay : List ℕ → LinesAnswer → (ℕ → List (List ℕ) → Outcome Job) → Outcome Job
+linesSay text (Ended at line) follow = follow line (linesOf (drop at text))
+linesSay text (Refused refusal line) follow = refused (refusalNumber refusal) line
 
--- a walk over the rows answers their questions, whatever follows them
-pub record RowsAsked (rows : List ℕ) (header : Header) (first : ℕ) (r : RowsAnswer) : Type 0 where
+-- the line behind the rows has at most this number: line 1, the `V` line and 64 rows stand in front of it
+abbrev pub behindRowsMost : ℕ
+behindRowsMost = 67
+
+-- a walk over `count` lines of a text, the first of them in line `first` of the file, ends at a place and in front of a line
+pub record LinesPassed (text : List ℕ) (count first at line : ℕ) : Type 0 where
+  pub next : line ≡ first + count
+  pub rest : linesOf (drop at text) ≡ drop count (linesOf text)
+
+-- a walk over the rows answers their questions, whatever follows them, and ends behind them
+pub record RowsAsked (rows : List ℕ) (header : Header) (first : ℕ) (r : LinesAnswer) : Type 0 where
   pub says :
-      (follow : ℕ → List (List ℕ) → Outcome Job) → rowsSay rows r follow ≡ askRows header [] first (header .n) (linesOf rows) follow
+      (follow : ℕ → List (List ℕ) → Outcome Job) → linesSay rows r follow ≡ askRows header [] first (header .n) (linesOf rows) follow
+  pub ends : (at line : ℕ) → r ≡ Ended at line → LinesPassed rows (header .n) first at line
+
+-- a text has so many lines ended by a line feed, each the `C` line of its node
+pub record BranchesFormed (count : ℕ) (text : List ℕ) : Type 0 where
+  pub more : count < length (linesOf text)
+  pub formed : (k : ℕ) → k < count → branchForm (k + 2) (fieldsOf (getD (linesOf text) k [])) ≡ true
+
+-- a walk over `C` lines answers their questions, whatever follows them, and ends behind them
+pub record BranchesAsked (text : List ℕ) (count first : ℕ) (r : LinesAnswer) : Type 0 where
+  pub says : (follow : ℕ → List (List ℕ) → Outcome Job) → linesSay text r follow ≡ askBranches first 2 count (linesOf text) follow
+  pub ends : (at line : ℕ) → r ≡ Ended at line → LinesPassed text count first at line × BranchesFormed count text
+
+-- the record that a `C` line says
+abbrev pub recordIn : List ℕ → List ℕ
+recordIn line = recordNumbers (numberOf (getD (fieldsOf line) 1 [])) (ancestorIn line)
+
+-- what stands behind the rows was asked: an answer says what it brings, of a job with this header and the branching that its lines say
+pub record RestAsked (rest : List ℕ) (line : ℕ) (header : Header) (r : Read) : Type 0 where
+  pub says : (job : Job) → headerOf job ≡ header
+      → job .ancestors ≡ map ancestorIn (take (branchCount (header .kind) (header .n)) (linesOf rest))
+      → readSays r ≡ withHeader (askAfter job line (linesOf rest))

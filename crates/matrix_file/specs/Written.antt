@@ -5,7 +5,8 @@ use lib.IntN.{ℤ}
 use Rattle.lists.specs.Filled.{filled}
 use Rattle.lists.specs.Over.{over, stripes}
 use Rattle.matrix.specs.Shape.{columns}
-use Rattle.matrix_file.specs.Job.{nameSize}
+use Rattle.branching.specs.LentNumbers.{recordsWritten}
+use Rattle.matrix_file.specs.Job.{Job, nameSize}
 
 -- the lent list of names: 64 names of 16 bytes each
 abbrev pub namesSize : ℕ
@@ -26,3 +27,21 @@ weightsWritten weights old = over 0 weights old
 -- the lent list with names written over it, that of row 1 first: each padded, and behind them all as before
 abbrev pub namesWritten : List (List ℕ) → List ℕ → List ℕ
 namesWritten names old = stripes nameSize 0 (map padded names) old
+
+-- what the lent lists of a read hold: the codes of a matrix, weights, names, and the numbers of branch records
+pub record LentLists : Type 0 where
+  pub matrix : List ℤ
+  pub weights : List ℕ
+  pub names : List ℕ
+  pub branches : List ℕ
+
+-- four lists, lent together
+abbrev pub lent : List ℤ → List ℕ → List ℕ → List ℕ → LentLists
+lent matrix weights names branches = record { matrix = matrix; weights = weights; names = names; branches = branches }
+
+-- the lent lists with a job written over them: its rows, its weights, its names, and the records of its branching, of which a `W` file has
+-- none; all else is as before
+abbrev pub jobWritten : Job → LentLists → LentLists
+jobWritten job old =
+    lent (matrixWritten (job .rows) (old .matrix)) (weightsWritten (job .weights) (old .weights)) (namesWritten (job .names) (old .names))
+    (recordsWritten (job .ancestors) (old .branches))

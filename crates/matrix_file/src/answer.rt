@@ -4,6 +4,12 @@ use matrix::refusal::Refusal;
 ghost use mathlib.Core.Path.{_≡_};
 ghost use Rattle.matrix_file.specs.Walk.{headerOn};
 
+// The kind of a file: `W`, whose Wagner tree is built, or `F`, which brings a branching of its own.
+pub enum Kind {
+    Wagner,
+    Own,
+}
+
 // The word that line 1 carries for the order of placing.
 pub enum OrderWord {
     Unsaid,
@@ -11,8 +17,10 @@ pub enum OrderWord {
     Closest,
 }
 
-// What the header of a file says: the numbers of taxa and characters, the word for the order of placing, and whether there is a `V` line.
+// What the header of a file says: its kind, the numbers of taxa and characters, the word for the order of placing, and whether there is a
+// `V` line.
 pub struct Header {
+    pub kind: Kind,
     pub n: usize,
     pub m: usize,
     pub order: OrderWord,
@@ -25,8 +33,8 @@ pub enum Read {
     Refused { refusal: Refusal, line: usize },
 }
 
-// Where the rows end and the number of the line behind them, or why they are refused and at which line.
-pub(crate) enum RowsAnswer {
+// Where some lines end and the number of the line behind them, or why they are refused and at which line.
+pub(crate) enum LinesAnswer {
     Ended { at: usize, line: usize },
     Refused { refusal: Refusal, line: usize },
 }

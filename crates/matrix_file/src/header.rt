@@ -1,5 +1,6 @@
 // The header of a file: line 1, and the `V` line.
 use crate::answer::Header;
+use crate::answer::Kind;
 use crate::answer::OrderWord;
 use crate::answer::Read;
 use crate::answer::on_line;
@@ -21,8 +22,9 @@ use matrix::questions::within_limits;
 use matrix::refusal::Refusal;
 ghost use mathlib.Core.Path.{_≡_};
 ghost use mathlib.Core.Bool.{true};
+ghost use Prim.Native.Nat.{_+_};
 ghost use Rattle.matrix_file.specs.Lines.{linesOf, fieldsOf};
-ghost use Rattle.matrix_file.specs.Header.{firstForm, orderKnown, orderIn, headerFrom, headerLines, askHeader};
+ghost use Rattle.matrix_file.specs.Header.{isKind, kindSaid, mostFields, firstForm, orderKnown, orderIn, headerFrom, headerLines, askHeader};
 ghost use Rattle.matrix_file.specs.Report.{readSays};
 
 // How many lines a header takes: line 1, and the `V` line if there is one.
@@ -32,7 +34,34 @@ pub(crate) fn header_lines(header: Header) -> usize
     1 + lines_taken(header.weighed)
 }
 
-// Whether line 1 has three or four fields, of which the first is `W` and the next two are numbers.
+// Whether a word is one of the two with which line 1 begins.
+fn is_kind(word: &[u8]) -> bool
+    ensures { λ r. ⌜ r ≡ isKind (now (word .entry)) ⌝ }
+{
+    same_text(word, b"W") || same_text(word, b"F")
+}
+
+// The kind that such a word says.
+fn kind_said(word: &[u8]) -> Kind
+    ensures { λ r. ⌜ r ≡ kindSaid (now (word .entry)) ⌝ }
+{
+    if same_text(word, b"F") {
+        return Kind::Own;
+    }
+    Kind::Wagner
+}
+
+// How many tabs line 1 of a kind has at most.
+fn most_tabs(kind: Kind) -> usize
+    ensures { λ r. ⌜ r + 1 ≡ mostFields kind ⌝ }
+{
+    match kind {
+        Kind::Wagner => 3,
+        Kind::Own => 2,
+    }
+}
+
+// Whether line 1 has three fields, and in a `W` file perhaps a fourth, of which the first is `W` or `F` and the next two are numbers.
 fn first_form(line: &[u8]) -> bool
     ensures { λ r. ⌜ r ≡ firstForm (fieldsOf (now (line .entry))) ⌝ }
 {
@@ -40,10 +69,11 @@ fn first_form(line: &[u8]) -> bool
     if tabs < 2 {
         return false;
     }
-    if 3 < tabs {
+    let word = field(line, 0);
+    if most_tabs(kind_said(word)) < tabs {
         return false;
     }
-    if !same_text(field(line, 0), b"W") {
+    if !is_kind(word) {
         return false;
     }
     number_form(field(line, 1)) && number_form(field(line, 2))
@@ -83,11 +113,13 @@ fn header_from(line: &[u8], behind: &[u8]) -> Header
     requires { ⌜ firstForm (fieldsOf (now line)) ≡ true ⌝ }
     ensures { λ r. ⌜ r ≡ headerFrom (fieldsOf (now (line .entry))) (linesOf (now (behind .entry))) ⌝ }
 {
+    let kind = kind_said(field(line, 0));
     let n = number_of(field(line, 1));
     let m = number_of(field(line, 2));
     let order = order_in(line);
     let weighed = optional_there(behind, LETTER);
     Header {
+        kind: kind,
         n: n,
         m: m,
         order: order,

@@ -1,10 +1,13 @@
 // The questions put to a file, in order.
 use crate::NAME_SIZE;
 use crate::answer::Header;
+use crate::answer::LinesAnswer;
 use crate::answer::Read;
-use crate::answer::RowsAnswer;
 use crate::answer::on_line;
 use crate::answer::refused;
+use crate::branches::ask_branches;
+use crate::branches::ask_tree;
+use crate::branches::branch_count;
 use crate::bytes::Alphabet;
 use crate::bytes::LINE_FEED;
 use crate::bytes::TAB;
@@ -35,7 +38,7 @@ ghost use Rattle.matrix_file.specs.Header.{headerLines};
 ghost use Rattle.matrix_file.specs.Rows.{askCodes, askRow};
 ghost use Rattle.matrix_file.specs.Reading.{nothingMore, askBehind, readAnswer};
 ghost use Rattle.matrix_file.specs.Report.{readSays, withHeader};
-ghost use Rattle.matrix_file.specs.Walk.{namesPassed, RowsAsked};
+ghost use Rattle.matrix_file.specs.Walk.{namesPassed, behindRowsMost, RowsAsked, RestAsked};
 
 // A file has at most so many bytes.
 const MOST_BYTES: usize = 45000;
@@ -109,7 +112,7 @@ fn ask_row(line: &[u8], header: Header, rows: &[u8], starts: &[usize], count: us
 }
 
 // For each row in turn: is there another line, ended by a line feed? Its own questions. Row 1 stands in line `first`.
-fn ask_rows(rows: &[u8], header: Header, first: usize) -> RowsAnswer
+fn ask_rows(rows: &[u8], header: Header, first: usize) -> LinesAnswer
     requires { ⌜ (header .n ≤ mostTaxa) × (1 ≤ header .m) × (first ≤ mostTaxa) ⌝ }
     ensures { λ r. ⌜ RowsAsked (now (rows .entry)) header first r ⌝ }
 {
@@ -121,14 +124,14 @@ fn ask_rows(rows: &[u8], header: Header, first: usize) -> RowsAnswer
         let line = first_part(rest_from(rows, at), LINE_FEED);
         let end = at + line.len();
         if end == rows.len() {
-            return RowsAnswer::Refused {
+            return LinesAnswer::Refused {
                 refusal: Refusal::LineMissing,
                 line: first + done,
             };
         }
         match ask_row(line, header, rows, &starts, done) {
             Asked::Refused(refusal) => {
-                return RowsAnswer::Refused {
+                return LinesAnswer::Refused {
                     refusal: refusal,
                     line: first + done,
                 };
@@ -140,7 +143,7 @@ fn ask_rows(rows: &[u8], header: Header, first: usize) -> RowsAnswer
             }
         }
     }
-    RowsAnswer::Ended {
+    LinesAnswer::Ended {
         at: at,
         line: first + n,
     }
@@ -156,7 +159,25 @@ fn ask_end(rest: &[u8]) -> Asked
     Asked::Passed
 }
 
-// The questions put to what stands behind the header of a file: the rows, and then the end of the file.
+// The questions put to what stands behind the rows of a file, from line `line` on: the `C` lines, the end of the file, and whether the
+// branching is one.
+fn ask_after(rest: &[u8], line: usize, header: Header) -> Read
+    requires { ⌜ (header .n ≤ mostTaxa) × (line ≤ behindRowsMost) ⌝ }
+    ensures { λ r. ⌜ RestAsked (now (rest .entry)) line header r ⌝ }
+{
+    let n = header.n;
+    let kind = header.kind;
+    let count = branch_count(kind, n);
+    match ask_branches(rest, count, line) {
+        LinesAnswer::Refused { refusal, line } => refused(refusal, line),
+        LinesAnswer::Ended { at, line } => match ask_end(rest_from(rest, at)) {
+            Asked::Refused(refusal) => refused(refusal, line),
+            Asked::Passed => on_line(0, ask_tree(rest, kind, n), header),
+        },
+    }
+}
+
+// The questions put to what stands behind the header of a file: the rows, and then what stands behind them.
 fn ask_behind(file: &[u8], header: Header) -> Read
     requires { ⌜ (header .n ≤ mostTaxa) × (1 ≤ header .m) ⌝ }
     requires { ⌜ headerLines header < length (linesOf (now file)) ⌝ }
@@ -165,8 +186,8 @@ fn ask_behind(file: &[u8], header: Header) -> Read
     let passed = header_lines(header);
     let rows = behind_lines(file, passed);
     match ask_rows(rows, header, passed + 1) {
-        RowsAnswer::Refused { refusal, line } => refused(refusal, line),
-        RowsAnswer::Ended { at, line } => on_line(line, ask_end(rest_from(rows, at)), header),
+        LinesAnswer::Refused { refusal, line } => refused(refusal, line),
+        LinesAnswer::Ended { at, line } => ask_after(rest_from(rows, at), line, header),
     }
 }
 

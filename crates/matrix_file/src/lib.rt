@@ -1,5 +1,6 @@
 // Reading a matrix file.
 pub mod answer;
+mod branches;
 mod bytes;
 mod header;
 mod judging;

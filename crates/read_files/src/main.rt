@@ -1,13 +1,17 @@
 // Reads the files of data/cases one after another and prints what was read, or the refusal and its line.
 // A case is its length in three bytes, the highest first, and then its bytes.
-// Before them stand three reads into lists that have not their full size. The weights of an accepted file stand behind `V`, or behind `-`
-// where the file has no `V` line. Behind each case stands how many codes, weights and name bytes are as they were lent.
+// Before them stand four reads into lists that have not their full size. The weights of an accepted file stand behind `V`, or behind `-`
+// where the file has no `V` line. The branch records of an `F` file stand behind its rows, as they were written: `C`, node, ancestor,
+// length. Behind each case stands how many codes, weights, name bytes and numbers of branch records are as they were lent.
+use branching::lent::record_count;
+use branching::numbers::RECORD;
 use libc::STDOUT_FILENO;
 use matrix::questions::in_range;
 use matrix::refusal::Refusal;
 use matrix::refusal::number;
 use matrix::rows::row;
 use matrix::weights::weight_at;
+use matrix_file::answer::Kind;
 use matrix_file::answer::OrderWord;
 use matrix_file::answer::Read;
 use matrix_file::reading::read;
@@ -16,10 +20,12 @@ ghost use mathlib.Core.Bool.{true};
 ghost use Prim.Native.Nat.{_≤_};
 ghost use Rattle.matrix.specs.Shape.{inRange};
 
-// What the lent lists hold before a read: no code, and neither a weight nor a byte of a name.
+// What the lent lists hold before a read: no code, neither a weight nor a byte of a name, and no number of a branch record.
 const NO_CODE: i32 = 7777;
 
 const NO_BYTE: u8 = 255;
+
+const NO_NUMBER: usize = 7777;
 
 fn wide(byte: u8) -> usize
     ensures { λ r. ⌜ r ≤ 255 ⌝ }
@@ -119,6 +125,60 @@ fn print_weights(weights: &[u8], m: usize) {
     io::write_all(STDOUT_FILENO, b"\n");
 }
 
+// Prints numbers, each behind a tab.
+fn print_numbers(numbers: &[usize]) {
+    let mut i = 0;
+    while i < numbers.len() {
+        io::write_all(STDOUT_FILENO, b"\t");
+        print_number(numbers[i]);
+        i += 1;
+    }
+    io::write_all(STDOUT_FILENO, b"\n");
+}
+
+// Prints the record at a place, the first at place 0, as it stands.
+fn print_record(branches: &[usize], place: usize)
+    requires { ⌜ place ≤ 124 ⌝ }
+{
+    let start = place * RECORD;
+    let end = start + RECORD;
+    if branches.len() < end {
+        return;
+    }
+    io::write_all(STDOUT_FILENO, b"C");
+    print_numbers(&branches[start..end]);
+}
+
+// Prints the branch records of n taxa.
+fn print_records(branches: &[usize], n: usize) {
+    let count = record_count(n);
+    let mut i = 0;
+    while i < count {
+        print_record(branches, i);
+        i += 1;
+    }
+}
+
+// Prints the branch records that a file of n taxa brings: a `W` file brings none.
+fn print_branching(kind: Kind, branches: &[usize], n: usize) {
+    match kind {
+        Kind::Wagner => {}
+        Kind::Own => print_records(branches, n),
+    }
+}
+
+// Prints the word of a kind.
+fn print_kind(kind: Kind) {
+    match kind {
+        Kind::Wagner => {
+            io::write_all(STDOUT_FILENO, b"W");
+        }
+        Kind::Own => {
+            io::write_all(STDOUT_FILENO, b"F");
+        }
+    }
+}
+
 // Prints `V` if a file has such a line, else a hyphen.
 fn print_weighed(weighed: bool) {
     if weighed {
@@ -154,13 +214,28 @@ fn bytes_kept(list: &[u8]) -> usize {
     kept
 }
 
-fn print_kept(matrix: &[i32], weights: &[u8], names: &[u8]) {
+// How many numbers of branch records are as they were lent.
+fn numbers_kept(branches: &[usize]) -> usize {
+    let mut kept = 0;
+    let mut i = 0;
+    while i < branches.len() {
+        if branches[i] == NO_NUMBER {
+            kept += 1;
+        }
+        i += 1;
+    }
+    kept
+}
+
+fn print_kept(matrix: &[i32], weights: &[u8], names: &[u8], branches: &[usize]) {
     io::write_all(STDOUT_FILENO, b"k\t");
     print_number(codes_kept(matrix));
     io::write_all(STDOUT_FILENO, b"\t");
     print_number(bytes_kept(weights));
     io::write_all(STDOUT_FILENO, b"\t");
     print_number(bytes_kept(names));
+    io::write_all(STDOUT_FILENO, b"\t");
+    print_number(numbers_kept(branches));
     io::write_all(STDOUT_FILENO, b"\n");
 }
 
@@ -185,11 +260,13 @@ fn print_order(order: OrderWord) {
     }
 }
 
-fn print_answer(answer: Read, matrix: &[i32], weights: &[u8], names: &[u8]) {
+fn print_answer(answer: Read, matrix: &[i32], weights: &[u8], names: &[u8], branches: &[usize]) {
     match answer {
         Read::Refused { refusal, line } => print_refusal(refusal, line),
         Read::Accepted(header) => {
-            io::write_all(STDOUT_FILENO, b"W\t");
+            let kind = header.kind;
+            print_kind(kind);
+            io::write_all(STDOUT_FILENO, b"\t");
             print_number(header.n);
             io::write_all(STDOUT_FILENO, b"\t");
             print_number(header.m);
@@ -199,17 +276,19 @@ fn print_answer(answer: Read, matrix: &[i32], weights: &[u8], names: &[u8]) {
             print_weighed(header.weighed);
             print_weights(weights, header.m);
             print_rows(matrix, names, header.n, header.m);
+            print_branching(kind, branches, header.n);
         }
     }
-    print_kept(matrix, weights, names);
+    print_kept(matrix, weights, names, branches);
 }
 
 fn print_case(file: &[u8]) {
     let mut matrix = [NO_CODE; 16128];
     let mut weights = [NO_BYTE; 128];
     let mut names = [NO_BYTE; 1024];
-    let answer = read(file, &mut matrix, &mut weights, &mut names);
-    print_answer(answer, &matrix, &weights, &names);
+    let mut branches = [NO_NUMBER; 375];
+    let answer = read(file, &mut matrix, &mut weights, &mut names, &mut branches);
+    print_answer(answer, &matrix, &weights, &names, &branches);
 }
 
 // Reads a file into names that are a byte too short.
@@ -217,8 +296,9 @@ fn print_short() {
     let mut matrix = [NO_CODE; 16128];
     let mut weights = [NO_BYTE; 128];
     let mut names = [NO_BYTE; 1023];
-    let answer = read(b"", &mut matrix, &mut weights, &mut names);
-    print_answer(answer, &matrix, &weights, &names);
+    let mut branches = [NO_NUMBER; 375];
+    let answer = read(b"", &mut matrix, &mut weights, &mut names, &mut branches);
+    print_answer(answer, &matrix, &weights, &names, &branches);
 }
 
 // Reads a file into a matrix that is a code too long.
@@ -226,8 +306,15 @@ fn print_long() {
     let mut matrix = [NO_CODE; 16129];
     let mut weights = [NO_BYTE; 128];
     let mut names = [NO_BYTE; 1024];
-    let answer = read(b"W\t1\t1\nA\t0\n", &mut matrix, &mut weights, &mut names);
-    print_answer(answer, &matrix, &weights, &names);
+    let mut branches = [NO_NUMBER; 375];
+    let answer = read(
+        b"W\t1\t1\nA\t0\n",
+        &mut matrix,
+        &mut weights,
+        &mut names,
+        &mut branches,
+    );
+    print_answer(answer, &matrix, &weights, &names, &branches);
 }
 
 // Reads a file into weights that are one too short.
@@ -235,13 +322,31 @@ fn print_few() {
     let mut matrix = [NO_CODE; 16128];
     let mut weights = [NO_BYTE; 127];
     let mut names = [NO_BYTE; 1024];
+    let mut branches = [NO_NUMBER; 375];
     let answer = read(
         b"W\t1\t1\nV\t2\nA\t0\n",
         &mut matrix,
         &mut weights,
         &mut names,
+        &mut branches,
     );
-    print_answer(answer, &matrix, &weights, &names);
+    print_answer(answer, &matrix, &weights, &names, &branches);
+}
+
+// Reads a file into branch records that are a number too short.
+fn print_cut() {
+    let mut matrix = [NO_CODE; 16128];
+    let mut weights = [NO_BYTE; 128];
+    let mut names = [NO_BYTE; 1024];
+    let mut branches = [NO_NUMBER; 374];
+    let answer = read(
+        b"F\t2\t1\nA\t0\nB\t1\nC\t2\t1\n",
+        &mut matrix,
+        &mut weights,
+        &mut names,
+        &mut branches,
+    );
+    print_answer(answer, &matrix, &weights, &names, &branches);
 }
 
 // Reads a file into a part of memory of its length and prints what was read; answers whether it was there whole.
@@ -272,6 +377,7 @@ fn main() {
     print_short();
     print_long();
     print_few();
+    print_cut();
     let path = b"cases";
     let cases = os::open_read(path);
     if cases < 0 {

@@ -16,7 +16,7 @@ use Rattle.matrix.proofs.Passing.{matrix-passes}
 use Rattle.matrix_file.specs.Job.{Job, JobWithinLimits}
 use Rattle.matrix_file.specs.declared.answer.Header.{Header}
 use Rattle.matrix_file.specs.Report.{ReadDone}
-use Rattle.matrix_file.specs.Written.{matrixWritten, weightsWritten}
+use Rattle.matrix_file.specs.Written.{matrixWritten, weightsWritten, LentLists}
 use Rattle.matrix_file.specs.declared.answer.Read.{Read}
 use Rattle.matrix_file.specs.declared.answer.Read.the-variants as Read
 use Rattle.matrix_file.proofs.Lists.ReadLists.{job-row, job-lent, job-weighed, read-accepting}
@@ -68,18 +68,16 @@ written-measure weights room = measure-weights (weightsWritten weights ones) wei
         ∙ sym (List·getD-eq-default weights 1 (omega arith)))
 
 -- no rival does better on a matrix that the call has read, by the weights that it has read
-pub no-rival-read : (file : List ℕ) (oldMatrix : List ℤ) (oldWeights oldNames : List ℕ) (newMatrix : List ℤ) (newWeights newNames : List ℕ)
-    (r : Read) (header : Header) → ReadDone file oldMatrix oldWeights oldNames newMatrix newWeights newNames r → r ≡ Read.Accepted header
-    → NoRivalDoesBetter (weighing newWeights) (header .n) (header .m) (rowsOf newMatrix (header .m) (header .n))
-no-rival-read file oldMatrix oldWeights oldNames newMatrix newWeights newNames r header done e =
-    let accepting = read-accepting file oldMatrix oldWeights oldNames newMatrix newWeights newNames r header done e in
+pub no-rival-read : (file : List ℕ) (old new : LentLists) (r : Read) (header : Header) → ReadDone file old new r → r ≡ Read.Accepted header
+    → NoRivalDoesBetter (weighing (new .weights)) (header .n) (header .m) (rowsOf (new .matrix) (header .m) (header .n))
+no-rival-read file old new r header done e =
+    let accepting = read-accepting file old new r header done e in
     let job = accepting .job in
-    let lent = job-lent job (accepting .within) oldMatrix (accepting .full) in
-    let weighed = job-weighed job (accepting .within) oldWeights (accepting .weights-full) in
+    let lent = job-lent job (accepting .within) (old .matrix) (accepting .sizes .0) in
+    let weighed = job-weighed job (accepting .within) (old .weights) (accepting .sizes .1) in
     let claim = no-rival _ _ _ _ (matrixLent _ _ _ _ (matrix-passes _ _ _ _ .1 (lent, weighed))) in
-    subst (λ (said : Header). NoRivalDoesBetter (weighing newWeights) (said .n) (said .m) (rowsOf newMatrix (said .m) (said .n)))
+    subst (λ (said : Header). NoRivalDoesBetter (weighing (new .weights)) (said .n) (said .m) (rowsOf (new .matrix) (said .m) (said .n)))
     (accepting .says)
-    (subst⁻¹ (λ matrix. NoRivalDoesBetter (weighing newWeights) (job .n) (job .m) (rowsOf matrix (job .m) (job .n))) (accepting .matrix)
-    (subst⁻¹ (λ weights. NoRivalDoesBetter (weighing weights) (job .n) (job .m) (rowsOf (matrixWritten (job .rows) oldMatrix) (job .m)
-    (job .n)))
-    (accepting .weights) claim))
+    (subst⁻¹
+    (λ (lists : LentLists). NoRivalDoesBetter (weighing (lists .weights)) (job .n) (job .m) (rowsOf (lists .matrix) (job .m) (job .n)))
+    (accepting .written) claim)

@@ -1,4 +1,4 @@
--- The fit of a job's Wagner tree: states and ranges are from -999 to 999, no fitted length is above the largest difference of two rows, and
+-- The fit of a branching to a job's rows: states and ranges are from -999 to 999, no fitted length is above the largest difference of two rows, and
 -- the total is not below the floor.
 use mathlib.Core.Path.{_≡_, refl}
 use mathlib.Core.Bool.{true}
@@ -20,14 +20,12 @@ use Rattle.branching.specs.Ancestors.{ancestor}
 use Rattle.branching.specs.Facts.{Branching, Grown}
 use Rattle.branching.proofs.Test.{branching-iff}
 use Rattle.branching.proofs.Whole.{branching-nodes, branching-grown, growing-ancestor-le}
-use Rattle.wagner.proofs.Whole.{wagner-branching}
 use Rattle.fitting.specs.Assignments.{character, branchLength}
 use Rattle.fitting.specs.Fit.{chosenState, range, fittedLength, fittedTotal}
 use Rattle.fitting.proofs.Matrix.OnlyCodes.{Each, chosenState-each, range-each}
 use Rattle.consistency.specs.Floor.{floor}
 use Rattle.consistency.proofs.NeverPasses.{floor-fitted}
-use Rattle.listing.specs.Meant.{orderMeant, measureMeant}
-use Rattle.listing.proofs.Parts.{builtOf}
+use Rattle.listing.specs.Meant.{measureMeant}
 use Rattle.listing.proofs.Totals.{Limits, limits}
 use Rattle.listing.proofs.Bounds.Rows.{near-job, first-known, weight-known}
 
@@ -42,20 +40,12 @@ code-near [] e i = refl
 code-near (code ∷ codes) e zero = every-head inRange code codes e
 code-near (code ∷ codes) e (suc i) = code-near codes (every-tail inRange code codes e) i
 
-module _ (job : Job) (within : JobWithinLimits job) (two : 2 ≤ job .n) where
-  -- the job's Wagner tree
-  abbrev tree : List ℕ
-  tree = builtOf (measureMeant job) job .tree
-
+module _ (job : Job) (within : JobWithinLimits job) (tree : List ℕ) (whole : Branching (job .n) tree) (two : 2 ≤ job .n) where
   -- n and m are within their limits
   abbrev known : Limits (job .n) (job .m)
   known = limits (job .n) (job .m) (within .limits)
 
-  -- it is a branching
-  whole : Branching (job .n) tree
-  whole = wagner-branching (measureMeant job .rows) (orderMeant (job .order)) (job .n) (known .taxon) (known .taxa) (job .rows)
-
-  -- of two taxa at least
+  -- the branching is grown
   grown : Grown (job .n) (job .n) tree
   grown = branching-grown (job .n) tree two whole
 
@@ -85,14 +75,11 @@ module _ (job : Job) (within : JobWithinLimits job) (two : 2 ≤ job .n) where
       (state-near v j (omega arith) last) (state-near (ancestor tree v) j some above)) in
       omega (arith, sum, length-numbers 1 (job .m), known .characters)
 
--- the floor of a job is no higher than the fitted total of its Wagner tree
-pub floor-below : (job : Job) → JobWithinLimits job
-    → floor (measureMeant job .step) (job .rows) (job .n) (job .m)
-    ≤ fittedTotal (measureMeant job .step) (builtOf (measureMeant job) job .tree) (job .rows) (job .n) (job .m)
-floor-below job within =
+-- the floor of a job is no higher than the fitted total of any branching of its taxa
+pub floor-below : (job : Job) → JobWithinLimits job → (tree : List ℕ) → Branching (job .n) tree
+    → floor (measureMeant job .step) (job .rows) (job .n) (job .m) ≤ fittedTotal (measureMeant job .step) tree (job .rows) (job .n) (job .m)
+floor-below job within tree whole =
     let inside = limits (job .n) (job .m) (within .limits) in
-    let built = builtOf (measureMeant job) job .tree in
-    floor-fitted (job .weights) (job .n) (job .m) built (job .rows) (inside .taxon)
+    floor-fitted (job .weights) (job .n) (job .m) tree (job .rows) (inside .taxon)
     (first-known (job .weights) (within .weights-known) (job .m))
-    (branching-iff built (job .n) (inside .taxon) .1
-    (wagner-branching (measureMeant job .rows) (orderMeant (job .order)) (job .n) (inside .taxon) (inside .taxa) (job .rows)))
+    (branching-iff tree (job .n) (inside .taxon) .1 whole)

@@ -1,4 +1,4 @@
--- The line that a refusal gives is at most 67: a line behind the 64 rows, line 1 and the `V` line.
+-- The line that a refusal gives is at most 192: a line behind line 1, the `V` line, 64 rows and 125 `C` lines.
 use mathlib.Core.Path.{_≡_, refl}
 use mathlib.Core.Bool.{true}
 use mathlib.Core.List.{List, [], _∷_}
@@ -8,22 +8,26 @@ use native.Mathlib.Omega.{arith}
 use lib.ListN.{drop}
 use Rattle.matrix.specs.Outcomes.{ask, Outcome, value, refused, onLine, thenWith}
 use Rattle.matrix.specs.Questions.{withinLimits}
-use Rattle.matrix.specs.declared.refusal.Refusal.the-variants.{FirstLine, UnknownOrder, BeyondLimits, FileGoesOn}
+use Rattle.matrix.specs.declared.refusal.Refusal.the-variants.{FirstLine, UnknownOrder, BeyondLimits, FileGoesOn, BranchForm}
 use Rattle.matrix.specs.declared.refusal.Asked.{Asked}
 use Rattle.matrix.specs.declared.refusal.Asked.the-variants.{Passed, Refused}
 use Rattle.matrix_file.specs.declared.answer.Header.{Header}
-use Rattle.matrix_file.specs.Lines.{linesOf}
+use Rattle.matrix_file.specs.Lines.{linesOf, fieldsOf}
 use Rattle.matrix_file.specs.Header.{headerIn, rowLine, behindHeader, firstLineForm, firstFields, orderKnown, askFirstLine, askWeights}
 use Rattle.matrix_file.specs.Header.{askHeader}
 use Rattle.matrix.proofs.Passing.{ask-passed}
 use Rattle.matrix_file.proofs.File.OptionalWalk.{taken-most}
 use Rattle.matrix_file.specs.Rows.{nameIn, askRow, askRows}
-use Rattle.matrix_file.specs.Reading.{jobOf, nothingMore, askEnd, askBehind, askFile, askLength, readAnswer}
+use Rattle.matrix_file.specs.Job.{Job}
+use Rattle.matrix_file.specs.Walk.{behindRowsMost}
+use Rattle.matrix_file.specs.Branches.{branchCount, branchForm, askBranches, askTree}
+use Rattle.matrix_file.specs.Reading.{jobOf, nothingMore, askEnd, askAfter, askBehind, askFile, askLength, readAnswer}
+use Rattle.matrix_file.proofs.File.FileLength.{count-most}
 use Rattle.listing.proofs.Totals.{Limits, limits}
 
 -- the highest line that a refusal gives
 abbrev pub mostLines : ℕ
-mostLines = 67
+mostLines = 192
 
 -- the line of a refusal, if there is one, is within a bound
 pub data LineWithin {A : Type 0} (most : ℕ) : Outcome A → Type 0 where
@@ -49,6 +53,30 @@ rows-lines most header earlier line (suc left) (row ∷ next ∷ lines) follow h
     on-line most line (askRow header earlier row) (askRows header (nameIn row ∷ earlier) (suc line) left (next ∷ lines) follow) (omega arith)
     (λ e. rows-lines most header (nameIn row ∷ earlier) (suc line) left (next ∷ lines) follow (omega arith) (λ others. rw same (own others)))
 
+-- the questions on `C` lines: no line behind the last one's, if none is given by what follows them
+branches-lines : {A : Type 0} (most line v left : ℕ) (lines : List (List ℕ)) (follow : ℕ → List (List ℕ) → Outcome A) → line + left ≤ most
+    → ((others : List (List ℕ)) → LineWithin most (follow (line + left) others)) → LineWithin most (askBranches line v left lines follow)
+unfolding askBranches
+branches-lines most line v zero lines follow h own = rw add-zero at (own lines)
+branches-lines most line v (suc left) [] follow h own = some {line = line} (omega arith)
+branches-lines most line v (suc left) (behind ∷ []) follow h own = some {line = line} (omega arith)
+branches-lines most line v (suc left) (text ∷ next ∷ lines) follow h own =
+    let same : suc line + left ≡ line + suc left = omega arith in
+    on-line most line (ask (branchForm v (fieldsOf text)) BranchForm Passed) (askBranches (suc line) (suc v) left (next ∷ lines) follow) (omega arith)
+    (λ e. branches-lines most (suc line) (suc v) left (next ∷ lines) follow (omega arith) (λ others. rw same (own others)))
+
+-- the questions on what stands behind the rows of a job of at most 64 taxa
+after-lines : (job : Job) (line : ℕ) (lines : List (List ℕ)) → job .n ≤ 64 → line ≤ behindRowsMost → LineWithin mostLines (askAfter job line lines)
+unfolding askAfter askEnd
+after-lines job line lines h low =
+    let count = branchCount (job .kind) (job .n) in
+    let tree = askTree (job .kind) (job .n) (job .ancestors) in
+    let most = count-most (job .kind) (job .n) in
+    branches-lines mostLines line 2 count lines (askEnd (onLine 0 tree (value job))) (omega arith)
+    (λ others.
+    on-line mostLines (line + count) (ask (nothingMore others) FileGoesOn Passed) (onLine 0 tree (value job)) (omega arith)
+    (λ e. on-line mostLines 0 tree (value job) (omega arith) (λ passed. none)))
+
 -- line 1 that passes its questions has n and m within their limits
 first-limits : (lines : List (List ℕ)) → askFirstLine lines ≡ Passed → withinLimits (headerIn lines .n) (headerIn lines .m) ≡ true
 unfolding askFirstLine
@@ -59,14 +87,11 @@ first-limits lines passed =
 
 -- the questions on what stands behind a header of at most 64 taxa
 behind-lines : (header : Header) (lines : List (List ℕ)) → header .n ≤ 64 → LineWithin mostLines (askBehind header lines)
-unfolding askBehind askEnd
+unfolding askBehind jobOf
 behind-lines header lines h =
     let taken = taken-most (header .weighed) in
-    rows-lines mostLines header [] (rowLine header 1) (header .n) (behindHeader header lines) (askEnd (value (jobOf header lines)))
-    (omega arith)
-    (λ others.
-    on-line mostLines (rowLine header 1 + header .n) (ask (nothingMore others) FileGoesOn Passed) (value (jobOf header lines)) (omega arith)
-    (λ e. none))
+    rows-lines mostLines header [] (rowLine header 1) (header .n) (behindHeader header lines) (askAfter (jobOf header lines)) (omega arith)
+    (λ others. after-lines (jobOf header lines) (rowLine header 1 + header .n) others h (omega arith))
 
 -- two lines' questions with what they bring, and what follows it
 then-lines : {A B : Type 0} (most : ℕ) (first second : Asked) (a : A) (follow : A → Outcome B) → 2 ≤ most

@@ -1,7 +1,8 @@
 -- The room that a listing takes: every line has at most 128 bytes, and with the number of lines all that is printed for a file, accepted or
 -- refused, has at most 1048576 bytes.
 use mathlib.Core.Path.{_≡_, refl, ap}
-use mathlib.Core.List.{List, [], _∷_, map, List·Memᴰ}
+use mathlib.Core.Bool.{true}
+use mathlib.Core.List.{List, [], _∷_, _++_, map, List·Memᴰ}
 use Prim.Native.Nat.{ℕ, zero, suc, _+_, _-_, _*_, _/_, _%_, _≤_, _<_}
 use Prim.Native.String.{String}
 use native.Mathlib.Nat.{mod-lt, zero-lt-suc}
@@ -14,14 +15,22 @@ use Rattle.matrix.specs.NodeRows.{rowOf}
 use Rattle.matrix_file.specs.Decimal.{digitsOf, decimal}
 use Rattle.matrix_file.specs.Job.{Job, JobWithinLimits}
 use Rattle.matrix_file.specs.Text.{bytes}
+use Rattle.matrix_file.specs.Branches.{branched}
+use Rattle.matrix_file.specs.declared.answer.Kind.{Kind}
+use Rattle.matrix_file.specs.declared.answer.Kind.the-variants.{Wagner, Own}
 use Rattle.difference.specs.Rows.{mostDifference, nodeDifference}
 use Rattle.prim.specs.Network.{Link, networkLength}
 use Rattle.prim.proofs.Connected.{network-between, network-total-le}
 use Rattle.prim.proofs.Placing.{network-link, network-length}
 use Rattle.branching.specs.declared.placement.Placement.{Placement}
-use Rattle.branching.specs.Ancestors.{ancestor}
+use Rattle.branching.specs.Ancestors.{ancestor, treeWith}
+use Rattle.branching.specs.Facts.{Branching}
+use Rattle.branching.specs.Growing.{branching}
+use Rattle.branching.proofs.Test.{branching-iff}
+use Rattle.branching.proofs.Whole.{growing-ancestor-le}
 use Rattle.branching.specs.Nodes.{otherNodes}
 use Rattle.wagner.specs.Build.{wagnerLength}
+use Rattle.wagner.proofs.Whole.{wagner-branching}
 use Rattle.fitting.specs.Fit.{chosenState, range, fittedLength, fittedTotal, marked}
 use Rattle.consistency.specs.Index.{thousand, index}
 use Rattle.consistency.proofs.Division.{thousandths-most}
@@ -44,7 +53,9 @@ use Rattle.listing.proofs.Parts.{
   wagnerTotal,
   treeTotal,
   treeIndex,
-  listing-text,
+  treeText,
+  built-text,
+  own-text,
   wagner-count,
 }
 use Rattle.listing.proofs.Totals.{Limits, limits, wagner-total, tree-total}
@@ -91,10 +102,6 @@ module _ (job : Job) (within : JobWithinLimits job) where
   abbrev d : ℕ → ℕ → ℕ
   d = nodeDifference (measureMeant job .rows) (rowOf (job .rows))
 
-  -- the job's Wagner tree
-  abbrev tree : List ℕ
-  tree = builtOf (measureMeant job) job .tree
-
   -- its placements and ancestors are within bounds
   small : SmallBuilt (job .weights) (within .weights-known) (job .n) (known .taxon) (builtOf (measureMeant job) job)
   small = wagner-small (job .weights) (within .weights-known) (job .n) (known .taxon) (orderMeant (job .order)) (job .rows) (near-job job within)
@@ -127,43 +134,6 @@ module _ (job : Job) (within : JobWithinLimits job) where
         node-size job within (p .upper) (bounds .upper),
         node-size job within (p .htu) (bounds .htu),
         number-size (p .added) added,
-      )
-
-  -- a `T` line
-  tree-size : (v : ℕ) → 2 ≤ v → v ≤ 2 * job .n - 2
-      → length (fittedLine (job .n) (job .names) tree (job .rows) (job .m) (measureMeant job .step) v) ≤ mostLine
-  unfolding fittedLine branchLine sizes bytes
-  tree-size v first last =
-      let size = fittedLength (measureMeant job .step) tree (job .rows) (job .n) (job .m) v in
-      let sign = mark (marked (measureMeant job .step) tree (job .rows) (job .n) (job .m) v) in
-      let apart : size ≤ mostDifference = fitted-apart job within (omega arith) v first last in
-      omega (
-        arith,
-        line-size (bytes "T") (name v ∷ name (ancestor tree v) ∷ digitsOf size ∷ sign ∷ []),
-        node-size job within v (omega arith),
-        node-size job within (ancestor tree v) (small .ancestors v),
-        number-size size (omega arith),
-        mark-size (marked (measureMeant job .step) tree (job .rows) (job .n) (job .m) v),
-      )
-
-  -- an `H` line
-  htu-size : (v j : ℕ) → job .n < v → v ≤ 2 * job .n - 2 → j ≤ job .m
-      → length (rangeLine (job .n) (job .names) tree (job .rows) (job .m) v j) ≤ mostLine
-  unfolding rangeLine stateLine sizes bytes
-  htu-size v j first last character =
-      let span = range tree (job .rows) (job .n) v j in
-      let own = chosenState tree (job .rows) (job .n) v j in
-      let two : 2 ≤ job .n = omega arith in
-      let near = range-near job within two v j (omega arith) last in
-      let few : j < 1000000000 = omega (arith, known .characters) in
-      omega (
-        arith,
-        line-size (bytes "H") (name v ∷ digitsOf j ∷ decimal (span .low) ∷ decimal (span .high) ∷ decimal own ∷ []),
-        node-size job within v (omega arith),
-        number-size j few,
-        code-size (span .low) (near .atLow),
-        code-size (span .high) (near .atHigh),
-        code-size own (state-near job within two v j (omega arith) last),
       )
 
   -- the `P` lines together
@@ -204,85 +174,156 @@ module _ (job : Job) (within : JobWithinLimits job) where
       omega (arith, wagner-total job within, most, wagner-count (measureMeant job .rows) (orderMeant (job .order)) (job .n) (job .rows), known .taxa) in
       total-size "w" total refl below
 
-  -- the `T` lines together
-  tree-room : length (joined (treeLines (measureMeant job) job)) ≤ (2 * job .n - 3) * mostLine
-  unfolding fittedLines otherNodes
-  tree-room =
-      let text = fittedLine (job .n) (job .names) tree (job .rows) (job .m) (measureMeant job .step) in
-      omega (
-        arith,
-        ap length (joined-map text (numbers 2 (2 * job .n - 3))),
-        texts-room text mostLine (numbers 2 (2 * job .n - 3)) (λ v m.
-            let at = numbers-within 2 (2 * job .n - 3) v m in
-            tree-size v (omega arith) (omega arith)),
-        length-numbers 2 (2 * job .n - 3),
-      )
+  -- a branching of its taxa
+  module _ (tree : List ℕ) (whole : Branching (job .n) tree) where
+    -- a `T` line
+    tree-size : (v : ℕ) → 2 ≤ v → v ≤ 2 * job .n - 2
+        → length (fittedLine (job .n) (job .names) tree (job .rows) (job .m) (measureMeant job .step) v) ≤ mostLine
+    unfolding fittedLine branchLine sizes bytes
+    tree-size v first last =
+        let size = fittedLength (measureMeant job .step) tree (job .rows) (job .n) (job .m) v in
+        let sign = mark (marked (measureMeant job .step) tree (job .rows) (job .n) (job .m) v) in
+        let apart : size ≤ mostDifference = fitted-apart job within tree whole (omega arith) v first last in
+        omega (
+          arith,
+          line-size (bytes "T") (name v ∷ name (ancestor tree v) ∷ digitsOf size ∷ sign ∷ []),
+          node-size job within v (omega arith),
+          node-size job within (ancestor tree v) (omega (arith, growing-ancestor-le (job .n) tree whole v)),
+          number-size size (omega arith),
+          mark-size (marked (measureMeant job .step) tree (job .rows) (job .n) (job .m) v),
+        )
 
-  -- the fitted total
-  abbrev total : ℕ
-  total = fittedTotal (measureMeant job .step) tree (job .rows) (job .n) (job .m)
+    -- an `H` line
+    htu-size : (v j : ℕ) → job .n < v → v ≤ 2 * job .n - 2 → j ≤ job .m
+        → length (rangeLine (job .n) (job .names) tree (job .rows) (job .m) v j) ≤ mostLine
+    unfolding rangeLine stateLine sizes bytes
+    htu-size v j first last character =
+        let span = range tree (job .rows) (job .n) v j in
+        let own = chosenState tree (job .rows) (job .n) v j in
+        let two : 2 ≤ job .n = omega arith in
+        let near = range-near job within tree whole two v j (omega arith) last in
+        let few : j < 1000000000 = omega (arith, known .characters) in
+        omega (
+          arith,
+          line-size (bytes "H") (name v ∷ digitsOf j ∷ decimal (span .low) ∷ decimal (span .high) ∷ decimal own ∷ []),
+          node-size job within v (omega arith),
+          number-size j few,
+          code-size (span .low) (near .atLow),
+          code-size (span .high) (near .atHigh),
+          code-size own (state-near job within tree whole two v j (omega arith) last),
+        )
 
-  -- is small
-  tree-total-small : total < 1000000000
-  unfolding otherNodes
-  tree-total-small =
-      let most = sum-most (fittedLength (measureMeant job .step) tree (job .rows) (job .n) (job .m)) mostDifference (numbers 2 (2 * job .n - 3)) (λ v m.
-      let at = numbers-within 2 (2 * job .n - 3) v m in
-      fitted-apart job within (omega arith) v (omega arith) (omega arith)) in
-      omega (arith, tree-total (measureMeant job) job, most, length-numbers 2 (2 * job .n - 3), known .taxa)
+    -- the `T` lines together
+    tree-room : length (joined (treeLines (measureMeant job) job tree)) ≤ (2 * job .n - 3) * mostLine
+    unfolding fittedLines otherNodes
+    tree-room =
+        let text = fittedLine (job .n) (job .names) tree (job .rows) (job .m) (measureMeant job .step) in
+        omega (
+          arith,
+          ap length (joined-map text (numbers 2 (2 * job .n - 3))),
+          texts-room text mostLine (numbers 2 (2 * job .n - 3)) (λ v m.
+              let at = numbers-within 2 (2 * job .n - 3) v m in
+              tree-size v (omega arith) (omega arith)),
+          length-numbers 2 (2 * job .n - 3),
+        )
 
-  -- `t`
-  tree-total-size : length (treeTotal (measureMeant job) job) ≤ mostLine
-  unfolding bytes
-  tree-total-size = total-size "t" total refl tree-total-small
+    -- the fitted total
+    abbrev total : ℕ
+    total = fittedTotal (measureMeant job .step) tree (job .rows) (job .n) (job .m)
 
-  -- `c`
-  index-line-size : length (treeIndex (measureMeant job) job) ≤ mostLine
-  index-line-size = index-size _ total (floor-below job within) tree-total-small
+    -- is small
+    tree-total-small : total < 1000000000
+    unfolding otherNodes
+    tree-total-small =
+        let most = sum-most (fittedLength (measureMeant job .step) tree (job .rows) (job .n) (job .m)) mostDifference (numbers 2 (2 * job .n - 3)) (λ v m.
+        let at = numbers-within 2 (2 * job .n - 3) v m in
+        fitted-apart job within tree whole (omega arith) v (omega arith) (omega arith)) in
+        omega (arith, tree-total (measureMeant job) job tree, most, length-numbers 2 (2 * job .n - 3), known .taxa)
 
-  -- the `H` lines of a node together
-  node-room : (v : ℕ) → job .n < v → v ≤ 2 * job .n - 2
-      → length (joined (map (rangeLine (job .n) (job .names) tree (job .rows) (job .m) v) (numbers 1 (job .m)))) ≤ 128 * mostLine
-  node-room v first last =
-      let text = rangeLine (job .n) (job .names) tree (job .rows) (job .m) v in
-      omega (
-        arith,
-        ap length (joined-map text (numbers 1 (job .m))),
-        texts-room text mostLine (numbers 1 (job .m)) (λ j m.
-            let at = numbers-within 1 (job .m) j m in
-            htu-size v j first last (omega arith)),
-        length-numbers 1 (job .m),
-        known .characters,
-      )
+    -- `t`
+    tree-total-size : length (treeTotal (measureMeant job) job tree) ≤ mostLine
+    unfolding bytes
+    tree-total-size = total-size "t" total refl tree-total-small
 
-  -- the `H` lines together
-  htu-room : length (joined (htuLines (measureMeant job) job)) ≤ (job .n - 2) * (128 * mostLine)
-  unfolding rangeLines
-  htu-room =
-      let texts : ℕ → List (List ℕ) = λ v. map (rangeLine (job .n) (job .names) tree (job .rows) (job .m) v) (numbers 1 (job .m)) in
-      omega (
-        arith,
-        ap length (joined-each texts (numbers (job .n + 1) (job .n - 2))),
-        texts-room (λ v. joined (texts v)) (128 * mostLine) (numbers (job .n + 1) (job .n - 2)) (λ v m.
-            let at = numbers-within (job .n + 1) (job .n - 2) v m in
-            node-room v (omega arith) (omega arith)),
-        length-numbers (job .n + 1) (job .n - 2),
-      )
+    -- `c`
+    index-line-size : length (treeIndex (measureMeant job) job tree) ≤ mostLine
+    index-line-size = index-size _ total (floor-below job within tree whole) tree-total-small
+
+    -- the `H` lines of a node together
+    node-room : (v : ℕ) → job .n < v → v ≤ 2 * job .n - 2
+        → length (joined (map (rangeLine (job .n) (job .names) tree (job .rows) (job .m) v) (numbers 1 (job .m)))) ≤ 128 * mostLine
+    node-room v first last =
+        let text = rangeLine (job .n) (job .names) tree (job .rows) (job .m) v in
+        omega (
+          arith,
+          ap length (joined-map text (numbers 1 (job .m))),
+          texts-room text mostLine (numbers 1 (job .m)) (λ j m.
+              let at = numbers-within 1 (job .m) j m in
+              htu-size v j first last (omega arith)),
+          length-numbers 1 (job .m),
+          known .characters,
+        )
+
+    -- the `H` lines together
+    htu-room : length (joined (htuLines (measureMeant job) job tree)) ≤ (job .n - 2) * (128 * mostLine)
+    unfolding rangeLines
+    htu-room =
+        let texts : ℕ → List (List ℕ) = λ v. map (rangeLine (job .n) (job .names) tree (job .rows) (job .m) v) (numbers 1 (job .m)) in
+        omega (
+          arith,
+          ap length (joined-each texts (numbers (job .n + 1) (job .n - 2))),
+          texts-room (λ v. joined (texts v)) (128 * mostLine) (numbers (job .n + 1) (job .n - 2)) (λ v m.
+              let at = numbers-within (job .n + 1) (job .n - 2) v m in
+              node-room v (omega arith) (omega arith)),
+          length-numbers (job .n + 1) (job .n - 2),
+        )
+
+    -- all lines of the tree
+    text-room : length (treeText (measureMeant job) job tree) ≤ 2 * job .n * mostLine + (job .n - 2) * (128 * mostLine)
+    text-room =
+        omega (
+          arith,
+          length-append (joined (treeLines (measureMeant job) job tree))
+              (treeTotal (measureMeant job) job tree ++ (treeIndex (measureMeant job) job tree ++ joined (htuLines (measureMeant job) job tree))),
+          length-append (treeTotal (measureMeant job) job tree)
+              (treeIndex (measureMeant job) job tree ++ joined (htuLines (measureMeant job) job tree)),
+          length-append (treeIndex (measureMeant job) job tree) (joined (htuLines (measureMeant job) job tree)),
+          tree-room,
+          tree-total-size,
+          index-line-size,
+          htu-room,
+          known .taxon,
+        )
 
   -- the whole listing of a job within the limits
   pub job-room : length (joined (listing (measureMeant job) job)) ≤ outputSize
-  job-room =
-      omega (
-        arith,
-        simp length-append at (ap length (listing-text (measureMeant job) job)),
-        prim-room,
-        prim-total-size,
-        wagner-room,
-        wagner-total-size,
-        tree-room,
-        tree-total-size,
-        index-line-size,
-        htu-room,
-        known .taxon,
-        known .taxa,
-      )
+  job-room = by (job .kind) refl (within .branching-said)
+    where
+      own : branching (job .n) (treeWith (job .ancestors)) ≡ true → Branching (job .n) (treeWith (job .ancestors))
+      own = branching-iff (treeWith (job .ancestors)) (job .n) (known .taxon) .0
+
+      built : Branching (job .n) (builtOf (measureMeant job) job .tree)
+      built = wagner-branching (measureMeant job .rows) (orderMeant (job .order)) (job .n) (known .taxon) (known .taxa) (job .rows)
+
+      by : (kind : Kind) → job .kind ≡ kind → branched kind (job .n) (job .ancestors) ≡ true
+          → length (joined (listing (measureMeant job) job)) ≤ outputSize
+      by Wagner kind e =
+          omega (
+            arith,
+            simp length-append at (ap length (built-text (measureMeant job) job kind)),
+            prim-room,
+            prim-total-size,
+            wagner-room,
+            wagner-total-size,
+            simp length-append at (text-room (builtOf (measureMeant job) job .tree) built),
+            known .taxon,
+            known .taxa,
+          )
+      by Own kind e =
+          omega (
+            arith,
+            ap length (own-text (measureMeant job) job kind),
+            text-room (treeWith (job .ancestors)) (own e),
+            known .taxon,
+            known .taxa,
+          )

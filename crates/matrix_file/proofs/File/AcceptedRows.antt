@@ -1,12 +1,14 @@
--- The weights and the rows of an accepted file: they are well formed, and they are those of the job that it says.
-use mathlib.Core.Path.{_≡_, sym, ap, _∙_}
+-- The weights, the rows and the `C` lines of an accepted file: they are well formed, and they are those of the job that it says.
+use mathlib.Core.Path.{_≡_, sym, ap, ap₂, _∙_}
 use mathlib.Core.Bool.{true}
-use mathlib.Core.List.{List, [], _∷_, map}
+use mathlib.Core.List.{List, [], _∷_, _++_, map, zipWith}
 use Prim.Native.Nat.{ℕ, _≤_, _<_}
 use native.Mathlib.Omega.{arith}
-use lib.ListN.{length, take, drop, length-append}
+use lib.ListN.{length, take, drop, length-append, length-drop}
+use Rattle.lists.specs.Numbers.{numbers}
 use Rattle.lists.specs.Tests.{every}
 use Rattle.matrix.specs.Outcomes.{value}
+use Rattle.branching.specs.LentNumbers.{recordsFor}
 use Rattle.matrix_file.specs.Bytes.{lineFeed, behindPart}
 use Rattle.matrix_file.specs.Job.{Job}
 use Rattle.matrix_file.specs.Lines.{linesOf}
@@ -14,12 +16,15 @@ use Rattle.matrix_file.specs.Optional.{optionalFields}
 use Rattle.matrix_file.specs.Weights.{weightsForm}
 use Rattle.matrix_file.specs.Header.{headerIn, headerOf, headerLines, behindHeader}
 use Rattle.matrix_file.specs.Rows.{nameIn, codesIn}
-use Rattle.matrix_file.specs.Reading.{rowLines, weightsOf, jobOf, jobIn, readAnswer}
-use Rattle.matrix_file.specs.Walk.{rowForm, RowsFormed}
+use Rattle.matrix_file.specs.Branches.{branchCount, ancestorIn, branchText}
+use Rattle.matrix_file.specs.Reading.{rowLines, behindRows, branchLines, weightsOf, jobOf, jobIn, readAnswer}
+use Rattle.matrix_file.specs.Walk.{rowForm, RowsFormed, BranchesFormed, recordIn}
 use Rattle.matrix_file.proofs.File.FileOfRead.{FilePassed, file-passed, file-of-read}
 use Rattle.matrix_file.proofs.File.HeaderRead.{several-lines, weights-formed, header-behind}
 use Rattle.matrix_file.proofs.Text.FirstPart.{parts-several}
 use Rattle.matrix_file.proofs.Rows.Within.{limits-high}
+use Rattle.matrix_file.proofs.BranchLines.Passed.{BranchesRead}
+use Rattle.matrix_file.proofs.BranchLines.Written.{records-back}
 
 -- a file that is accepted with a job
 module _ (file : List ℕ) (job : Job) (e : readAnswer file ≡ value job) where
@@ -79,7 +84,8 @@ module _ (file : List ℕ) (job : Job) (e : readAnswer file ≡ value job) where
                 arith,
                 taxa,
                 ap length (r ∙ passed .behind .all),
-                length-append (rowLines (headerIn (linesOf file)) (linesOf file)) ([] ∷ []),
+                length-append (rowLines (headerIn (linesOf file)) (linesOf file)) (branchLines (headerIn (linesOf file)) (linesOf file) ++ ([] ∷ [])),
+                length-append (branchLines (headerIn (linesOf file)) (linesOf file)) ([] ∷ []),
                 passed .behind .rows .count,
               );
           formed = ap (every rowForm) (sym said) ∙ passed .behind .formed;
@@ -94,3 +100,54 @@ module _ (file : List ℕ) (job : Job) (e : readAnswer file ≡ value job) where
     pub accepted-names : job .names ≡ map nameIn (take (job .n) (linesOf rows))
     unfolding jobOf
     accepted-names = sym (ap (λ read. read .names) (passed .behind .is)) ∙ ap (map nameIn) said
+
+    -- a text of the lines behind the rows
+    module _ (rest : List ℕ) (d : linesOf rest ≡ drop (job .n) (linesOf rows)) where
+      -- how many `C` lines there are
+      abbrev count : ℕ
+      count = branchCount (job .kind) (job .n)
+
+      -- they are the lines behind the rows of the file
+      behind : linesOf rest ≡ behindRows (headerOf job) (linesOf file)
+      behind = d ∙ ap (drop (job .n)) r ∙ ap (λ header. drop (job .n) (behindHeader header (linesOf file))) accepted-header
+
+      -- what was read of them
+      found : BranchesRead 2 count (linesOf rest)
+      found = rw (accepted-header, sym behind) at (passed .behind .branches)
+
+      -- they are well formed
+      pub accepted-branches : BranchesFormed count rest
+      accepted-branches =
+          record {
+            more =
+                omega (
+                  arith,
+                  ap length d,
+                  length-drop (job .n) (linesOf rows),
+                  ap length (r ∙ passed .behind .all),
+                  length-append (rowLines (headerIn (linesOf file)) (linesOf file)) (branchLines (headerIn (linesOf file)) (linesOf file) ++ ([] ∷ [])),
+                  length-append (branchLines (headerIn (linesOf file)) (linesOf file)) ([] ∷ []),
+                  passed .behind .rows .count,
+                  passed .behind .branches .count,
+                  taxa,
+                  ap (λ header. branchCount (header .kind) (header .n)) accepted-header,
+                );
+            formed = found .formed;
+          }
+
+      -- the ancestors that they say are those of the job
+      accepted-ancestors : job .ancestors ≡ map ancestorIn (take count (linesOf rest))
+      unfolding jobOf
+      accepted-ancestors =
+          sym (ap (λ read. read .ancestors) (passed .behind .is))
+          ∙ ap (λ header. map ancestorIn (branchLines header (linesOf file))) accepted-header
+          ∙ ap (λ lines. map ancestorIn (take count lines)) (sym behind)
+
+      -- and so are the records
+      pub accepted-records : recordsFor (job .ancestors) ≡ map recordIn (take count (linesOf rest))
+      unfolding recordsFor
+      accepted-records =
+          sym (records-back 2 (job .ancestors))
+          ∙ ap (map recordIn)
+          (ap₂ (λ k above. zipWith branchText (numbers 2 k) above) (file-of-read file job e .0 .branch-count) accepted-ancestors
+          ∙ found .written)

@@ -1,12 +1,12 @@
 -- The questions put to a file, as they are put one after another: its length, the header, the rows, and the end.
 use mathlib.Core.Path.{_≡_, refl, sym, ap, ap₂, _∙_}
-use mathlib.Core.List.{List, [], _∷_}
+use mathlib.Core.List.{List, [], _∷_, map}
 use mathlib.Core.Bool.{Bool, true, false, and-eq-true-iff}
 use Prim.Native.Nat.{ℕ, _+_, _≤_, _<_}
 use native.Mathlib.Omega.{arith}
 use borrow.Author.Tests.{le-leb, lt-leb}
 use lib.Dec.{eqb}
-use lib.ListN.{length, drop}
+use lib.ListN.{length, take, drop}
 use Rattle.matrix.specs.Refusals.{refusalNumber}
 use Rattle.matrix.specs.declared.refusal.Refusal.{Refusal}
 use Rattle.matrix.specs.declared.refusal.Refusal.the-variants.{FirstLine, UnknownOrder, BeyondLimits, FileGoesOn}
@@ -18,16 +18,20 @@ use Rattle.matrix.proofs.Passing.{oneTo-true}
 use Rattle.matrix_file.specs.declared.answer.Header.{Header}
 use Rattle.matrix_file.specs.declared.answer.Read.{Read}
 use Rattle.matrix_file.specs.declared.answer.Read.the-variants.{Accepted, Refused}
-use Rattle.matrix_file.specs.declared.answer.RowsAnswer.{RowsAnswer}
-use Rattle.matrix_file.specs.declared.answer.RowsAnswer.the-variants as RowsAnswer
+use Rattle.matrix_file.specs.declared.answer.LinesAnswer.{LinesAnswer}
+use Rattle.matrix_file.specs.declared.answer.LinesAnswer.the-variants as LinesAnswer
 use Rattle.matrix_file.specs.Bytes.{lineFeed, beforeFirst, partsAt, partLength, firstPart, behindPart}
 use Rattle.matrix_file.specs.Lines.{linesOf, fieldsOf}
-use Rattle.matrix_file.specs.Header.{headerLines, headerFrom, headerIn}
+use Rattle.matrix_file.specs.Header.{headerLines, headerFrom, headerIn, headerOf}
 use Rattle.matrix_file.specs.Header.{firstForm, firstLineForm, orderKnown, askFirstLine, askWeights, askHeader}
 use Rattle.matrix_file.specs.Rows.{askRows}
-use Rattle.matrix_file.specs.Reading.{mostBytes, jobOf, nothingMore, askEnd, askBehind, askFile, askLength, readAnswer}
+use Rattle.matrix_file.specs.Job.{Job}
+use Rattle.matrix_file.specs.Branches.{branchCount, ancestorIn, askBranches, askTree}
+use Rattle.matrix_file.specs.Reading.{mostBytes, behindRows, jobOf, nothingMore, askEnd, askAfter, askBehind, askFile, askLength}
+use Rattle.matrix_file.specs.Reading.{readAnswer}
 use Rattle.matrix_file.specs.Report.{readSays, withHeader}
-use Rattle.matrix_file.specs.Walk.{headerOn, rowsSay, RowsAsked}
+use Rattle.matrix_file.specs.Walk.{headerOn, behindRowsMost, linesSay, RowsAsked, BranchesFormed, BranchesAsked, RestAsked}
+use Rattle.matrix_file.proofs.File.OptionalWalk.{taken-most}
 use Rattle.matrix_file.proofs.File.HeaderRead.{HeaderPassed, header-passed, several-lines, header-behind}
 use Rattle.matrix_file.proofs.Text.Parts.{parts-some, parts-at, parts-other}
 use Rattle.matrix_file.proofs.Text.FirstPart.{first-length, part-within, parts-one, parts-more}
@@ -132,39 +136,115 @@ ends [] h = refl
 ends (byte ∷ bytes) h = absurd (omega arith)
 
 -- and of what the file's lines bring, the header alone
-header-on : (line : ℕ) (asked : Asked) (header : Header) (lines : List (List ℕ))
-    → readSays (headerOn line asked header) ≡ withHeader (onLine line asked (value (jobOf header lines)))
-unfolding jobOf
-header-on line Asked.Passed header lines = refl
-header-on line (Asked.Refused refusal) header lines = refl
+header-on : (line : ℕ) (asked : Asked) (job : Job)
+    → readSays (headerOn line asked (headerOf job)) ≡ withHeader (onLine line asked (value job))
+header-on line Asked.Passed job = refl
+header-on line (Asked.Refused refusal) job = refl
+
+-- what follows the `C` lines of a file that says a job: the end of the file, and whether its branching is one
+abbrev afterBranches : Job → ℕ → List (List ℕ) → Outcome Job
+afterBranches job = askEnd (onLine 0 (askTree (job .kind) (job .n) (job .ancestors)) (value job))
+
+-- what stands behind the rows of a file, once its `C` lines have been asked
+module _ (rest : List ℕ) (line : ℕ) (header : Header) (count : ℕ) (c : count ≡ branchCount (header .kind) (header .n)) (answer : LinesAnswer)
+    (asked : BranchesAsked rest count line answer) where
+  -- what they bring, of a job with this header
+  branches-say : (job : Job) → headerOf job ≡ header → linesSay rest answer (afterBranches job) ≡ askAfter job line (linesOf rest)
+  unfolding askAfter
+  branches-say job h =
+      asked .says (afterBranches job)
+      ∙ ap (λ k. askBranches line 2 k (linesOf rest) (afterBranches job)) (c ∙ ap (λ said. branchCount (said .kind) (said .n)) (sym h))
+
+  -- they are refused
+  pub branches-refused : (refusal : Refusal) (at : ℕ) → answer ≡ LinesAnswer.Refused refusal at → (r : Read) → r ≡ Refused refusal at
+      → RestAsked rest line header r
+  branches-refused refusal at e r said =
+      record {
+        says =
+            λ job h a.
+            ap readSays said
+            ∙ ap withHeader (sym (ap (λ x. linesSay rest x (afterBranches job)) e) ∙ branches-say job h);
+      }
+
+  -- they end, and the end of the file was asked
+  module _ (at next : ℕ) (e : answer ≡ LinesAnswer.Ended at next) (behind : List ℕ) (b : behind ≡ drop at rest) (end : Asked)
+      (q : end ≡ ask (nothingMore (linesOf behind)) FileGoesOn Asked.Passed) where
+    -- the end decides, and then the branching
+    end-decides : (job : Job) → headerOf job ≡ header
+        → askAfter job line (linesOf rest) ≡ onLine next end (onLine 0 (askTree (job .kind) (job .n) (job .ancestors)) (value job))
+    unfolding askEnd
+    end-decides job h =
+        sym (branches-say job h)
+        ∙ ap (λ x. linesSay rest x (afterBranches job)) e
+        ∙ ap (λ x. onLine next x (onLine 0 (askTree (job .kind) (job .n) (job .ancestors)) (value job)))
+        (ap (λ text. ask (nothingMore (linesOf text)) FileGoesOn Asked.Passed) (sym b) ∙ sym q)
+
+    -- the file goes on
+    pub end-refused : (refusal : Refusal) → end ≡ Asked.Refused refusal → (r : Read) → r ≡ Refused refusal next → RestAsked rest line header r
+    end-refused refusal t r said =
+        record {
+          says =
+              λ job h a.
+              ap readSays said
+              ∙ sym (ap withHeader
+              (end-decides job h ∙ ap (λ x. onLine next x (onLine 0 (askTree (job .kind) (job .n) (job .ancestors)) (value job))) t));
+        }
+
+    -- the `C` lines have the right form
+    pub branches-formed : BranchesFormed (branchCount (header .kind) (header .n)) rest
+    branches-formed = rw c at (asked .ends at next e .1)
+
+    -- it ends: the branching decides
+    pub tree-decides : end ≡ Asked.Passed → (tree : Asked)
+        → tree ≡ askTree (header .kind) (header .n) (map ancestorIn (take (branchCount (header .kind) (header .n)) (linesOf rest)))
+        → (r : Read) → r ≡ headerOn 0 tree header → RestAsked rest line header r
+    tree-decides t tree w r said =
+        record {
+          says =
+              λ job h a.
+              ap readSays said
+              ∙ ap₂ (λ x found. readSays (headerOn 0 x found))
+              (w ∙ ap₂ (λ found above. askTree (found .kind) (found .n) above) (sym h) (sym a)) (sym h)
+              ∙ header-on 0 (askTree (job .kind) (job .n) (job .ancestors)) job
+              ∙ sym (ap withHeader
+              (end-decides job h ∙ ap (λ x. onLine next x (onLine 0 (askTree (job .kind) (job .n) (job .ancestors)) (value job))) t));
+        }
 
 -- what stands behind the header of a file, once its rows have been asked
 module _ (file : List ℕ) (header : Header) (passed : ℕ) (p : passed ≡ headerLines header) (rows : List ℕ)
-    (r : linesOf rows ≡ drop passed (linesOf file)) (answer : RowsAnswer) (asked : RowsAsked rows header (passed + 1) answer) where
-  -- what the rows bring, and then the end of the file
-  rows-say : rowsSay rows answer (askEnd (value (jobOf header (linesOf file)))) ≡ askBehind header (linesOf file)
+    (r : linesOf rows ≡ drop passed (linesOf file)) (answer : LinesAnswer) (asked : RowsAsked rows header (passed + 1) answer) where
+  -- the job that its lines say
+  abbrev job : Job
+  job = jobOf header (linesOf file)
+
+  -- what the rows bring, and then what stands behind them
+  rows-say : linesSay rows answer (askAfter job) ≡ askBehind header (linesOf file)
   unfolding askBehind
   rows-say =
-      asked .says (askEnd (value (jobOf header (linesOf file))))
-      ∙ ap₂ (λ k lines. askRows header [] (k + 1) (header .n) lines (askEnd (value (jobOf header (linesOf file))))) p
-      (r ∙ ap (λ k. drop k (linesOf file)) p)
+      asked .says (askAfter job)
+      ∙ ap₂ (λ k lines. askRows header [] (k + 1) (header .n) lines (askAfter job)) p (r ∙ ap (λ k. drop k (linesOf file)) p)
 
   -- the rows are refused
-  pub rows-refused : (refusal : Refusal) (line : ℕ) → answer ≡ RowsAnswer.Refused refusal line
+  pub rows-refused : (refusal : Refusal) (line : ℕ) → answer ≡ LinesAnswer.Refused refusal line
       → refused (refusalNumber refusal) line ≡ withHeader (askBehind header (linesOf file))
-  rows-refused refusal line e =
-      ap withHeader (sym (ap (λ r. rowsSay rows r (askEnd (value (jobOf header (linesOf file))))) e) ∙ rows-say)
+  rows-refused refusal line e = ap withHeader (sym (ap (λ x. linesSay rows x (askAfter job)) e) ∙ rows-say)
 
-  -- they end: the end of the file decides
-  pub rows-ended : (at line : ℕ) → answer ≡ RowsAnswer.Ended at line → (rest : List ℕ) → rest ≡ drop at rows → (end : Asked)
-      → end ≡ ask (nothingMore (linesOf rest)) FileGoesOn Asked.Passed
-      → readSays (headerOn line end header) ≡ withHeader (askBehind header (linesOf file))
-  unfolding askEnd
-  rows-ended at line e rest d end n =
-      header-on line end header (linesOf file)
-      ∙ ap (λ x. withHeader (onLine line x (value (jobOf header (linesOf file)))))
-      (n ∙ ap (λ x. ask (nothingMore (linesOf x)) FileGoesOn Asked.Passed) d)
-      ∙ ap withHeader (sym (ap (λ r. rowsSay rows r (askEnd (value (jobOf header (linesOf file))))) e) ∙ rows-say)
+  -- they end
+  module _ (at line : ℕ) (e : answer ≡ LinesAnswer.Ended at line) where
+    -- in front of a line with a low number
+    pub next-low : header .n ≤ 64 → line ≤ behindRowsMost
+    next-low most = omega (arith, asked .ends at line e .next, p, taken-most (header .weighed))
+
+    -- what stands behind them decides
+    pub rest-decides : (rest : List ℕ) → rest ≡ drop at rows → (said : Read) → RestAsked rest line header said
+        → readSays said ≡ withHeader (askBehind header (linesOf file))
+    unfolding jobOf
+    rest-decides rest d said found =
+        let lines : linesOf rest ≡ behindRows header (linesOf file) =
+        ap linesOf d ∙ asked .ends at line e .rest ∙ ap (drop (header .n)) (r ∙ ap (λ k. drop k (linesOf file)) p) in
+        found .says job refl (ap (λ all. map ancestorIn (take (branchCount (header .kind) (header .n)) all)) (sym lines))
+        ∙ ap withHeader
+        (ap (λ text. askAfter job line (linesOf text)) d ∙ sym (ap (λ x. linesSay rows x (askAfter job)) e) ∙ rows-say)
 
 -- a file that is too long, and an empty one
 pub too-long : (file : List ℕ) → mostBytes < length file → refused 1 0 ≡ withHeader (readAnswer file)

@@ -3,10 +3,10 @@
 use mathlib.Core.Path.{_≡_, refl, sym, ap, ap₂, _∙_}
 use mathlib.Core.List.{List, [], _∷_, _++_}
 use mathlib.Core.Bool.{true, false≢true}
-use Prim.Native.Nat.{ℕ, zero, suc, _≤_, _<_}
+use Prim.Native.Nat.{ℕ, zero, suc, _+_, _≤_, _<_}
 use native.Mathlib.Omega.{arith}
 use borrow.Author.Tests.{le-leb}
-use lib.ListN.{length, getD, drop, length-drop}
+use lib.ListN.{length, getD, drop, length-drop, drop-of-length-le}
 use Rattle.lists.specs.Tests.{every, sameNumbers as sameText}
 use Rattle.lists.proofs.Both.{and-both}
 use Rattle.matrix.specs.Outcomes.{value}
@@ -15,13 +15,17 @@ use Rattle.matrix.specs.declared.refusal.Refusal.the-variants.{FirstLine, Unkno
 use Rattle.matrix.specs.declared.refusal.Asked.the-variants.{Passed}
 use Rattle.matrix.proofs.Passing.{ask-passed}
 use Rattle.matrix_file.specs.declared.answer.Header.{Header}
-use Rattle.matrix_file.specs.Bytes.{tab, lineFeed, wordW, joinedBy}
+use Rattle.matrix_file.specs.Bytes.{tab, lineFeed, joinedBy}
 use Rattle.matrix_file.specs.Decimal.{digitsOf}
-use Rattle.matrix_file.specs.Job.{Job, orderFields, firstText}
+use Rattle.matrix_file.specs.Job.{Job, kindWord, orderFields, firstText}
+use Rattle.matrix_file.specs.declared.answer.Kind.{Kind}
+use Rattle.matrix_file.specs.declared.answer.Kind.the-variants.{Wagner, Own}
+use Rattle.matrix_file.specs.declared.answer.OrderWord.{OrderWord}
+use Rattle.matrix_file.specs.declared.answer.OrderWord.the-variants.{Unsaid}
 use Rattle.matrix_file.specs.Lines.{fieldsOf}
 use Rattle.matrix_file.specs.Optional.{optionalThere, optionalFields, linesTaken, optionalLine}
 use Rattle.matrix_file.specs.Weights.{letterV, weightsForm}
-use Rattle.matrix_file.specs.Header.{orderIn, headerFrom, firstFields, headerIn, headerOf, headerLines, behindHeader}
+use Rattle.matrix_file.specs.Header.{isKind, kindSaid, mostFields, orderSaid, orderIn, headerFrom, firstFields, headerIn, headerOf, headerLines, behindHeader}
 use Rattle.matrix_file.specs.Header.{firstForm, firstLineForm, orderKnown, askFirstLine, askWeights, askHeader}
 use Rattle.matrix_file.proofs.File.Outcomes.{line-passed}
 use Rattle.matrix_file.proofs.File.OptionalLine.{optional-passed, optional-left, optional-split}
@@ -32,9 +36,9 @@ use Rattle.matrix_file.proofs.Text.Parts.{lacks, joined-parts}
 use Rattle.matrix_file.proofs.Text.Plain.{plain, digits-plain, line-fields, line-lacks}
 use Rattle.matrix_file.proofs.Rows.Within.{limits-high}
 
--- the fields that say a header: `W`, n, m, and the word for the order, if any
+-- the fields that say a header: the word of its kind, n, m, and the word for the order, if any
 abbrev headerFields : Header → List (List ℕ)
-headerFields header = wordW ∷ digitsOf (header .n) ∷ digitsOf (header .m) ∷ orderFields (header .order)
+headerFields header = kindWord (header .kind) ∷ digitsOf (header .n) ∷ digitsOf (header .m) ∷ orderFields (header .order)
 
 -- a list of three items or more is these three, and what stands behind them
 three-first : (fields : List (List ℕ)) → 3 ≤ length fields
@@ -51,11 +55,11 @@ unfolding orderKnown orderIn
 fields-read fields behind form known =
     let told = form-tells fields form in
     let single : length (drop 3 fields) ≤ 1 = omega (arith, length-drop 3 fields, told .few) in
-    ap (λ order. wordW ∷ digitsOf (headerFrom fields behind .n) ∷ digitsOf (headerFrom fields behind .m) ∷ order)
+    ap (λ order. kindWord (headerFrom fields behind .kind) ∷ digitsOf (headerFrom fields behind .n) ∷ digitsOf (headerFrom fields behind .m) ∷ order)
     (order-written (drop 3 fields) single known)
-    ∙ ap₂ (λ n m. wordW ∷ n ∷ m ∷ drop 3 fields) (digits-of-number (getD fields 1 []) (told .taxa))
+    ∙ ap₂ (λ n m. kindWord (headerFrom fields behind .kind) ∷ n ∷ m ∷ drop 3 fields) (digits-of-number (getD fields 1 []) (told .taxa))
     (digits-of-number (getD fields 2 []) (told .characters))
-    ∙ ap (λ word. word ∷ getD fields 1 [] ∷ getD fields 2 [] ∷ drop 3 fields) (sym (told .word))
+    ∙ ap (λ word. word ∷ getD fields 1 [] ∷ getD fields 2 [] ∷ drop 3 fields) (told .word)
     ∙ three-first fields (told .several)
 
 -- line 1 of the right form: its fields have it, other lines stand behind it, and it is written in the one way
@@ -88,6 +92,13 @@ module _ (lines : List (List ℕ)) (form : firstLineForm lines ≡ true) where
       by : (xs : List (List ℕ)) → firstLineForm xs ≡ true → xs ≡ getD xs 0 [] ∷ drop 1 xs
       by [] e = absurd (false≢true e)
       by (line ∷ others) e = refl
+
+  -- in an `F` file it has no word for the order
+  pub own-unsaid : headerIn lines .kind ≡ Own → headerIn lines .order ≡ Unsaid
+  unfolding headerIn orderIn
+  own-unsaid own =
+      let three : length (firstFields lines) ≤ 3 = rw own at (form-tells (firstFields lines) first-formed .fits) in
+      ap orderSaid (drop-of-length-le (firstFields lines) three)
 
   -- with a word for the order that is known, it is the line 1 of a job with this header
   pub first-written : orderKnown (firstFields lines) ≡ true → (job : Job) → headerOf job ≡ headerIn lines → firstText job ≡ getD lines 0 []
@@ -150,48 +161,72 @@ module _ (lines : List (List ℕ)) (several : 1 < length lines) (asked : askWeig
       ∙ ap (λ behind. optionalLine (headerIn lines .weighed) letterV (optionalFields (drop 1 lines)) ++ behind)
       (drop-behind (linesTaken (headerIn lines .weighed)) lines)
 
--- line 1 of a job is `W`, n, m, and the word for the order, if any
+-- the word of a kind is known, says the kind and is plain
+kind-known : (kind : Kind) → isKind (kindWord kind) ≡ true
+unfolding isKind sameText
+kind-known Wagner = refl
+kind-known Own = refl
+
+-- it says the kind
+kind-back : (kind : Kind) → kindSaid (kindWord kind) ≡ kind
+unfolding kindSaid sameText
+kind-back Wagner = refl
+kind-back Own = refl
+
+-- it is plain
+kind-plain : (kind : Kind) → plain (kindWord kind) ≡ true
+unfolding every
+kind-plain Wagner = refl
+kind-plain Own = refl
+
+-- a line 1 whose word for the order is left out in an `F` file has not too many fields
+few-fields : (kind : Kind) (order : OrderWord) → (kind ≡ Own → order ≡ Unsaid) → 3 + length (orderFields order) ≤ mostFields kind
+few-fields Wagner order unsaid = omega (arith, order-single order)
+few-fields Own order unsaid = rw (unsaid refl) (omega arith)
+
+-- line 1 of a job is the word of its kind, n, m, and the word for the order, if any
 module _ (job : Job) where
-  -- the fields behind `W`
+  -- the fields behind the first
   abbrev behind : List (List ℕ)
   behind = digitsOf (job .n) ∷ digitsOf (job .m) ∷ orderFields (job .order)
 
   -- its fields hold neither a tab nor a line feed
-  words-plain : every plain (wordW ∷ behind) ≡ true
+  words-plain : every plain (kindWord (job .kind) ∷ behind) ≡ true
   unfolding every
-  words-plain = and-both (digits-plain (job .n)) (and-both (digits-plain (job .m)) (order-plain (job .order)))
+  words-plain = and-both (kind-plain (job .kind)) (and-both (digits-plain (job .n)) (and-both (digits-plain (job .m)) (order-plain (job .order))))
 
   -- its fields are read back
-  pub first-fields : fieldsOf (firstText job) ≡ wordW ∷ behind
+  pub first-fields : fieldsOf (firstText job) ≡ kindWord (job .kind) ∷ behind
   unfolding firstText
-  first-fields = line-fields wordW behind words-plain
+  first-fields = line-fields (kindWord (job .kind)) behind words-plain
 
   -- it holds no line feed
   pub first-lacks : lacks lineFeed (firstText job) ≡ true
   unfolding firstText
-  first-lacks = line-lacks wordW behind words-plain
+  first-lacks = line-lacks (kindWord (job .kind)) behind words-plain
 
   -- behind it stand lines, and among them the `V` line if the job has one: it says the header of the job, and passes
   module _ (rest : List (List ℕ)) (some : 1 ≤ length rest) (within : withinLimits (job .n) (job .m) ≡ true)
-      (found : optionalThere letterV rest ≡ job .weighed) (asked : askWeights (headerOf job) rest ≡ Passed) where
+      (unsaid : job .kind ≡ Own → job .order ≡ Unsaid) (found : optionalThere letterV rest ≡ job .weighed) (asked : askWeights (headerOf job) rest ≡ Passed) where
     -- its header is read back
     header-back : headerIn (firstText job ∷ rest) ≡ headerOf job
     unfolding headerIn orderIn
     header-back =
         ap (λ fields. headerFrom fields rest) first-fields
-        ∙ rw (number-of-digits (job .n), number-of-digits (job .m), order-back (job .order), found)
+        ∙ rw (kind-back (job .kind), number-of-digits (job .n), number-of-digits (job .m), order-back (job .order), found)
 
     -- its form is right
     form-back : firstLineForm (firstText job ∷ rest) ≡ true
-    unfolding firstLineForm firstForm sameText
+    unfolding firstLineForm firstForm
     form-back =
         let high = limits-high (job .n) (job .m) within in
         by rest some
         ∙ ap firstForm first-fields
         ∙ and-both
-        (and-both (le-leb 3 (length (wordW ∷ behind)) (omega arith))
-        (le-leb (length (wordW ∷ behind)) 4 (omega (arith, order-single (job .order)))))
-        (and-both (digits-form (job .n) (omega arith)) (digits-form (job .m) (omega arith)))
+        (and-both (le-leb 3 (length (kindWord (job .kind) ∷ behind)) (omega arith))
+        (rw (kind-back (job .kind))
+        (le-leb (length (kindWord (job .kind) ∷ behind)) (mostFields (job .kind)) (omega (arith, few-fields (job .kind) (job .order) unsaid)))))
+        (and-both (kind-known (job .kind)) (and-both (digits-form (job .n) (omega arith)) (digits-form (job .m) (omega arith))))
       where
         -- a line stands behind it: its fields decide
         by : (lines : List (List ℕ)) → 1 ≤ length lines → firstLineForm (firstText job ∷ lines) ≡ firstForm (fieldsOf (firstText job))

@@ -1,4 +1,4 @@
--- A file is refused by a number from 1 to 11, by 15 or by 16, and by no other. (That each of them is met is shown by the examples.)
+-- A file is refused by a number from 1 to 11 or from 14 to 17, and by no other. (That each of them is met is shown by the examples.)
 use mathlib.Core.Path.{_≡_, refl, ap, _∙_, subst}
 use mathlib.Core.Bool.{Bool, true, false, _&&_, _||_, not, false≢true}
 use mathlib.Core.List.{List, [], _∷_}
@@ -16,27 +16,28 @@ use Rattle.matrix.specs.Outcomes.{ask, Outcome, value, refused, onLine, thenWit
 use Rattle.matrix.specs.Questions.{withinLimits}
 use Rattle.matrix.specs.declared.refusal.Refusal.the-variants.{FileTooLong, FileEmpty, FirstLine, BeyondLimits, NameForm, NameTaken}
 use Rattle.matrix.specs.declared.refusal.Refusal.the-variants.{LineMissing, FieldCount, CodeForm, CodeRange, FileGoesOn}
-use Rattle.matrix.specs.declared.refusal.Refusal.the-variants.{UnknownOrder, WeightForm}
+use Rattle.matrix.specs.declared.refusal.Refusal.the-variants.{UnknownOrder, WeightForm, BranchForm, NotBranching}
 use Rattle.matrix.specs.declared.refusal.Refusal.{Refusal}
 use Rattle.matrix.specs.declared.refusal.Asked.{Asked}
 use Rattle.matrix.specs.declared.refusal.Asked.the-variants.{Passed, Refused}
 use Rattle.matrix_file.specs.declared.answer.Header.{Header}
 use Rattle.matrix_file.specs.Decimal.{codeForm, codeOf}
-use Rattle.matrix_file.specs.Job.{nameForm, differsFromAll}
+use Rattle.matrix_file.specs.Job.{Job, nameForm, differsFromAll}
 use Rattle.matrix_file.specs.Lines.{linesOf, fieldsOf}
 use Rattle.matrix_file.specs.Optional.{askOptional}
 use Rattle.matrix_file.specs.Header.{firstFields, rowLine, headerIn, behindHeader}
 use Rattle.matrix_file.specs.Header.{firstLineForm, orderKnown, askFirstLine, askWeights, askHeader}
 use Rattle.matrix_file.specs.Rows.{nameIn, askCodes, askRow, askRows}
-use Rattle.matrix_file.specs.Reading.{mostBytes, jobOf, nothingMore, askEnd, askBehind, askFile, askLength, readAnswer}
+use Rattle.matrix_file.specs.Branches.{branchCount, branchForm, askBranches, branched, askTree}
+use Rattle.matrix_file.specs.Reading.{mostBytes, jobOf, nothingMore, askEnd, askAfter, askBehind, askFile, askLength, readAnswer}
 
 -- the numbers of the refusals that a file can meet
 abbrev pub fileNumbers : List ℕ
-fileNumbers = 1 ∷ 2 ∷ 3 ∷ 4 ∷ 5 ∷ 6 ∷ 7 ∷ 8 ∷ 9 ∷ 10 ∷ 11 ∷ 15 ∷ 16 ∷ []
+fileNumbers = 1 ∷ 2 ∷ 3 ∷ 4 ∷ 5 ∷ 6 ∷ 7 ∷ 8 ∷ 9 ∷ 10 ∷ 11 ∷ 14 ∷ 15 ∷ 16 ∷ 17 ∷ []
 
 -- the highest of them
 abbrev pub highestNumber : ℕ
-highestNumber = 16
+highestNumber = 17
 
 -- a number is one of these
 abbrev pub OfFile : ℕ → Type 0
@@ -104,6 +105,26 @@ numbered-end : {A : Type 0} (rest : Outcome A) → FileNumbered rest → (line :
 unfolding askEnd among
 numbered-end rest others line lines = numbered-line line (numbered-ask (nothingMore lines) FileGoesOn refl passed) others
 
+-- the `C` lines, and what follows them
+numbered-branches : {A : Type 0} (line v left : ℕ) (lines : List (List ℕ)) (follow : ℕ → List (List ℕ) → Outcome A)
+    → ((k : ℕ) (others : List (List ℕ)) → FileNumbered (follow k others)) → FileNumbered (askBranches line v left lines follow)
+unfolding askBranches among
+numbered-branches line v zero lines follow own = own line lines
+numbered-branches line v (suc left) [] follow own = with-number {number = refusalNumber BranchForm} refl
+numbered-branches line v (suc left) (behind ∷ []) follow own = with-number {number = refusalNumber BranchForm} refl
+numbered-branches line v (suc left) (text ∷ next ∷ lines) follow own =
+    numbered-line line (numbered-ask (branchForm v (fieldsOf text)) BranchForm refl passed)
+    (numbered-branches (suc line) (suc v) left (next ∷ lines) follow own)
+
+-- what stands behind the rows
+numbered-after : (job : Job) (line : ℕ) (lines : List (List ℕ)) → FileNumbered (askAfter job line lines)
+unfolding askAfter among
+numbered-after job line lines =
+    let tree = askTree (job .kind) (job .n) (job .ancestors) in
+    numbered-branches line 2 (branchCount (job .kind) (job .n)) lines (askEnd (onLine 0 tree (value job)))
+    (numbered-end (onLine 0 tree (value job))
+    (numbered-line 0 (numbered-ask (branched (job .kind) (job .n) (job .ancestors)) NotBranching refl passed) with-value))
+
 -- an optional line
 numbered-optional : (there formed : Bool) (refusal : Refusal) (lines : List (List ℕ)) → OfFile (refusalNumber refusal)
     → Numbered (askOptional there formed refusal lines)
@@ -124,8 +145,8 @@ numbered-header lines =
 numbered-behind : (header : Header) (lines : List (List ℕ)) → FileNumbered (askBehind header lines)
 unfolding askBehind
 numbered-behind header lines =
-    numbered-rows header [] (rowLine header 1) (header .n) (behindHeader header lines) (askEnd (value (jobOf header lines)))
-    (numbered-end (value (jobOf header lines)) with-value)
+    numbered-rows header [] (rowLine header 1) (header .n) (behindHeader header lines) (askAfter (jobOf header lines))
+    (numbered-after (jobOf header lines))
 
 -- a whole file
 numbered-file : (file : List ℕ) → FileNumbered (readAnswer file)

@@ -5,13 +5,19 @@ use mathlib.Core.Bool.{Bool, true, false, false≢true}
 use Prim.Native.Nat.{ℕ, suc, _+_, _≤_}
 use native.Mathlib.Omega.{arith}
 use lib.IntN.{ℤ}
-use lib.ListN.{length, length-append, take, replicate}
-use lib.Seq.{take-at}
+use lib.ListN.{length, length-append, take, drop, replicate}
+use lib.Seq.{take-at, drop-at}
 use borrow.Author.Tests.{le-leb, not-true}
 use Rattle.lists.specs.Tests.{every, sameNumbers as sameText}
 use Rattle.lists.proofs.Every.{every-cons, every-append}
 use Rattle.matrix.specs.Shape.{isWeight}
-use Rattle.matrix.specs.Outcomes.{value, thenWith}
+use Rattle.lists.specs.Numbers.{numbers}
+use Rattle.lists.proofs.Numbers.{length-numbers}
+use Rattle.lists.proofs.Maps.{length-zip}
+use Rattle.lists.proofs.Both.{and-left}
+use Rattle.matrix.specs.Questions.{oneTo, withinLimits}
+use Rattle.matrix.specs.Outcomes.{value, onLine, thenWith}
+use Rattle.matrix.proofs.Passing.{oneTo-true}
 use Rattle.matrix_file.specs.Bytes.{lineFeed, partsAt}
 use Rattle.matrix.specs.declared.refusal.Refusal.the-variants.{WeightForm}
 use Rattle.matrix.specs.declared.refusal.Asked.the-variants.{Passed}
@@ -21,29 +27,25 @@ use Rattle.matrix_file.specs.Job.{Job, JobWithinLimits, firstText, weigh
 use Rattle.matrix_file.specs.Lines.{linesOf, fieldsOf}
 use Rattle.matrix_file.specs.Header.{rowLine, headerOf, behindHeader, askWeights}
 use Rattle.matrix_file.specs.Rows.{nameIn, codesIn, askRows}
-use Rattle.matrix_file.specs.Reading.{mostBytes, rowLines, jobOf, nothingMore, askEnd, askBehind, askFile, askLength, readAnswer}
-use Rattle.matrix_file.proofs.File.FileLength.{file-short}
+use Rattle.matrix_file.specs.Branches.{branchCount, ancestorIn, branchText, branchTexts, askBranches, askTree}
+use Rattle.matrix_file.specs.Reading.{mostBytes, rowLines, behindRows, branchLines, jobOf, nothingMore, askEnd, askAfter, askBehind}
+use Rattle.matrix_file.specs.Reading.{askFile, askLength, readAnswer}
+use Rattle.matrix_file.proofs.File.FileLength.{count-most, job-nodes, file-short}
 use Rattle.matrix_file.proofs.File.OptionalLine.{optional-found, optional-fields, optional-behind, optional-passes, optional-lacks}
 use Rattle.matrix_file.proofs.File.WeightFields.{weights-back, weights-plain, written-form}
 use Rattle.matrix_file.proofs.File.HeaderRead.{first-lacks, header-passes}
 use Rattle.matrix_file.proofs.Text.Parts.{lacks, parts-ended}
-use Rattle.matrix_file.proofs.Rows.Within.{RowsWithin, rows-first, job-rows}
+use Rattle.matrix_file.proofs.Rows.Within.{RowsWithin, rows-first, job-rows, limits-high}
+use Rattle.matrix_file.proofs.BranchLines.Written.{AreNodes, branches-pass, branches-back, branches-lack}
 use Rattle.matrix_file.proofs.Rows.WrittenRows.{row-name, rows-lack, rows-pass, names-back, rows-back}
 
--- two lists of one length, item by item
-length-zip : {A B C : Type 0} (f : A → B → C) (xs : List A) (ys : List B) → length ys ≡ length xs → length (zipWith f xs ys) ≡ length xs
-unfolding zipWith
-length-zip f [] ys e = refl
-length-zip f (x ∷ xs) [] e = absurd (omega arith)
-length-zip f (x ∷ xs) (y ∷ ys) e = ap suc (length-zip f xs ys (omega arith))
-
 -- without a `V` line, row 1 is not named `V`, and so no `V` line is found
-row-first : {m : ℕ} {earlier : List (List ℕ)} (names : List (List ℕ)) (rows : List (List ℤ)) → RowsWithin m earlier names rows
-    → letterFree false letterV names ≡ true → optionalThere letterV (zipWith rowText names rows ++ ([] ∷ [])) ≡ false
+row-first : {m : ℕ} {earlier : List (List ℕ)} (names : List (List ℕ)) (rows : List (List ℤ)) (rest : List (List ℕ)) → 1 ≤ length names
+    → RowsWithin m earlier names rows → letterFree false letterV names ≡ true → optionalThere letterV (zipWith rowText names rows ++ rest) ≡ false
 unfolding letterFree optionalThere zipWith nameIn fieldsOf partsAt sameText
-row-first [] rows within free = refl
-row-first (name ∷ names) [] within free = absurd (omega (arith, within .count))
-row-first (name ∷ names) (codes ∷ rows) within free =
+row-first [] rows rest some within free = absurd (omega arith)
+row-first (name ∷ names) [] rest some within free = absurd (omega (arith, within .count))
+row-first (name ∷ names) (codes ∷ rows) rest some within free =
     ap (λ first. sameText first (letterV ∷ [])) (row-name name codes (rows-first within .formed)) ∙ not-true _ free
 
 -- weights that are written in front of lines, if they are
@@ -64,10 +66,19 @@ module _ (m : ℕ) (weights : List ℕ) (count : length weights ≡ m) (known : 
       ap (map weightIn) (optional-fields letterV (map weightText weights) (weights-plain weights) rest) ∙ weights-back weights
   said-back false unsaid = sym (unsaid refl)
 
+-- some lines and another one behind them begin with a line
+begins : (texts : List (List ℕ)) (last : List ℕ) → (next : List ℕ) × (others : List (List ℕ)) × (texts ++ (last ∷ []) ≡ next ∷ others)
+begins [] last = (last, [], refl)
+begins (text ∷ texts) last = (text, texts ++ (last ∷ []), refl)
+
 module _ (job : Job) (within : JobWithinLimits job) where
-  -- the lines of its rows, and nothing behind them
+  -- its `C` lines, and nothing behind them
+  abbrev rest : List (List ℕ)
+  rest = branchTexts (job .ancestors) ++ ([] ∷ [])
+
+  -- the lines of its rows, and these
   abbrev texts : List (List ℕ)
-  texts = rowTexts job ++ ([] ∷ [])
+  texts = rowTexts job ++ rest
 
   -- the lines behind line 1
   abbrev behind : List (List ℕ)
@@ -75,14 +86,18 @@ module _ (job : Job) (within : JobWithinLimits job) where
 
   -- its lines are read back from its file
   lines-back : linesOf (fileOf job) ≡ firstText job ∷ behind
-  unfolding linesOf fileOf
+  unfolding linesOf fileOf branchTexts
   lines-back =
-      parts-ended (firstText job ∷ weightLine job ++ rowTexts job)
-      (every-cons (lacks lineFeed) (firstText job) (weightLine job ++ rowTexts job) (first-lacks job)
-      (every-append (lacks lineFeed) (weightLine job) (rowTexts job)
+      let said = rowTexts job ++ branchTexts (job .ancestors) in
+      parts-ended (firstText job ∷ weightLine job ++ said)
+      (every-cons (lacks lineFeed) (firstText job) (weightLine job ++ said) (first-lacks job)
+      (every-append (lacks lineFeed) (weightLine job) said
       (optional-lacks (job .weighed) letterV (map weightText (job .weights)) (weights-plain (job .weights)))
-      (rows-lack (job .names) (job .rows) (within .names-formed))))
-      ∙ ap (_∷_ (firstText job)) (append-assoc (weightLine job) (rowTexts job) ([] ∷ []))
+      (every-append (lacks lineFeed) (rowTexts job) (branchTexts (job .ancestors))
+      (rows-lack (job .names) (job .rows) (within .names-formed)) (branches-lack 2 (job .ancestors)))))
+      ∙ ap (_∷_ (firstText job))
+      (append-assoc (weightLine job) said ([] ∷ [])
+      ∙ ap (λ others. weightLine job ++ others) (append-assoc (rowTexts job) (branchTexts (job .ancestors)) ([] ∷ [])))
 
   -- its file is neither too long nor empty
   some-bytes : 1 ≤ length (fileOf job)
@@ -91,7 +106,21 @@ module _ (job : Job) (within : JobWithinLimits job) where
 
   -- lines stand behind line 1, and behind a `V` line
   some-texts : 1 ≤ length texts
-  some-texts = rw length-append (omega arith)
+  some-texts = simp length-append (omega arith)
+
+  -- there is a name
+  some-names : 1 ≤ length (job .names)
+  unfolding withinLimits
+  some-names =
+      omega (
+        arith,
+        within .name-count,
+        oneTo-true 64 (job .n) (and-left (oneTo 64 (job .n)) (oneTo 128 (job .m)) (within .limits)) .0,
+      )
+
+  -- each ancestor is a node's number
+  nodes : AreNodes (job .ancestors)
+  nodes = job-nodes job within
 
   -- its `V` line is found if it has one, and only then
   line-found : optionalThere letterV behind ≡ job .weighed
@@ -101,7 +130,7 @@ module _ (job : Job) (within : JobWithinLimits job) where
       by : (weighed : Bool) → letterFree weighed letterV (job .names) ≡ true
           → optionalThere letterV (optionalLine weighed letterV (map weightText (job .weights)) ++ texts) ≡ weighed
       by true free = optional-found letterV (map weightText (job .weights)) (weights-plain (job .weights)) texts
-      by false free = row-first (job .names) (job .rows) (job-rows job within) free
+      by false free = row-first (job .names) (job .rows) rest some-names (job-rows job within) free
 
   -- its weights pass their question
   weights-pass : askWeights (headerOf job) behind ≡ Passed
@@ -114,18 +143,41 @@ module _ (job : Job) (within : JobWithinLimits job) where
   behind-back : behindHeader (headerOf job) (firstText job ∷ behind) ≡ texts
   behind-back = optional-behind (job .weighed) letterV (map weightText (job .weights)) texts
 
+  -- there are n rows
+  rows-count : length (rowTexts job) ≡ job .n
+  rows-count = length-zip rowText (job .names) (job .rows) (job-rows job within .count) ∙ within .name-count
+
   -- the first n of them are the rows
   texts-back : rowLines (headerOf job) (firstText job ∷ behind) ≡ rowTexts job
   texts-back =
-      ap (take (job .n)) behind-back
-      ∙ take-at (rowTexts job) ([] ∷ []) (job .n)
-      (length-zip rowText (job .names) (job .rows) (job-rows job within .count) ∙ within .name-count)
+      ap (take (job .n)) behind-back ∙ take-at (rowTexts job) rest (job .n) rows-count
+
+  -- the lines behind them are its `C` lines
+  rest-back : behindRows (headerOf job) (firstText job ∷ behind) ≡ rest
+  rest-back = ap (drop (job .n)) behind-back ∙ drop-at (rowTexts job) rest (job .n) rows-count
+
+  -- as many as there are ancestors
+  branches-texts : branchLines (headerOf job) (firstText job ∷ behind) ≡ branchTexts (job .ancestors)
+  unfolding branchTexts
+  branches-texts =
+      let nodes = numbers 2 (length (job .ancestors)) in
+      ap (take (branchCount (job .kind) (job .n))) rest-back
+      ∙ take-at (branchTexts (job .ancestors)) ([] ∷ []) (branchCount (job .kind) (job .n))
+      (length-zip branchText nodes (job .ancestors) (sym (length-numbers 2 (length (job .ancestors))))
+      ∙ length-numbers 2 (length (job .ancestors))
+      ∙ within .branch-count)
+
+  -- they say its ancestors
+  ancestors-back : map ancestorIn (branchLines (headerOf job) (firstText job ∷ behind)) ≡ job .ancestors
+  unfolding branchTexts
+  ancestors-back = ap (map ancestorIn) branches-texts ∙ branches-back 2 (job .ancestors)
 
   -- so the lines say the job
   job-back : jobOf (headerOf job) (firstText job ∷ behind) ≡ job
   unfolding jobOf
   job-back = λ i.
       record {
+        kind = job .kind;
         n = job .n;
         m = job .m;
         order = job .order;
@@ -135,23 +187,36 @@ module _ (job : Job) (within : JobWithinLimits job) where
             (within .weights-unsaid) i;
         names = (ap (map nameIn) texts-back ∙ names-back (job .names) (job .rows) (job-rows job within)) i;
         rows = (ap (map codesIn) texts-back ∙ rows-back (job .names) (job .rows) (job-rows job within)) i;
+        ancestors = ancestors-back i;
       }
 
-  -- they pass their questions
+  -- its `C` lines and the end of the file pass their questions, and its branching is one
+  rest-passes : (line : ℕ) → askAfter job line rest ≡ value job
+  unfolding askAfter askEnd nothingMore branchTexts
+  rest-passes line =
+      let follow = askEnd (onLine 0 (askTree (job .kind) (job .n) (job .ancestors)) (value job)) in
+      ap (λ count. askBranches line 2 count rest follow) (sym (within .branch-count))
+      ∙ branches-pass line 2 (job .ancestors) [] [] follow (omega (arith, within .branch-count, count-most (job .kind) (job .n), limits-high (job .n) (job .m) (within .limits) .0)) nodes
+      ∙ rw (within .branching-said)
+
+  -- what stands behind the header passes its questions
   behind-passes : askBehind (headerOf job) (firstText job ∷ behind) ≡ value job
-  unfolding askBehind askEnd nothingMore
+  unfolding askBehind
   behind-passes =
-      let follow = askEnd (value (jobOf (headerOf job) (firstText job ∷ behind))) in
-      ap₂ (λ n lines. askRows (headerOf job) [] (rowLine (headerOf job) 1) n lines follow) (sym (within .name-count)) behind-back
-      ∙ rows-pass (headerOf job) [] (rowLine (headerOf job) 1) (job .names) (job .rows) [] [] follow (job-rows job within)
-      ∙ ap value job-back
+      let follow = askAfter (jobOf (headerOf job) (firstText job ∷ behind)) in
+      let next = begins (branchTexts (job .ancestors)) [] in
+      ap₂ (λ n lines. askRows (headerOf job) [] (rowLine (headerOf job) 1) n lines follow) (sym (within .name-count))
+      (behind-back ∙ ap (λ others. rowTexts job ++ others) (next .2))
+      ∙ rows-pass (headerOf job) [] (rowLine (headerOf job) 1) (job .names) (job .rows) (next .0) (next .1) follow (job-rows job within)
+      ∙ ap₂ (λ said lines. askAfter said (rowLine (headerOf job) 1 + length (job .names)) lines) job-back (sym (next .2))
+      ∙ rest-passes (rowLine (headerOf job) 1 + length (job .names))
 
   -- and so do all lines
   lines-pass : askFile (firstText job ∷ behind) ≡ value job
   unfolding askFile
   lines-pass =
       ap (λ outcome. thenWith outcome (λ header. askBehind header (firstText job ∷ behind)))
-      (header-passes job behind (rw length-append (omega (arith, some-texts))) (within .limits) line-found weights-pass)
+      (header-passes job behind (rw length-append (omega (arith, some-texts))) (within .limits) (within .order-unsaid) line-found weights-pass)
       ∙ behind-passes
 
   -- so its file is accepted with the job

@@ -66,23 +66,34 @@ pub lines-start : (rows : List ℕ) (n : ℕ) → LinesLeft rows n 0 0
 unfolding linesOf
 lines-start rows n = record { some = omega arith; inside = omega arith; lines = sym (from-start lineFeed rows) }
 
--- one line of a walk over a text with more than n lines
-module _ (rows : List ℕ) (n at done : ℕ) (rest line : List ℕ) (more : n < length (linesOf rows)) (walk : LinesLeft rows n at done)
-    (h : done < n) (r : rest ≡ drop at rows) (l : line ≡ firstPart lineFeed rest) where
+-- one line of a walk
+module _ (rows : List ℕ) (n at done : ℕ) (rest line : List ℕ) (walk : LinesLeft rows n at done) (h : done < n) (r : rest ≡ drop at rows)
+    (l : line ≡ firstPart lineFeed rest) where
   -- the lines that are left: this one, and those behind it
   these : drop done (linesOf rows) ≡ line ∷ partsFrom lineFeed rows (at + length line + 1)
   these = walk .lines ∙ from-next lineFeed rows at rest line (walk .inside) r l
 
   -- it is line `done` of the text
+  pub line-here : getD (linesOf rows) done [] ≡ line
+  line-here = rest-at (linesOf rows) done line _ these []
+
+  -- the walk goes on behind it, if the next line begins within the text
+  pub walk-on : at + length line + 1 ≤ length rows → LinesLeft rows n (at + length line + 1) (done + 1)
+  walk-on inside = record { some = omega arith; inside = inside; lines = rest-next (linesOf rows) done line _ these }
+
+-- one line of a walk over a text with more than n lines
+module _ (rows : List ℕ) (n at done : ℕ) (rest line : List ℕ) (more : n < length (linesOf rows)) (walk : LinesLeft rows n at done)
+    (h : done < n) (r : rest ≡ drop at rows) (l : line ≡ firstPart lineFeed rest) where
+  -- it is one of the first n lines
   line-at : getD (take n (linesOf rows)) done [] ≡ line
-  line-at = getD-take n (linesOf rows) done [] h ∙ rest-at (linesOf rows) done line _ these []
+  line-at = getD-take n (linesOf rows) done [] h ∙ line-here rows n at done rest line walk h r l
 
   -- it is not the last part: the next line begins within the text
-  next-inside : at + length line + 1 ≤ length rows
-  next-inside = by (leb (at + length line + 1) (length rows)) refl
+  pub line-ended : at + length line + 1 ≤ length rows
+  line-ended = by (leb (at + length line + 1) (length rows)) refl
     where
       left : drop (done + 1) (linesOf rows) ≡ partsFrom lineFeed rows (at + length line + 1)
-      left = rest-next (linesOf rows) done line _ these
+      left = rest-next (linesOf rows) done line _ (these rows n at done rest line walk h r l)
 
       by : (t : Bool) → leb (at + length line + 1) (length rows) ≡ t → at + length line + 1 ≤ length rows
       by true e = leb-true (at + length line + 1) (length rows) e
@@ -91,8 +102,26 @@ module _ (rows : List ℕ) (n at done : ℕ) (rest line : List ℕ) (more : n < 
           absurd (omega (arith, ap length (left ∙ past), length-drop (done + 1) (linesOf rows)))
 
   -- the walk goes on behind it
-  walk-next : LinesLeft rows n (at + length line + 1) (done + 1)
-  walk-next = record { some = omega arith; inside = next-inside; lines = rest-next (linesOf rows) done line _ these }
+  pub lines-next : LinesLeft rows n (at + length line + 1) (done + 1)
+  lines-next = walk-on rows n at done rest line walk h r l line-ended
+
+  -- what it says is the next item of what the lines say
+  pub line-says : {A : Type 0} (says : List ℕ → A) (none : A) → none ≡ says []
+      → getD (map says (take n (linesOf rows))) done none ≡ says line
+  line-says says none e =
+      ap (getD (map says (take n (linesOf rows))) done) e
+      ∙ List·getD-map says (take n (linesOf rows)) done []
+      ∙ ap says line-at
+
+  -- what it says is one item more of what the lines passed say
+  pub line-more : {A : Type 0} (says : List ℕ → A)
+      → take (done + 1) (map says (take n (linesOf rows))) ≡ take done (map says (take n (linesOf rows))) ++ (says line ∷ [])
+  line-more says =
+      let room : done < length (map says (take n (linesOf rows))) =
+      omega (arith, more, length-map (take n (linesOf rows)) says, length-take n (linesOf rows)) in
+      ap (λ k. take k (map says (take n (linesOf rows)))) (add-one done)
+      ∙ take-suc (map says (take n (linesOf rows))) done (says []) room
+      ∙ ap (λ x. take done (map says (take n (linesOf rows))) ++ (x ∷ [])) (line-says says (says []) refl)
 
 -- the same, where only the length of the line is known
 pub line-behind : (rows rest : List ℕ) (n at done size : ℕ) → n < length (linesOf rows) → LinesLeft rows n at done → done < n
@@ -100,7 +129,7 @@ pub line-behind : (rows rest : List ℕ) (n at done size : ℕ) → n < length (
 line-behind rows rest n at done size more walk h r e =
     let long : length (firstPart lineFeed rest) ≡ size = first-length lineFeed rest ∙ sym e in
     subst (λ k. LinesLeft rows n (at + k + 1) (done + 1)) long
-    (walk-next rows n at done rest (firstPart lineFeed rest) more walk h r refl)
+    (lines-next rows n at done rest (firstPart lineFeed rest) more walk h r refl)
 
 -- all lines passed: those of the rest are the lines behind them
 pub lines-behind : (rows rest : List ℕ) (n at done : ℕ) → LinesLeft rows n at done → n ≤ done → rest ≡ drop at rows
@@ -113,34 +142,11 @@ lines-behind rows rest n at done walk h r =
     ∙ sym (walk .lines)
     ∙ ap (λ k. drop k (partsAt lineFeed rows)) all
 
--- one line of a walk over well-formed rows
-module _ (rows : List ℕ) (n at done : ℕ) (rest line : List ℕ) (formed : RowsFormed n rows) (walk : LinesLeft rows n at done)
-    (h : done < n) (r : rest ≡ drop at rows) (l : line ≡ firstPart lineFeed rest) where
-  -- it is line `done` of the text
-  this : getD (take n (linesOf rows)) done [] ≡ line
-  this = line-at rows n at done rest line (formed .count) walk h r l
-
-  -- it is well formed
-  pub line-formed : RowFormed line
-  line-formed =
-      let room : done < length (take n (linesOf rows)) = omega (arith, formed .count, length-take n (linesOf rows)) in
-      row-formed line (ap rowForm (sym this) ∙ every-at rowForm (take n (linesOf rows)) (formed .formed) done [] room)
-
-  -- what it says is one item more of what the lines passed say
-  pub line-more : {A : Type 0} (says : List ℕ → A)
-      → take (done + 1) (map says (take n (linesOf rows))) ≡ take done (map says (take n (linesOf rows))) ++ (says line ∷ [])
-  line-more says =
-      let room : done < length (map says (take n (linesOf rows))) =
-      omega (arith, formed .count, length-map (take n (linesOf rows)) says, length-take n (linesOf rows)) in
-      ap (λ k. take k (map says (take n (linesOf rows)))) (add-one done)
-      ∙ take-suc (map says (take n (linesOf rows))) done (says []) room
-      ∙ ap (λ x. take done (map says (take n (linesOf rows))) ++ (x ∷ []))
-      (List·getD-map says (take n (linesOf rows)) done [] ∙ ap says this)
-
-  -- the next line begins within the text
-  pub line-ended : at + length line + 1 ≤ length rows
-  line-ended = next-inside rows n at done rest line (formed .count) walk h r l
-
-  -- the walk goes on behind it
-  pub lines-next : LinesLeft rows n (at + length line + 1) (done + 1)
-  lines-next = walk-next rows n at done rest line (formed .count) walk h r l
+-- one line of a walk over well-formed rows is well formed
+pub line-formed : (rows : List ℕ) (n at done : ℕ) (rest line : List ℕ) → RowsFormed n rows → LinesLeft rows n at done → done < n
+    → rest ≡ drop at rows → line ≡ firstPart lineFeed rest → RowFormed line
+line-formed rows n at done rest line formed walk h r l =
+    let room : done < length (take n (linesOf rows)) = omega (arith, formed .count, length-take n (linesOf rows)) in
+    row-formed line
+    (ap rowForm (sym (line-at rows n at done rest line (formed .count) walk h r l))
+    ∙ every-at rowForm (take n (linesOf rows)) (formed .formed) done [] room)

@@ -16,7 +16,8 @@ use Rattle.lists.proofs.Over.{length-over, over-item, over-behind}
 use Rattle.lists.proofs.Stripes.{Narrow, length-stripes, stripes-item, stripes-else}
 use Rattle.matrix.specs.declared.refusal.Refusal.the-variants.{ListSize}
 use Rattle.matrix.specs.declared.refusal.Asked.the-variants.{Passed}
-use Rattle.matrix.specs.Outcomes.{ask, value, afterwards}
+use Rattle.matrix.specs.Outcomes.{value, afterwards}
+use Rattle.branching.specs.LentNumbers.{lentNumbers}
 use Rattle.matrix_file.specs.declared.answer.Header.{Header}
 use Rattle.matrix.specs.Shape.{columns, matrixSize, row, isWeight}
 use Rattle.lists.specs.Tests.{every}
@@ -25,13 +26,14 @@ use Rattle.matrix_file.specs.declared.answer.Read.{Read}
 use Rattle.matrix_file.specs.declared.answer.Read.the-variants.{Accepted}
 use Rattle.matrix_file.specs.Job.{Job, JobWithinLimits, hasCodes, nameForm, nameSize}
 use Rattle.matrix_file.specs.Reading.{readAnswer}
-use Rattle.matrix_file.specs.Report.{readSays, fullSize, readOutcome, ReadDone}
+use Rattle.matrix_file.specs.Report.{readSays, askSize, readOutcome, ReadDone}
 use Rattle.matrix_file.specs.Header.{headerOf}
-use Rattle.matrix_file.specs.Written.{namesSize, padded, matrixWritten, weightsWritten, namesWritten}
+use Rattle.matrix_file.specs.Written.{namesSize, padded, matrixWritten, weightsWritten, namesWritten, LentLists, jobWritten}
 use Rattle.matrix.proofs.Passing.{ask-passed, oneTo-true}
 use Rattle.matrix_file.proofs.File.FileLength.{name-length}
 use Rattle.matrix_file.proofs.File.FileOfRead.{file-of-read}
 use Rattle.matrix_file.proofs.File.AcceptedRows.{accepted-job}
+use Rattle.matrix_file.proofs.Lists.ReadWalk.{lists-full, sized}
 use Rattle.matrix_file.proofs.File.Outcomes.{line-passed, then-passed}
 
 -- items of which none is too wide, by their places
@@ -175,56 +177,32 @@ module _ (job : Job) (within : JobWithinLimits job) where
         ∙ stripes-else nameSize 0 0 (map padded (job .names)) old names-narrow k j none low
         ∙ ap (λ i. getD old i 0) place
 
--- what an accepted read tells: the file says a job within the limits, with this header; the matrix and the weights had their full size; and
--- what the lists then hold
-pub record Accepting
-    (file : List ℕ)
-    (oldMatrix : List ℤ)
-    (oldWeights : List ℕ)
-    (oldNames : List ℕ)
-    (newMatrix : List ℤ)
-    (newWeights : List ℕ)
-    (newNames : List ℕ)
-    (header : Header) : Type 0 where
+-- what an accepted read tells: the file says a job within the limits, with this header; the lists had their full size; and the job was
+-- written into them
+pub record Accepting (file : List ℕ) (old new : LentLists) (header : Header) : Type 0 where
   pub job : Job
   pub read : readAnswer file ≡ value job
   pub within : JobWithinLimits job
   pub says : headerOf job ≡ header
-  pub full : length oldMatrix ≡ matrixSize
-  pub weights-full : length oldWeights ≡ columns
-  pub matrix : newMatrix ≡ matrixWritten (job .rows) oldMatrix
-  pub weights : newWeights ≡ weightsWritten (job .weights) oldWeights
-  pub names : newNames ≡ namesWritten (job .names) oldNames
+  pub sizes :
+      (length (old .matrix) ≡ matrixSize) × (length (old .weights) ≡ columns) × (length (old .names) ≡ namesSize)
+      × (length (old .branches) ≡ lentNumbers)
+  pub written : new ≡ jobWritten job old
 
 -- an accepted read tells so
-pub read-accepting : (file : List ℕ) (oldMatrix : List ℤ) (oldWeights oldNames : List ℕ) (newMatrix : List ℤ)
-    (newWeights newNames : List ℕ) (r : Read) (header : Header)
-    → ReadDone file oldMatrix oldWeights oldNames newMatrix newWeights newNames r → r ≡ Accepted header
-    → Accepting file oldMatrix oldWeights oldNames newMatrix newWeights newNames header
-unfolding readOutcome fullSize
-read-accepting file oldMatrix oldWeights oldNames newMatrix newWeights newNames r header done e =
-    let outcome = readOutcome file oldMatrix oldWeights oldNames in
-    let found = then-passed outcome (λ job. value (headerOf job)) header (sym (done .says) ∙ ap readSays e) in
-    let sizes = fullSize oldMatrix oldWeights oldNames in
-    let size = line-passed 0 (ask sizes ListSize Passed) (readAnswer file) (found .0) (found .1) in
-    let full = ask-passed sizes ListSize Passed (size .0) .0 in
-    let is = accepted-job file (found .0) (size .1) in
+pub read-accepting : (file : List ℕ) (old new : LentLists) (r : Read) (header : Header) → ReadDone file old new r → r ≡ Accepted header
+    → Accepting file old new header
+unfolding readOutcome askSize
+read-accepting file old new r header done e =
+    let found = then-passed (readOutcome file old) (λ job. value (headerOf job)) header (sym (done .says) ∙ ap readSays e) in
+    let size = line-passed 0 (askSize old) (readAnswer file) (found .0) (found .1) in
+    let full = ask-passed (sized file old) ListSize Passed (size .0) .0 in
     record {
       job = found .0;
       read = size .1;
       within = file-of-read file (found .0) (size .1) .0;
       says = cc (found .2);
-      full = eqb-true (length oldMatrix) matrixSize (and-left (eqb (length oldMatrix) matrixSize) _ full);
-      weights-full =
-          eqb-true (length oldWeights) columns
-          (and-left (eqb (length oldWeights) columns) _ (and-right (eqb (length oldMatrix) matrixSize) _ full));
-      matrix =
-          done .matrix
-          ∙ ap₂ (λ x job. afterwards x (matrixWritten (job .rows) oldMatrix) oldMatrix) (found .1) is;
-      weights =
-          done .weights
-          ∙ ap₂ (λ x job. afterwards x (weightsWritten (job .weights) oldWeights) oldWeights) (found .1) is;
-      names =
-          done .names
-          ∙ ap₂ (λ x job. afterwards x (namesWritten (job .names) oldNames) oldNames) (found .1) is;
+      sizes = lists-full (length (old .matrix)) (length (old .weights)) (length (old .names)) (length (old .branches)) full;
+      written =
+          done .lists ∙ ap₂ (λ x job. afterwards x (jobWritten job old) old) (found .1) (accepted-job file (found .0) (size .1));
     }

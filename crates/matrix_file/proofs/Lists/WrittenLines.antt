@@ -1,5 +1,5 @@
--- A walk over well-formed rows that writes an item for each line, each at a fixed width behind the one before: the codes of a row, and
--- a name. One law for both.
+-- A walk over lines that writes an item for each, each at a fixed width behind the one before: the codes of a row, a name, or a branch
+-- record. One law for all.
 use mathlib.Core.Path.{_≡_, refl, sym, ap, ap₂, _∙_}
 use mathlib.Core.List.{List, map}
 use mathlib.Core.Bool.{true}
@@ -18,7 +18,6 @@ use Rattle.matrix_file.specs.Bytes.{tab, lineFeed, firstPart, behindPart
 use Rattle.matrix_file.specs.Decimal.{codeForm, codeOf}
 use Rattle.matrix_file.specs.Lines.{linesOf, fieldsOf}
 use Rattle.matrix_file.specs.Rows.{nameIn, codesIn}
-use Rattle.matrix_file.specs.Walk.{RowsFormed}
 use Rattle.matrix_file.specs.Job.{nameSize}
 use Rattle.matrix_file.proofs.File.FileLength.{name-length}
 use Rattle.matrix_file.proofs.Text.Fields.{name-first, codes-behind}
@@ -89,24 +88,24 @@ module _ {A : Type 0} (width : ℕ) (says : List ℕ → List A) (rows : List �
   items-start = record { walk = lines-start rows n; full = refl; written = refl }
 
   -- the items passed are as many as the lines
-  items-count : RowsFormed n rows → (done : ℕ) → done ≤ n → length (take done (map says (take n (linesOf rows)))) ≡ done
-  items-count formed done h =
+  items-count : n < length (linesOf rows) → (done : ℕ) → done ≤ n → length (take done (map says (take n (linesOf rows)))) ≡ done
+  items-count more done h =
       omega (
         arith,
         length-take done (map says (take n (linesOf rows))),
         length-map (take n (linesOf rows)) says,
         length-take n (linesOf rows),
-        formed .count,
+        more,
       )
 
   -- one line more: its item is written over what stands behind the items before it
-  pub items-next : (new last : List A) (at done : ℕ) (rest line : List ℕ) → RowsFormed n rows → n * width ≤ length old
+  pub items-next : (new last : List A) (at done : ℕ) (rest line : List ℕ) → n < length (linesOf rows) → n * width ≤ length old
       → ItemsWritten width says rows n old new at done → done < n → rest ≡ drop at rows → line ≡ firstPart lineFeed rest
       → (item : List A) → item ≡ says line → last ≡ over 0 item (take (length new - done * width) (drop (done * width) new))
       → ItemsWritten width says rows n old (putMid (done * width) (length new - done * width) new last) (at + length line + 1) (done + 1)
-  items-next new last at done rest line formed room inv h r l item i e =
+  items-next new last at done rest line more room inv h r l item i e =
       record {
-        walk = lines-next rows n at done rest line formed (inv .walk) h r l;
+        walk = lines-next rows n at done rest line more (inv .walk) h r l;
         full = ap length one-more ∙ length-stripes width 0 (take (done + 1) (map says (take n (linesOf rows)))) old;
         written = one-more;
       }
@@ -123,10 +122,10 @@ module _ {A : Type 0} (width : ℕ) (says : List ℕ → List A) (rows : List �
           ap (putMid (done * width) (length new - done * width) new) e
           ∙ over-lent (done * width) item new inside
           ∙ ap₂ (over (done * width)) i (inv .written)
-          ∙ ap (λ k. over (k * width) (says line) (stripes width 0 before old)) (sym (items-count formed done (omega arith)))
+          ∙ ap (λ k. over (k * width) (says line) (stripes width 0 before old)) (sym (items-count more done (omega arith)))
           ∙ ap (λ k. over k (says line) (stripes width 0 before old)) (omega arith)
           ∙ sym (stripes-snoc width 0 before (says line) old)
-          ∙ ap (λ items. stripes width 0 items old) (sym (line-more rows n at done rest line formed (inv .walk) h r l says))
+          ∙ ap (λ items. stripes width 0 items old) (sym (line-more rows n at done rest line more (inv .walk) h r l says))
 
   -- all lines
   pub items-all : (new : List A) (at done : ℕ) → ItemsWritten width says rows n old new at done → n ≤ done

@@ -15,7 +15,7 @@ use Rattle.matrix.specs.declared.refusal.Asked.{Asked}
 use Rattle.matrix.specs.declared.refusal.Asked.the-variants as Asked
 use Rattle.matrix.specs.Outcomes.{Outcome, refused, onLine}
 use Rattle.matrix_file.specs.declared.answer.Header.{Header}
-use Rattle.matrix_file.specs.declared.answer.RowsAnswer.the-variants.{Ended, Refused}
+use Rattle.matrix_file.specs.declared.answer.LinesAnswer.the-variants.{Ended, Refused}
 use Rattle.matrix_file.specs.Job.{Job}
 use Rattle.matrix_file.specs.Bytes.{tab, lineFeed, partsAt, partLength, firstPart}
 use Rattle.matrix_file.specs.Lines.{linesOf, fieldsOf}
@@ -26,12 +26,13 @@ use Rattle.matrix_file.proofs.Text.Parts.{parts-some}
 use Rattle.matrix_file.proofs.Text.FirstPart.{Parted, whole, shorter, parted, parts-one, first-of-front}
 use Rattle.matrix_file.proofs.Text.PartsFrom.{partsFrom, from-within, from-past, from-start, from-next, next-within}
 use Rattle.matrix_file.proofs.Text.Fields.{name-first}
+use Rattle.matrix_file.proofs.Lists.LinesWalk.{LinesLeft, lines-start, walk-on}
+use Rattle.matrix_file.proofs.Lists.LinesEnd.{refused-not-ended, lines-passed}
 
 -- what a walk knows when it has passed `done` rows and stands at a place: the lines from there on decide, whatever follows the rows
 pub record RowsLeft (rows : List ℕ) (header : Header) (first : ℕ) (starts : List ℕ) (at done : ℕ) : Type 0 where
   pub places : length starts ≡ 64
-  pub some : done ≤ header .n
-  pub inside : at ≤ length rows
+  pub walk : LinesLeft rows (header .n) at done
   pub decide :
       (follow : ℕ → List (List ℕ) → Outcome Job)
       → askRows header [] first (header .n) (linesOf rows) follow
@@ -44,8 +45,7 @@ unfolding linesOf namesPassed
 walk-start rows header first starts e =
     record {
       places = e;
-      some = omega arith;
-      inside = omega arith;
+      walk = lines-start rows (header .n);
       decide =
           λ follow.
           let number : first ≡ first + 0 = omega arith in
@@ -123,7 +123,7 @@ module _ (rows : List ℕ) (header : Header) (first : ℕ) (starts : List ℕ) (
   this-line follow =
       walk .decide follow
       ∙ ap₂ (λ count lines. askRows header earlier (first + done) count lines follow) (omega arith)
-      (from-next lineFeed rows at rest line (walk .inside) r l)
+      (from-next lineFeed rows at rest line (walk .walk .inside) r l)
 
   -- it is not ended by a line feed
   pub line-missing : at + length line ≡ length rows → RowsAsked rows header first (Refused LineMissing (first + done))
@@ -135,12 +135,13 @@ module _ (rows : List ℕ) (header : Header) (first : ℕ) (starts : List ℕ) (
             ∙ ap (λ lines. askRows header earlier (first + done) (suc left) (line ∷ lines) follow)
             (from-past lineFeed rows (at + length line + 1) (omega arith))
             ∙ only-part header earlier (first + done) left follow line);
+        ends = λ place behind same. absurd (refused-not-ended same);
       }
 
   module _ (ended : at + length line ≡ length rows → ⊥) (answer : Asked) (a : answer ≡ askRow header earlier line) where
     -- the next line begins within the text
     next-inside : at + length line + 1 ≤ length rows
-    next-inside = let end = next-within lineFeed rows at rest line (walk .inside) r l in next end
+    next-inside = let end = next-within lineFeed rows at rest line (walk .walk .inside) r l in next end
       where
         next : at + length line ≤ length rows → at + length line + 1 ≤ length rows
         next end = omega arith
@@ -165,6 +166,7 @@ module _ (rows : List ℕ) (header : Header) (first : ℕ) (starts : List ℕ) (
               λ follow.
               sym (asked follow
               ∙ ap (λ x. onLine (first + done) x (askRows header (nameIn line ∷ earlier) (suc (first + done)) left behind follow)) e);
+          ends = λ place next same. absurd (refused-not-ended same);
         }
 
     -- it passes: its name is the first part of the rows from its start on
@@ -184,8 +186,7 @@ module _ (rows : List ℕ) (header : Header) (first : ℕ) (starts : List ℕ) (
     row-passed some most e =
         record {
           places = length-set starts done at ∙ walk .places;
-          some = omega arith;
-          inside = next-inside;
+          walk = walk-on rows (header .n) at done rest line (walk .walk) h r l next-inside;
           decide =
               λ follow.
               let room : done < length starts = let full = walk .places in omega arith in
@@ -202,13 +203,14 @@ pub walk-ended : (rows : List ℕ) (header : Header) (first : ℕ) (starts : Lis
     → header .n ≤ done → RowsAsked rows header first (Ended at (first + header .n))
 unfolding askRows linesOf
 walk-ended rows header first starts at done walk h =
-    let all : done ≡ header .n = let some = walk .some in omega arith in
+    let all : done ≡ header .n = let some = walk .walk .some in omega arith in
     let none : header .n - done ≡ 0 = omega arith in
     record {
       says =
           λ follow.
           sym (walk .decide follow
           ∙ ap₂ (λ count lines. askRows header (namesPassed rows starts done) (first + done) count lines follow) none
-          (from-within lineFeed rows at (walk .inside))
+          (from-within lineFeed rows at (walk .walk .inside))
           ∙ ap (λ k. follow (first + k) (partsAt lineFeed (drop at rows))) all);
+      ends = lines-passed rows (header .n) first at done (walk .walk) h;
     }

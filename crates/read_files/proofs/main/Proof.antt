@@ -19,6 +19,9 @@ print-long-requires c κs = search needs
 print-few-requires : tie.Need-print-few-requires Inv-loop μ-loop
 print-few-requires c κs = search needs
 
+print-cut-requires : tie.Need-print-cut-requires Inv-loop μ-loop
+print-cut-requires c κs = search needs
+
 open-read-requires : tie.Need-open-read-requires Inv-loop μ-loop
 open-read-requires c κs = search needs
 
@@ -58,6 +61,7 @@ main-spec =
     print-short-requires
     print-long-requires
     print-few-requires
+    print-cut-requires
     open-read-requires
     fail-requires
     returns

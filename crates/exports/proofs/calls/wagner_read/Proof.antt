@@ -28,14 +28,14 @@ same-length-2 c = search needs
 same-length-3 : tie.Need-same-length-3
 same-length-3 c = search needs
 
+same-length-4 : tie.Need-same-length-4
+same-length-4 c = search needs
+
 returns : tie.Need-returns
 returns c =
     let told = c .before .before in
-    let done = told .before .before .before .before .before .before .before in
-    read-refused _ _ _ _ _ _ _ _ (done .read .ensures) _ _ (told .refusal .given .1) _ (c .number .ensures)
-
-same-length-4 : tie.Need-same-length-4
-same-length-4 c = search needs
+    let done = told .before .before .before .before .before .before .before .before .before in
+    read-refused _ _ _ _ (done .read .ensures) _ _ (told .refusal .given .1) _ (c .number .ensures)
 
 same-length-5 : tie.Need-same-length-5
 same-length-5 c = search needs
@@ -43,11 +43,17 @@ same-length-5 c = search needs
 same-length-6 : tie.Need-same-length-6
 same-length-6 c = search needs
 
+same-length-7 : tie.Need-same-length-7
+same-length-7 c = search needs
+
+same-length-8 : tie.Need-same-length-8
+same-length-8 c = search needs
+
 returns-2 : tie.Need-returns-2
 returns-2 c =
     let told = c .before .before in
-    let done = told .before .before .before .before .before .before .before in
-    read-accepted _ _ _ _ _ _ _ _ (done .read .ensures) _ (told .header .given .1) _ (c .accepted .ensures)
+    let done = told .before .before .before .before .before .before .before .before .before in
+    read-accepted _ _ _ _ (done .read .ensures) _ (told .header .given .1) _ (c .accepted .ensures)
 
 pub wagner-read-spec : {M : Type 1} → statement M
 wagner-read-spec =
@@ -61,8 +67,10 @@ wagner-read-spec =
     same-length
     same-length-2
     same-length-3
-    returns
     same-length-4
+    returns
     same-length-5
     same-length-6
+    same-length-7
+    same-length-8
     returns-2)

@@ -1,4 +1,5 @@
 -- `listing::call::list` meets its contract. Assumes nothing.
+use mathlib.Core.Path.{refl}
 use borrow.Author.Needs.{needs}
 use Rattle.listing.proofs.Called.{list-refused, list-written}
 use Rattle.listing.proofs.call.list.Statement.{statement}
@@ -25,16 +26,19 @@ slice-aggregate-put-file-5 c = search needs
 slice-aggregate-put-file-6 : tie.Need-slice-aggregate-put-file-6
 slice-aggregate-put-file-6 c = search needs
 
+slice-aggregate-put-file-7 : tie.Need-slice-aggregate-put-file-7
+slice-aggregate-put-file-7 c = search needs
+
 put-file-requires : tie.Need-put-file-requires
-put-file-requires c κs = search needs
+put-file-requires c κs = ((refl, refl, refl, refl), record { lowFull = refl; highFull = refl; chosenFull = refl })
 
 same-length : tie.Need-same-length
 same-length c = search needs
 
 returns-2 : tie.Need-returns-2
 returns-2 c =
-    let put = c .before .before .before .before .before .before .before .before in
-    let test = put .before .before .before .before .before .before .before .before in
+    let put = c .before .before .before .before .before .before .before .before .before in
+    let test = put .before .before .before .before .before .before .before .before .before in
     list-written _ _ _ _ (test .if1 .left) (put .put-file .ensures)
 
 pub list-spec : {M : Type 1} → statement M
@@ -48,6 +52,7 @@ list-spec =
     slice-aggregate-put-file-4
     slice-aggregate-put-file-5
     slice-aggregate-put-file-6
+    slice-aggregate-put-file-7
     put-file-requires
     same-length
     returns-2)

@@ -1,7 +1,7 @@
 -- `listing::call::put_file` meets its contract: the listing of what was read, or the line of the refusal. Assumes nothing.
 use borrow.Author.Needs.{needs}
 use Rattle.lines.proofs.Puts.{put-same}
-use Rattle.listing.proofs.ReadListed.{refused-printed, accepted-lent, accepted-weighed, accepted-printed}
+use Rattle.listing.proofs.ReadListed.{refused-printed, accepted-lent, accepted-weighed, accepted-branching, accepted-printed}
 use Rattle.listing.proofs.call.put_file.Statement.{statement}
 use Rattle.listing.proofs.call.put_file.Tie as tie
 
@@ -22,14 +22,19 @@ enum-known-header c = search needs
 
 put-job-requires : tie.Need-put-job-requires
 put-job-requires c κs =
-    let header = c .before .before .before .before .before .before .before .before in
-    let read = header .before .before .before .before .before .before .before in
-    let start = read .before .before .before .before .before .before .before .before in
-    let lent = accepted-lent _ _ _ _ _ _ _ _ (read .read .ensures) (start .pre .0 .0) (start .pre .0 .1) (start .pre .0 .2) _
-    (header .header .given .1) in
-    let weighed = accepted-weighed _ _ _ _ _ _ _ _ (read .read .ensures) (start .pre .0 .0) (start .pre .0 .1) (start .pre .0 .2) _
-    (header .header .given .1) in
-    ((lent, weighed), start .pre .1)
+    let header = c .before .before .before .before .before .before .before .before .before in
+    let read = header .before .before .before .before .before .before .before .before .before in
+    let start = read .before .before .before .before .before .before .before .before .before .before in
+    let sizes = start .pre .0 in (
+      (
+        accepted-lent _ _ _ _ (read .read .ensures) (sizes .0) (sizes .1) (sizes .2) (sizes .3) _ (header .header .given .1),
+        accepted-weighed _ _ _ _ (read .read .ensures) (sizes .0) (sizes .1) (sizes .2) (sizes .3) _ (header .header .given .1),
+      ),
+      (
+        accepted-branching _ _ _ _ (read .read .ensures) (sizes .0) (sizes .1) (sizes .2) (sizes .3) _ (header .header .given .1),
+        start .pre .1,
+      ),
+    )
 
 same-length : tie.Need-same-length
 same-length c = search needs
@@ -43,19 +48,19 @@ same-length-3 c = search needs
 same-length-4 : tie.Need-same-length-4
 same-length-4 c = search needs
 
+same-length-5 : tie.Need-same-length-5
+same-length-5 c = search needs
+
 returns : tie.Need-returns
 returns c =
     let put = c .before .before in
     let refusal = put .before .before .before .before in
-    let read = refusal .before .before .before .before .before .before .before in
-    let start = read .before .before .before .before .before .before .before .before in
+    let read = refusal .before .before .before .before .before .before .before .before .before in
+    let sizes = read .before .before .before .before .before .before .before .before .before .before .pre .0 in
     put-same
-    (refused-printed _ _ _ _ _ _ _ _ (read .read .ensures) (start .pre .0 .0) (start .pre .0 .1) (start .pre .0 .2) _ _ _ (put .before .number .ensures)
+    (refused-printed _ _ _ _ (read .read .ensures) (sizes .0) (sizes .1) (sizes .2) (sizes .3) _ _ _ (put .before .number .ensures)
     (refusal .refusal .given .1))
     (put .put-refusal-line .ensures)
-
-same-length-5 : tie.Need-same-length-5
-same-length-5 c = search needs
 
 same-length-6 : tie.Need-same-length-6
 same-length-6 c = search needs
@@ -75,13 +80,19 @@ same-length-10 c = search needs
 same-length-11 : tie.Need-same-length-11
 same-length-11 c = search needs
 
+same-length-12 : tie.Need-same-length-12
+same-length-12 c = search needs
+
+same-length-13 : tie.Need-same-length-13
+same-length-13 c = search needs
+
 returns-2 : tie.Need-returns-2
 returns-2 c =
     let put = c .before .before .before .before .before .before in
-    let header = put .before .before .before .before .before .before .before .before .before in
-    let read = header .before .before .before .before .before .before .before in
-    let start = read .before .before .before .before .before .before .before .before in
-    accepted-printed _ _ _ _ _ _ _ _ (read .read .ensures) (start .pre .0 .0) (start .pre .0 .1) (start .pre .0 .2) _ (header .header .given .1)
+    let header = put .before .before .before .before .before .before .before .before .before .before in
+    let read = header .before .before .before .before .before .before .before .before .before in
+    let sizes = read .before .before .before .before .before .before .before .before .before .before .pre .0 in
+    accepted-printed _ _ _ _ (read .read .ensures) (sizes .0) (sizes .1) (sizes .2) (sizes .3) _ (header .header .given .1)
     (put .put-job .ensures)
 
 pub put-file-spec : {M : Type 1} → statement M
@@ -98,12 +109,14 @@ put-file-spec =
     same-length-2
     same-length-3
     same-length-4
-    returns
     same-length-5
+    returns
     same-length-6
     same-length-7
     same-length-8
     same-length-9
     same-length-10
     same-length-11
+    same-length-12
+    same-length-13
     returns-2)

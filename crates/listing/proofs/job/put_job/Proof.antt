@@ -1,18 +1,20 @@
--- `listing::job::put_job` meets its contract: what is put for what was found is the job's listing. Assumes nothing.
+-- `listing::job::put_job` meets its contract: the listing of the kind of file. Assumes nothing.
 use borrow.Author.Needs.{needs}
-use Rattle.lines.proofs.Puts.{put-same}
-use Rattle.listing.proofs.FoundResults.{results-listed}
+use Rattle.listing.proofs.PutJobs.{built-lists}
 use Rattle.listing.proofs.job.put_job.Statement.{statement}
 use Rattle.listing.proofs.job.put_job.Tie as tie
 
-order-meant-requires : tie.Need-order-meant-requires
-order-meant-requires c κs = search needs
+enum-told : tie.Need-enum-told
+enum-told c = search needs
 
-results-of-requires : tie.Need-results-of-requires
-results-of-requires c κs = search needs
+put-built-requires : tie.Need-put-built-requires
+put-built-requires c κs = (c .before .before .before .before .before .before .before .before .before .before .before .pre .0, (c .before .before .before .before .before .enum-told .given .1, c .before .before .before .before .before .before .before .before .before .before .before .pre .1 .1))
 
-put-results-requires : tie.Need-put-results-requires
-put-results-requires c κs = search needs
+enum-told-2 : tie.Need-enum-told-2
+enum-told-2 c = search needs
+
+put-own-requires : tie.Need-put-own-requires
+put-own-requires c κs = (c .before .before .before .before .before .before .before .before .before .before .before .pre .0, (c .before .before .before .before .before .enum-told2 .given .1, c .before .before .before .before .before .before .before .before .before .before .before .pre .1 .0, c .before .before .before .before .before .before .before .before .before .before .before .pre .1 .1))
 
 same-length : tie.Need-same-length
 same-length c = search needs
@@ -31,26 +33,44 @@ same-length-5 c = search needs
 
 returns : tie.Need-returns
 returns c =
-    let put = c .before .before in
-    let found = put .before .before .before .before .before .before .before .before .before in
-    record {
-      is = λ names named weights same.
-          put-same
-          (results-listed _ _ (found .before .before .before .before .before .order-meant .ensures)
-          _ _ _ _ _ _ (found .results-of .ensures) names _ named weights same)
-          (put .put-results .ensures);
-    }
+    let put = c .before .before .before .before .before .before in
+    built-lists _ (c .before .before .before .before .before .before .before .before .before .before .before .before .enum-told .given .1) _ _ _ _ (put .put-built .ensures)
+
+same-length-6 : tie.Need-same-length-6
+same-length-6 c = search needs
+
+same-length-7 : tie.Need-same-length-7
+same-length-7 c = search needs
+
+same-length-8 : tie.Need-same-length-8
+same-length-8 c = search needs
+
+same-length-9 : tie.Need-same-length-9
+same-length-9 c = search needs
+
+same-length-10 : tie.Need-same-length-10
+same-length-10 c = search needs
+
+returns-2 : tie.Need-returns-2
+returns-2 c = c .before .before .before .before .before .put-own .ensures
 
 pub put-job-spec : {M : Type 1} → statement M
 put-job-spec =
     tie.close
     (tie.spec
-    order-meant-requires
-    results-of-requires
-    put-results-requires
+    enum-told
+    put-built-requires
+    enum-told-2
+    put-own-requires
     same-length
     same-length-2
     same-length-3
     same-length-4
     same-length-5
-    returns)
+    returns
+    same-length-6
+    same-length-7
+    same-length-8
+    same-length-9
+    same-length-10
+    returns-2)

@@ -10,23 +10,31 @@ separators-requires c κs = search needs
 returns : tie.Need-returns
 returns c = too-few _ _ (c .before .separators .ensures) (c .if1 .taken)
 
-returns-2 : tie.Need-returns-2
-returns-2 c = too-many _ _ (c .before .before .separators .ensures) (c .before .if1 .left) (c .if2 .taken)
-
 field-requires : tie.Need-field-requires
 field-requires c κs = search needs
 
-slice-aggregate-same-text : tie.Need-slice-aggregate-same-text
-slice-aggregate-same-text c = search needs
+kind-said-requires : tie.Need-kind-said-requires
+kind-said-requires c κs = search needs
 
-same-text-requires : tie.Need-same-text-requires
-same-text-requires c κs = search needs
+most-tabs-requires : tie.Need-most-tabs-requires
+most-tabs-requires c κs = search needs
+
+returns-2 : tie.Need-returns-2
+returns-2 c =
+    let kind = c .before .before in
+    let word = kind .before in
+    too-many _ _ (word .before .before .separators .ensures) (word .before .if1 .left) _ (word .field .ensures) _ (kind .kind-said .ensures) _
+    (c .before .most-tabs .ensures) (c .if2 .taken)
+
+is-kind-requires : tie.Need-is-kind-requires
+is-kind-requires c κs = search needs
 
 returns-3 : tie.Need-returns-3
 returns-3 c =
-    let word = c .before .before .before in
-    bad-word _ _ (word .before .before .before .separators .ensures) (word .before .before .if1 .left) (word .before .if2 .left) _ _
-    (word .field .ensures) (c .before .same-text .ensures) (c .if3 .taken)
+    let kind = c .before .before .before .before in
+    let word = kind .before in
+    bad-word _ _ (word .before .before .separators .ensures) (word .before .if1 .left) _ (word .field .ensures) _ (kind .kind-said .ensures) _
+    (c .before .before .before .most-tabs .ensures) (c .before .before .if2 .left) _ (c .before .is-kind .ensures) (c .if3 .taken)
 
 field-requires-2 : tie.Need-field-requires-2
 field-requires-2 c κs = search needs
@@ -42,20 +50,22 @@ number-form-requires-2 c κs = search needs
 
 returns-4 : tie.Need-returns-4
 returns-4 c =
-    let first = c .before .before .before in
-    let word = first .before .before .before .before .before in
-    second-number _ _ (word .before .before .before .separators .ensures) (word .before .before .if1 .left) (word .before .if2 .left) _ _
-    (word .field .ensures) (first .before .before .before .same-text .ensures) (first .before .before .if3 .left) _ _
-    (first .before .field2 .ensures) (first .number-form .ensures) (c .before .before .if4 .taken) _ _ (c .before .field3 .ensures)
+    let first = c .before .before .before .before in
+    let most = first .before .before .before in
+    let word = most .before .before .before in
+    second-number _ _ (word .before .before .separators .ensures) (word .before .if1 .left) _ (word .field .ensures) _ (most .before .before .kind-said .ensures) _
+    (most .before .most-tabs .ensures) (most .if2 .left) _ (first .before .before .is-kind .ensures) (first .before .if3 .left) _ _
+    (first .field2 .ensures) (c .before .before .before .number-form .ensures) (c .before .before .if4 .taken) _ _ (c .before .field3 .ensures)
     (c .number-form2 .ensures)
 
 returns-5 : tie.Need-returns-5
 returns-5 c =
-    let first = c .before in
-    let word = first .before .before .before .before .before in
-    bad-number _ _ (word .before .before .before .separators .ensures) (word .before .before .if1 .left) (word .before .if2 .left) _ _
-    (word .field .ensures) (first .before .before .before .same-text .ensures) (first .before .before .if3 .left) _ _
-    (first .before .field2 .ensures) (first .number-form .ensures) (c .if4 .left)
+    let first = c .before .before in
+    let most = first .before .before .before in
+    let word = most .before .before .before in
+    bad-number _ _ (word .before .before .separators .ensures) (word .before .if1 .left) _ (word .field .ensures) _ (most .before .before .kind-said .ensures) _
+    (most .before .most-tabs .ensures) (most .if2 .left) _ (first .before .before .is-kind .ensures) (first .before .if3 .left) _ _
+    (first .field2 .ensures) (c .before .number-form .ensures) (c .if4 .left)
 
 pub first-form-spec : {M : Type 1} → statement M
 first-form-spec =
@@ -63,10 +73,11 @@ first-form-spec =
     (tie.spec
     separators-requires
     returns
-    returns-2
     field-requires
-    slice-aggregate-same-text
-    same-text-requires
+    kind-said-requires
+    most-tabs-requires
+    returns-2
+    is-kind-requires
     returns-3
     field-requires-2
     number-form-requires

@@ -1,11 +1,10 @@
--- `matrix_file::judging::ask_behind` meets its contract: a refusal of the rows stands, and behind them the end of the file decides.
--- Assumes nothing.
+-- `matrix_file::judging::ask_behind` meets its contract: a refusal of the rows stands, and then what stands behind them decides. Assumes nothing.
 use mathlib.Core.Path.{ap, _∙_}
-use Rattle.matrix_file.specs.Report.{readSays}
-use Rattle.matrix_file.proofs.File.OptionalWalk.{taken-most}
-use Rattle.matrix_file.proofs.File.FileWalk.{rows-refused, rows-ended}
 use native.Mathlib.Omega.{arith}
 use borrow.Author.Needs.{needs}
+use Rattle.matrix_file.specs.Report.{readSays}
+use Rattle.matrix_file.proofs.File.OptionalWalk.{taken-most}
+use Rattle.matrix_file.proofs.File.FileWalk.{rows-refused, next-low, rest-decides}
 use Rattle.matrix_file.proofs.judging.ask_behind.Statement.{statement}
 use Rattle.matrix_file.proofs.judging.ask_behind.Tie as tie
 
@@ -38,11 +37,15 @@ enum-known-at c = search needs
 rest-from-requires : tie.Need-rest-from-requires
 rest-from-requires c κs = search needs
 
-ask-end-requires : tie.Need-ask-end-requires
-ask-end-requires c κs = search needs
-
-on-line-requires : tie.Need-on-line-requires
-on-line-requires c κs = search needs
+ask-after-requires : tie.Need-ask-after-requires
+ask-after-requires c κs =
+    let asked = c .before .before .before .before in
+    let behind = asked .before in
+    let start = behind .before .before .before in (
+      start .pre .0 .0,
+      next-low _ _ _ (behind .before .header-lines .ensures) _ (behind .behind-lines .ensures) _ (asked .ask-rows .ensures) _ _ (c .before .before .at .given .1)
+          (start .pre .0 .0),
+    )
 
 returns : tie.Need-returns
 returns c =
@@ -54,12 +57,10 @@ returns c =
 
 returns-2 : tie.Need-returns-2
 returns-2 c =
-    let asked = c .before .before .before .before .before .before in
+    let asked = c .before .before .before .before .before in
     let behind = asked .before in
-    ap readSays (c .on-line .ensures)
-    ∙ rows-ended _ _ _ (behind .before .header-lines .ensures) _ (behind .behind-lines .ensures) _ (asked .ask-rows .ensures) _ _
-    (c .before .before .before .before .at .given .1) _
-    (c .before .before .rest-from .ensures) _ (c .before .ask-end .ensures)
+    rest-decides _ _ _ (behind .before .header-lines .ensures) _ (behind .behind-lines .ensures) _ (asked .ask-rows .ensures) _ _
+    (c .before .before .before .at .given .1) _ (c .before .rest-from .ensures) _ (c .ask-after .ensures)
 
 pub ask-behind-spec : {M : Type 1} → statement M
 ask-behind-spec =
@@ -73,7 +74,6 @@ ask-behind-spec =
     refused-requires
     enum-known-at
     rest-from-requires
-    ask-end-requires
-    on-line-requires
+    ask-after-requires
     returns
     returns-2)

@@ -28,7 +28,7 @@ line-end : (c : tie.After-first-part Inv-loop μ-loop)
 line-end c =
     next-within lineFeed (c .before .before .before .before .before .args .rows .now) (c .before .before .before .loop .at)
     (c .before .rest-from .result .now) (c .first-part .result .now)
-    (c .before .before .before .loop .inv .inside) (c .before .rest-from .ensures) (c .first-part .ensures)
+    (c .before .before .before .loop .inv .walk .inside) (c .before .rest-from .ensures) (c .first-part .ensures)
 
 loop-holds : tie.Need-loop-holds Inv-loop μ-loop
 loop-holds c = walk-start _ _ _ _ refl

@@ -34,7 +34,7 @@ found-ended c =
     line-ended (c .before .before .before .before .before .args .rows .now) (c .before .before .before .before .before .args .n)
     (c .before .before .before .loop .at) (c .before .before .before .loop .done) (c .before .rest-from .result .now)
     (c .first-part .result .now)
-    (c .before .before .before .before .before .pre .1) (c .before .before .before .loop .inv .walk) (c .before .before .loop-test .taken)
+    (c .before .before .before .before .before .pre .1 .count) (c .before .before .before .loop .inv .walk) (c .before .before .loop-test .taken)
     (c .before .rest-from .ensures) (c .first-part .ensures)
 
 loop-holds : tie.Need-loop-holds Inv-loop μ-loop
@@ -104,7 +104,7 @@ loop-again c =
     let found = c .before .before .before .before in
     let known = found .before .before .before .before .before .pre in
     let line = codes-said _ _ (found-formed found) (c .before .before .behind-part .ensures) in
-    items-next columns codesIn _ _ _ _ _ _ _ _ _ (known .1) (known .0) (found .before .before .before .loop .inv)
+    items-next columns codesIn _ _ _ _ _ _ _ _ _ (known .1 .count) (known .0) (found .before .before .before .loop .inv)
     (found .before .before .loop-test .taken) (found .before .rest-from .ensures) (found .first-part .ensures)
     _ line (c .before .write-codes .ensures)
 

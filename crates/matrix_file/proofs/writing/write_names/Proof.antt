@@ -35,7 +35,7 @@ found-ended c =
     line-ended (c .before .before .before .before .before .before .args .rows .now)
     (c .before .before .before .before .before .before .args .n) (c .before .before .before .loop .at)
     (c .before .before .before .loop .done) (c .before .rest-from .result .now) (c .first-part .result .now)
-    (c .before .before .before .before .before .before .pre .1) (c .before .before .before .loop .inv .walk)
+    (c .before .before .before .before .before .before .pre .1 .count) (c .before .before .before .loop .inv .walk)
     (c .before .before .loop-test .taken) (c .before .rest-from .ensures) (c .first-part .ensures)
 
 loop-holds : tie.Need-loop-holds Inv-loop μ-loop
@@ -103,7 +103,7 @@ loop-again c =
     let found = c .before .before .before .before .before in
     let known = found .before .before .before .before .before .before .pre in
     let line = name-said _ _ (c .before .before .before .first-part2 .ensures) in
-    items-next nameSize paddedIn _ _ _ _ _ _ _ _ _ (known .1) (known .0) (found .before .before .before .loop .inv)
+    items-next nameSize paddedIn _ _ _ _ _ _ _ _ _ (known .1 .count) (known .0) (found .before .before .before .loop .inv)
     (found .before .before .loop-test .taken) (found .before .rest-from .ensures) (found .first-part .ensures)
     _ (ap padded line) (c .before .before .write-name .ensures)
 
