@@ -1,8 +1,9 @@
 //! Lent lists with known contents, and what they should hold afterwards.
 
 use crate::{BRANCHES_SIZE, COLUMNS, MATRIX_SIZE, NAMES_SIZE, WEIGHTS_SIZE};
-use wagner_reference::data::{Branch, Data};
+use wagner_reference::data::{branch_count, Branch, Data};
 use wagner_reference::ranges::{Range, Ranges};
+use wagner_reference::read::{File, Kind};
 
 /// A list of codes that are no codes, each place another one, so that every
 /// write shows.
@@ -97,10 +98,26 @@ pub fn numbers(size: usize) -> Vec<usize> {
     (0..size).map(|i| 1_000_000 + i).collect()
 }
 
+/// A lent list of records that name no nodes, so that every write shows.
+pub fn branches() -> Vec<usize> {
+    numbers(BRANCHES_SIZE)
+}
+
+/// Writes the records of the branching of an `F` file over the front of a list;
+/// of a `W` file none.
+pub fn write_branches(list: &mut [usize], file: &File) {
+    if file.kind == Kind::Fixed {
+        let records = &file.branches[..branch_count(file.data.n)];
+        for (place, record) in list.chunks_exact_mut(3).zip(records) {
+            place.copy_from_slice(&[record.node, record.ancestor, 0]);
+        }
+    }
+}
+
 /// A lent branching with the records of nodes 2, 3 and so on in front, with
 /// these immediate ancestors; what is no node and no ancestor is not to be read.
 pub fn branches_of(ancestors: impl IntoIterator<Item = usize>) -> Vec<usize> {
-    let mut list = numbers(BRANCHES_SIZE);
+    let mut list = branches();
     for (i, ancestor) in ancestors.into_iter().enumerate() {
         list[3 * i] = i + 2;
         list[3 * i + 1] = ancestor;

@@ -5,10 +5,11 @@ pub mod lent;
 pub mod plain;
 
 use wagner_reference::data::Requests;
+use wagner_reference::read::Kind;
 use wagner_reference::tree::Order;
 
 /// So many requests are in force, from M-100 on.
-pub const IN_FORCE: Requests = Requests(3);
+pub const IN_FORCE: Requests = Requests(4);
 
 /// A lent matrix has 126 rows of 128 codes.
 pub const ROWS: usize = 126;
@@ -28,6 +29,20 @@ pub const NAMES_SIZE: usize = 1024;
 /// So many bytes are lent for what is printed.
 pub const OUTPUT_SIZE: usize = 1_048_576;
 
+/// The kinds of a file by number: `W`, whose tree is built, and `F`, which
+/// brings a branching of its own.
+pub const WAGNER: u64 = 1;
+pub const OWN: u64 = 2;
+
+/// The number of a kind of the reference.
+pub fn kind_number(kind: Kind) -> u64 {
+    match kind {
+        Kind::Wagner => WAGNER,
+        Kind::Fixed => OWN,
+        Kind::Every => panic!("every branching before M-113"),
+    }
+}
+
 /// The orders of placing by number: by rising advancement, and the closest
 /// taxon first.
 pub const ADVANCE: u64 = 1;
@@ -41,13 +56,14 @@ pub fn order_number(order: Order) -> u64 {
     }
 }
 
-/// What a read answers: refusal 0, line 0, n, m and the number of the order;
-/// or the number of the refusal, its line, and zeros.
+/// What a read answers: refusal 0, line 0, the number of the kind, n, m and the
+/// number of the order; or the number of the refusal, its line, and zeros.
 #[repr(C)]
 #[derive(Clone, Copy, PartialEq, Eq, Debug)]
 pub struct FileRead {
     pub refusal: u64,
     pub line: usize,
+    pub kind: u64,
     pub n: usize,
     pub m: usize,
     pub order: u64,
@@ -94,6 +110,8 @@ mod library {
             weights_length: usize,
             names: *mut u8,
             names_length: usize,
+            branches: *mut usize,
+            branches_length: usize,
         ) -> FileRead;
         pub fn wagner_network(
             matrix: *const i32,
@@ -154,8 +172,15 @@ pub fn list(file: &[u8], out: &mut [u8]) -> usize {
     unsafe { library::wagner_list(file.as_ptr(), file.len(), out.as_mut_ptr(), out.len()) }
 }
 
-/// Reads a file into a lent matrix and lent lists of weights and names.
-pub fn read(file: &[u8], matrix: &mut [i32], weights: &mut [u8], names: &mut [u8]) -> FileRead {
+/// Reads a file into a lent matrix and lent lists of weights and names, and the
+/// branching of an `F` file into lent records.
+pub fn read(
+    file: &[u8],
+    matrix: &mut [i32],
+    weights: &mut [u8],
+    names: &mut [u8],
+    branches: &mut [usize],
+) -> FileRead {
     unsafe {
         library::wagner_read(
             file.as_ptr(),
@@ -166,6 +191,8 @@ pub fn read(file: &[u8], matrix: &mut [i32], weights: &mut [u8], names: &mut [u8
             weights.len(),
             names.as_mut_ptr(),
             names.len(),
+            branches.as_mut_ptr(),
+            branches.len(),
         )
     }
 }

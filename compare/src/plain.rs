@@ -1,7 +1,8 @@
 //! The same work in plain Rust loops over the lent matrix: what the parts of
 //! the proved library are measured against.
 
-use crate::{ADVANCE, CLOSEST, COLUMNS, MATRIX_SIZE, NAMES_SIZE, WEIGHTS_SIZE};
+use crate::{FileRead, ADVANCE, CLOSEST, OWN, WAGNER};
+use crate::{BRANCHES_SIZE, COLUMNS, MATRIX_SIZE, NAMES_SIZE, WEIGHTS_SIZE};
 
 /// A link of the network: a taxon, the one that it joins, their difference.
 #[derive(Clone, Copy)]
@@ -165,6 +166,54 @@ pub fn build(
     (tree, placements, length)
 }
 
+/// The nodes of a whole tree of n taxa.
+fn last_node(n: usize) -> usize {
+    if n < 2 {
+        1
+    } else {
+        2 * n - 2
+    }
+}
+
+/// The nodes next below each node, of which two are kept, and the nodes from
+/// node 1 down, each behind its ancestor.
+fn downward(n: usize, tree: &[usize; 127]) -> ([[usize; 2]; 127], Vec<usize>) {
+    let mut below = [[0; 2]; 127];
+    let mut count = [0; 127];
+    for v in 2..=last_node(n) {
+        let u = tree[v];
+        below[u][count[u].min(1)] = v;
+        count[u] += 1;
+    }
+    let mut walk = vec![1];
+    let mut i = 0;
+    while i < walk.len() {
+        let v = walk[i];
+        walk.extend(below[v].iter().filter(|&&w| w != 0));
+        i += 1;
+    }
+    (below, walk)
+}
+
+/// The ancestors by node number that records say, or none if they make no
+/// branching of n taxa: each HTU is above two nodes, no taxon but row 1 above
+/// any, so that row 1 is above one, and all are met on the way down from it.
+fn tree_of(n: usize, branches: &[usize]) -> Option<[usize; 127]> {
+    let last = last_node(n);
+    let (mut tree, mut count) = ([0; 127], [0; 127]);
+    for (v, record) in (2..=last).zip(branches.chunks_exact(3)) {
+        let (node, ancestor) = (record[0], record[1]);
+        if node != v || ancestor < 1 || ancestor > last {
+            return None;
+        }
+        tree[v] = ancestor;
+        count[ancestor] += 1;
+    }
+    let taxa = (2..=n).all(|v| count[v] == 0);
+    let htus = (n + 1..=last).all(|v| count[v] == 2);
+    (taxa && htus && downward(n, &tree).1.len() == last).then_some(tree)
+}
+
 /// The fit of a branching: states of the HTUs written, the lengths of the
 /// branches by node number, the total.
 pub fn fit(
@@ -177,19 +226,7 @@ pub fn fit(
     high: &mut [i32],
     chosen: &mut [i32],
 ) -> ([u64; 127], u64) {
-    let last = if n < 2 { 1 } else { 2 * n - 2 };
-    let mut below = [[0usize; 2]; 127];
-    let mut count = [0; 127];
-    for v in 2..=last {
-        let u = tree[v];
-        below[u][count[u].min(1)] = v;
-        count[u] += 1;
-    }
-    let mut walk = vec![1];
-    for i in 0..last {
-        let v = walk[i];
-        walk.extend(below[v].iter().filter(|&&w| w != 0));
-    }
+    let (below, walk) = downward(n, tree);
     let join = |a: (i32, i32), b: (i32, i32)| {
         let (l, h) = (a.0.max(b.0), a.1.min(b.1));
         (l.min(h), l.max(h))
@@ -250,7 +287,7 @@ pub fn divided(floor: u64, total: u64) -> Option<(u64, u64)> {
     (total > 0).then(|| (1000 * floor / total, 1000 * floor % total))
 }
 
-/// The consistency index on a branching of such records as are lent.
+/// The consistency index on a lent branching.
 pub fn index(
     matrix: &[i32],
     weights: &[u8],
@@ -258,10 +295,7 @@ pub fn index(
     m: usize,
     branches: &[usize],
 ) -> Option<(u64, u64)> {
-    let mut tree = [0; 127];
-    for record in branches.chunks_exact(3).take((2 * n).saturating_sub(3)) {
-        tree[record[0]] = record[1];
-    }
+    let tree = tree_of(n, branches).expect("the records make a branching");
     let [mut low, mut high, mut chosen] = [[0; MATRIX_SIZE]; 3];
     let (_, total) = fit(matrix, weights, n, m, &tree, &mut low, &mut high, &mut chosen);
     divided(floor(matrix, weights, n, m), total)
@@ -303,57 +337,88 @@ fn read_weights(line: &[u8], weights: &mut [u8]) -> Option<()> {
     fields.next().is_none().then_some(())
 }
 
-/// A read of a sound file: n, m and the order, or none if a question is
-/// answered "no".
+/// What line 1 says: the kind, n, m and the order.
+fn read_first(line: &[u8]) -> Option<FileRead> {
+    let mut fields = fields(line);
+    let kind = match fields.next()? {
+        b"W" => WAGNER,
+        b"F" => OWN,
+        _ => return None,
+    };
+    let n = number(fields.next()?, false)? as usize;
+    let m = number(fields.next()?, false)? as usize;
+    let order = match fields.next() {
+        None => ADVANCE,
+        Some(b"advance") if kind == WAGNER => ADVANCE,
+        Some(b"closest") if kind == WAGNER => CLOSEST,
+        Some(_) => return None,
+    };
+    if fields.next().is_some() || n < 1 || n > 64 || m < 1 || m > 128 {
+        return None;
+    }
+    Some(FileRead { refusal: 0, line: 0, kind, n, m, order })
+}
+
+/// The row behind v others: its codes, written over a list that has a place for
+/// each, and its name, which differs from theirs, behind their names.
+fn read_row(line: &[u8], v: usize, codes: &mut [i32], names: &mut [u8]) -> Option<()> {
+    let mut fields = fields(line);
+    let name = fields.next()?;
+    let inside = |byte: &u8| byte.is_ascii_alphanumeric() || *byte == b'_';
+    if name.len() > 16 || !name.first()?.is_ascii_alphabetic() || !name.iter().all(inside) {
+        return None;
+    }
+    let place = &mut names[v * 16..v * 16 + 16];
+    place.fill(0);
+    place[..name.len()].copy_from_slice(name);
+    if (0..v).any(|u| names[u * 16..u * 16 + 16] == names[v * 16..v * 16 + 16]) {
+        return None;
+    }
+    for place in codes {
+        *place = number(fields.next()?, true).filter(|code| (-999..=999).contains(code))?;
+    }
+    fields.next().is_none().then_some(())
+}
+
+/// The immediate ancestor that the `C` line of node v says.
+fn read_branch(line: &[u8], v: usize) -> Option<usize> {
+    let mut fields = fields(line);
+    if fields.next()? != b"C" || number(fields.next()?, false)? as usize != v {
+        return None;
+    }
+    let ancestor = number(fields.next()?, false)? as usize;
+    fields.next().is_none().then_some(ancestor)
+}
+
+/// A read of a sound file: what it answers, or none if a question is answered
+/// "no".
 pub fn read(
     file: &[u8],
     matrix: &mut [i32],
     weights: &mut [u8],
     names: &mut [u8],
-) -> Option<(usize, usize, u64)> {
+    branches: &mut [usize],
+) -> Option<FileRead> {
     if file.len() > 45_000 || file.last() != Some(&b'\n') {
         return None;
     }
     let mut lines = file[..file.len() - 1].split(|&byte| byte == b'\n').peekable();
-    let mut first = fields(lines.next()?);
-    if first.next() != Some(b"W") {
-        return None;
-    }
-    let n = number(first.next()?, false)? as usize;
-    let m = number(first.next()?, false)? as usize;
-    let order = match first.next() {
-        None | Some(b"advance") => ADVANCE,
-        Some(b"closest") => CLOSEST,
-        Some(_) => return None,
-    };
-    if first.next().is_some() || n < 1 || n > 64 || m < 1 || m > 128 {
-        return None;
-    }
+    let first = read_first(lines.next()?)?;
+    let (n, m) = (first.n, first.m);
     match lines.next_if(|line| fields(line).next() == Some(b"V")) {
         None => weights[..m].fill(1),
         Some(line) => read_weights(line, &mut weights[..m])?,
     }
     for v in 0..n {
-        let mut fields = fields(lines.next()?);
-        let name = fields.next()?;
-        let inside = |byte: &u8| byte.is_ascii_alphanumeric() || *byte == b'_';
-        if name.len() > 16 || !name.first()?.is_ascii_alphabetic() || !name.iter().all(inside) {
-            return None;
-        }
-        let place = &mut names[v * 16..v * 16 + 16];
-        place.fill(0);
-        place[..name.len()].copy_from_slice(name);
-        if (0..v).any(|u| names[u * 16..u * 16 + 16] == names[v * 16..v * 16 + 16]) {
-            return None;
-        }
-        for place in &mut matrix[v * COLUMNS..v * COLUMNS + m] {
-            *place = number(fields.next()?, true).filter(|code| (-999..=999).contains(code))?;
-        }
-        if fields.next().is_some() {
-            return None;
-        }
+        read_row(lines.next()?, v, &mut matrix[v * COLUMNS..v * COLUMNS + m], names)?;
     }
-    lines.next().is_none().then_some((n, m, order))
+    if first.kind == OWN {
+        for (v, record) in (2..=last_node(n)).zip(branches.chunks_exact_mut(3)) {
+            record.copy_from_slice(&[v, read_branch(lines.next()?, v)?, 0]);
+        }
+        tree_of(n, branches)?;
+    }
+    lines.next().is_none().then_some(first)
 }
 
 /// A page of lines: fields parted by tabs.
@@ -420,56 +485,70 @@ impl Page<'_> {
         }
         self.text.push(b'\n');
     }
+    /// The lines of the network and of the Wagner tree, which is handed back.
+    fn built(&mut self, matrix: &mut [i32], weights: &[u8], m: usize, order: u64) -> [usize; 127] {
+        let (links, p) = network(matrix, weights, self.n, m);
+        let (tree, placements, w) = build(matrix, weights, self.n, m, order);
+        for link in links {
+            self.text.push(b'P');
+            self.node(link.taxon);
+            self.node(link.joined);
+            self.number(link.length);
+            self.text.push(b'\n');
+        }
+        self.total(b'p', p);
+        for place in placements {
+            self.text.push(b'W');
+            for node in [place.taxon, place.lower, place.upper, place.htu] {
+                self.node(node);
+            }
+            self.number(place.added);
+            self.text.push(b'\n');
+        }
+        self.total(b'w', w);
+        tree
+    }
+
+    /// The lines of a fitted tree.
+    fn fitted(&mut self, matrix: &[i32], weights: &[u8], m: usize, tree: &[usize; 127]) {
+        let (n, [mut low, mut high, mut chosen]) = (self.n, [[0; MATRIX_SIZE]; 3]);
+        let (lengths, t) = fit(matrix, weights, n, m, tree, &mut low, &mut high, &mut chosen);
+        for v in 2..=last_node(n) {
+            self.text.push(b'T');
+            self.node(v);
+            self.node(tree[v]);
+            self.number(lengths[v]);
+            self.text.extend(if lengths[v] > 0 { b"\t+\n" } else { b"\t-\n" });
+        }
+        self.total(b't', t);
+        self.index(divided(floor(matrix, weights, n, m), t));
+        for v in n + 1..=last_node(n) {
+            for j in 1..=m {
+                let at = (v - 1) * COLUMNS + j - 1;
+                self.text.push(b'H');
+                self.node(v);
+                self.number(j as u64);
+                for state in [low[at], high[at], chosen[at]] {
+                    self.state(state);
+                }
+                self.text.push(b'\n');
+            }
+        }
+    }
 }
 
 /// The listing of a sound file, in the bytes of a list that is lent for it.
 pub fn list(file: &[u8], lent: Vec<u8>) -> Option<Vec<u8>> {
     let (mut matrix, mut weights) = ([0; MATRIX_SIZE], [0; WEIGHTS_SIZE]);
-    let mut names = [0; NAMES_SIZE];
-    let (n, m, order) = read(file, &mut matrix, &mut weights, &mut names)?;
-    let [mut low, mut high, mut chosen] = [[0; MATRIX_SIZE]; 3];
-    let (links, p) = network(&matrix, &weights, n, m);
-    let (tree, placements, w) = build(&mut matrix, &weights, n, m, order);
-    let (lengths, t) = fit(&matrix, &weights, n, m, &tree, &mut low, &mut high, &mut chosen);
-    let mut page = Page { text: lent, names: &names, n };
+    let (mut names, mut branches) = ([0; NAMES_SIZE], [0; BRANCHES_SIZE]);
+    let first = read(file, &mut matrix, &mut weights, &mut names, &mut branches)?;
+    let mut page = Page { text: lent, names: &names, n: first.n };
     page.text.clear();
-    for link in links {
-        page.text.push(b'P');
-        page.node(link.taxon);
-        page.node(link.joined);
-        page.number(link.length);
-        page.text.push(b'\n');
-    }
-    page.total(b'p', p);
-    for place in placements {
-        page.text.push(b'W');
-        for node in [place.taxon, place.lower, place.upper, place.htu] {
-            page.node(node);
-        }
-        page.number(place.added);
-        page.text.push(b'\n');
-    }
-    page.total(b'w', w);
-    for v in 2..(2 * n).saturating_sub(1) {
-        page.text.push(b'T');
-        page.node(v);
-        page.node(tree[v]);
-        page.number(lengths[v]);
-        page.text.extend(if lengths[v] > 0 { b"\t+\n" } else { b"\t-\n" });
-    }
-    page.total(b't', t);
-    page.index(divided(floor(&matrix, &weights, n, m), t));
-    for v in n + 1..(2 * n).saturating_sub(1) {
-        for j in 1..=m {
-            let at = (v - 1) * COLUMNS + j - 1;
-            page.text.push(b'H');
-            page.node(v);
-            page.number(j as u64);
-            for state in [low[at], high[at], chosen[at]] {
-                page.state(state);
-            }
-            page.text.push(b'\n');
-        }
-    }
+    let tree = if first.kind == OWN {
+        tree_of(first.n, &branches)?
+    } else {
+        page.built(&mut matrix, &weights, first.m, first.order)
+    };
+    page.fitted(&matrix, &weights, first.m, &tree);
     Some(page.text)
 }

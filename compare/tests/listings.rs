@@ -5,21 +5,18 @@ use compare::{lent, list, plain, IN_FORCE, OUTPUT_SIZE};
 use std::sync::atomic::{AtomicU64, Ordering};
 use std::sync::OnceLock;
 use wagner_reference::data::Requests;
-use wagner_reference::files::Random;
 use wagner_reference::listing::listing;
-use wagner_reference::read::read;
+use wagner_reference::read::{read, Kind};
 
+mod damage;
+mod printed;
 mod seeds;
 
 /// The greatest number of a refusal.
-const REFUSALS: usize = 16;
+const REFUSALS: usize = 17;
 
-/// Half of the damages fall on so many bytes at the front.
-const TOP: usize = 40;
-
-/// Lines of weights that are put into files, for few characters or for none.
-const WEIGHTS: [&str; 7] =
-    ["V", "V\n", "V\t0\n", "V\t5\n", "V\t2\t9\n", "V\t1\t3\t4\n", "V\t6\t7\t8\t1\n"];
+/// The most bytes of a file.
+const MOST_BYTES: usize = 45_000;
 
 /// What the lent bytes hold before a call.
 fn before() -> &'static [u8] {
@@ -27,14 +24,19 @@ fn before() -> &'static [u8] {
     BYTES.get_or_init(|| lent::bytes(OUTPUT_SIZE))
 }
 
+/// The listing of these bytes; every lent byte behind it is as before.
+fn listed(file: &[u8]) -> Vec<u8> {
+    let mut out = before().to_vec();
+    let length = list(file, &mut out);
+    assert!(out[length..] == before()[length..], "a byte behind the listing differs");
+    out.truncate(length);
+    out
+}
+
 /// The listing of these bytes is the reference's; hands it back.
 fn check_listing(file: &[u8]) -> Vec<u8> {
     let expected = listing(file, IN_FORCE).into_bytes();
-    let mut out = before().to_vec();
-    let length = list(file, &mut out);
-    assert_eq!(length, expected.len());
-    assert!(out[..length] == expected[..], "the listing differs");
-    assert!(out[length..] == before()[length..], "a byte behind the listing differs");
+    assert!(listed(file) == expected, "the listing differs");
     match plain::list(file, Vec::new()) {
         None => assert!(expected.starts_with(b"R\t"), "the plain loops refuse it"),
         Some(text) => assert!(text == expected, "the plain loops' listing differs"),
@@ -59,41 +61,6 @@ fn without_index(listing: &[u8]) -> Vec<u8> {
     others.concat()
 }
 
-/// One to three damages to a file: a digit changed, a byte changed, one bit of
-/// it turned, a part cut out, the end cut off, a line of weights put behind
-/// line 1, a part doubled.
-fn damaged(mut file: Vec<u8>, random: &mut Random) -> Vec<u8> {
-    for _ in 0..random.between(1, 3) {
-        if file.is_empty() {
-            break;
-        }
-        let reach = if random.chance(50) { file.len().min(TOP) } else { file.len() };
-        let at = random.below(reach);
-        let part = random.between(1, 8).min(file.len() - at);
-        match random.below(8) {
-            0 | 1 => {
-                if file[at].is_ascii_digit() {
-                    file[at] = random.pick(b"0123456789");
-                }
-            }
-            2 => file[at] = random.pick(b"\t\n\r\0 -_.019AZaz#VW~\x7f\x80\xff"),
-            3 => file[at] ^= 1 << random.below(8),
-            4 => drop(file.drain(at..at + part)),
-            5 => file.truncate(at),
-            6 => {
-                let feed = file.iter().position(|&byte| byte == b'\n');
-                let second = feed.map_or(file.len(), |at| at + 1);
-                file.splice(second..second, random.pick(&WEIGHTS).bytes());
-            }
-            _ => {
-                let again = file[at..at + part].to_vec();
-                file.splice(at..at, again);
-            }
-        }
-    }
-    file
-}
-
 /// How many files were accepted (place 0), and refused by each number.
 struct Tally([AtomicU64; REFUSALS + 1]);
 
@@ -115,40 +82,137 @@ impl Tally {
     }
 }
 
+/// The same of the files that begin with `F`, and of the others.
+struct Tallies {
+    own: Tally,
+    others: Tally,
+}
+
+impl Tallies {
+    /// No file is counted.
+    fn none() -> Tallies {
+        Tallies { own: Tally::none(), others: Tally::none() }
+    }
+
+    /// Counts a file with the number of the refusal that its listing is, or 0.
+    fn count(&self, file: &[u8], listing: &[u8]) {
+        let tally = if file.starts_with(b"F") { &self.own } else { &self.others };
+        tally.count(refusal(listing));
+    }
+
+    /// Prints what was counted of these files.
+    fn print(&self, what: &str) {
+        self.others.print(what);
+        self.own.print(&format!("{what} that begin with F"));
+    }
+}
+
 #[test]
 fn generated_files() {
-    let tally = Tally::none();
-    seeds::each(IN_FORCE, |_, file| tally.count(refusal(&check_listing(&file))));
-    tally.print("generated files");
+    let tallies = Tallies::none();
+    seeds::each(IN_FORCE, |_, file| tallies.count(&file, &check_listing(&file)));
+    tallies.print("generated files");
 }
 
 #[test]
 fn damaged_files() {
-    let tally = Tally::none();
+    let tallies = Tallies::none();
     seeds::each(IN_FORCE, |seed, file| {
-        let mut random = Random(seed ^ 0x6461_6d61_6765);
-        tally.count(refusal(&check_listing(&damaged(file, &mut random))));
+        let file = damage::damaged(file, seed);
+        tallies.count(&file, &check_listing(&file));
     });
-    tally.print("damaged files");
+    tallies.print("damaged files");
+}
+
+/// The `F` file with the rows and the weights of a `W` file and the tree in the
+/// `T` lines of its listing.
+fn with_its_tree(file: &[u8], listing: &str) -> Vec<u8> {
+    let first = file.split(|&byte| byte == b'\n').next().unwrap();
+    let three: Vec<&[u8]> = first[1..].splitn(4, |&byte| byte == b'\t').take(3).collect();
+    let mut text = [b"F", &three.join(&b'\t')[..], &file[first.len()..]].concat();
+    for (i, ancestor) in printed::ancestors(listing).iter().enumerate() {
+        text.extend(format!("C\t{}\t{ancestor}\n", i + 2).bytes());
+    }
+    text
+}
+
+/// A listing from its first `T` line on, or from its `t` line where there is
+/// none.
+fn fitted_lines(listing: &str) -> &str {
+    let at = listing.find("\nT\t").or_else(|| listing.find("\nt\t")).unwrap();
+    &listing[at + 1..]
+}
+
+/// The Wagner tree of a `W` file, brought as the branching of an `F` file, is
+/// fitted and listed as in that file.
+#[test]
+fn wagner_trees_as_own_branchings() {
+    let tally = Tally::none();
+    seeds::each(IN_FORCE, |_, file| {
+        if read(&file, IN_FORCE).is_ok_and(|file| file.kind == Kind::Wagner) {
+            let text = String::from_utf8(listed(&file)).unwrap();
+            let own = listed(&with_its_tree(&file, &text));
+            assert!(own == fitted_lines(&text).as_bytes(), "it is listed otherwise");
+            tally.count(refusal(&own));
+        }
+    });
+    tally.print("Wagner trees as own branchings");
+}
+
+/// `F` files whose listings are found by hand.
+#[test]
+fn own_branchings_by_hand() {
+    let cases = [
+        ("F\t1\t2\nA\t5\t-6\n", "t\t0\nc\t-\t-\n"),
+        ("F\t2\t1\nV\t3\nA\t0\nB\t-5\nC\t2\t1\n", "T\tB\tA\t15\t+\nt\t15\nc\t1000\t0\n"),
+        (
+            "F\t3\t1\nA\t0\nB\t5\nC\t2\nC\t2\t4\nC\t3\t4\nC\t4\t1\n",
+            "T\tB\t#1\t3\t+\nT\tC\t#1\t0\t-\nT\t#1\tA\t2\t+\nt\t5\nc\t1000\t0\nH\t#1\t1\t2\t2\t2\n",
+        ),
+        (
+            "F\t4\t1\nA\t0\nB\t1\nC\t1\nD\t0\nC\t2\t5\nC\t3\t6\nC\t4\t5\nC\t5\t6\nC\t6\t1\n",
+            "T\tB\t#1\t0\t-\nT\tC\t#2\t0\t-\nT\tD\t#1\t1\t+\nT\t#1\t#2\t0\t-\nT\t#2\tA\t1\t+\nt\t2\n\
+             c\t500\t0\nH\t#1\t1\t0\t1\t1\nH\t#2\t1\t0\t1\t1\n",
+        ),
+    ];
+    for (file, text) in cases {
+        assert_eq!(String::from_utf8(check_listing(file.as_bytes())).unwrap(), text);
+    }
+}
+
+/// Whether a file has to be listed as it was under earlier requests: it was
+/// accepted, unless it is from before M-101 and its row 1 is named `V`, which
+/// reads as weights now; and from M-102 on it does not begin with `F`.
+fn stays(file: &[u8], requests: Requests) -> bool {
+    if requests.in_force(102) {
+        return !file.starts_with(b"F\t");
+    }
+    let weights_then = requests.in_force(101);
+    read(file, requests).is_ok_and(|file| weights_then || file.names[0] != "V")
 }
 
 /// What was accepted under earlier requests is listed as it was then, but for
-/// the `c` line. A file from before M-101 whose row 1 is named `V` is among the
-/// others: that row reads as weights now.
+/// the `c` line where they are from before M-102; what M-102 refused is refused
+/// as it was, but for files that begin with `F`, which were refused by 3 or,
+/// for their size, by 1.
 fn check_earlier(requests: Requests, what: &str) {
-    let (as_before, other) = (Tally::none(), Tally::none());
-    let weights_then = requests.in_force(101);
+    let (as_before, other) = (Tally::none(), Tallies::none());
     seeds::each(requests, |_, file| {
         let now = check_listing(&file);
-        if read(&file, requests).is_ok_and(|file| weights_then || file.names[0] != "V") {
-            let then = listing(&file, requests).into_bytes();
-            assert!(without_index(&now) == then, "it was listed otherwise");
+        let then = listing(&file, requests).into_bytes();
+        if file.starts_with(b"F\t") {
+            assert!(matches!(refusal(&then), 1 | 3), "it was accepted");
+        }
+        if stays(&file, requests) {
+            let same =
+                if requests.in_force(102) { now == then } else { without_index(&now) == then };
+            assert!(same, "it was listed otherwise");
             as_before.count(refusal(&now));
         } else {
-            other.count(refusal(&now));
+            other.count(&file, &now);
         }
     });
-    as_before.print(&format!("files of {what}, as before but for the c line"));
+    as_before.print(&format!("files of {what}, as before"));
     other.print(&format!("other files of {what}"));
 }
 
@@ -168,10 +232,16 @@ fn files_of_m_101() {
 }
 
 #[test]
+fn files_of_m_102() {
+    check_earlier(Requests(3), "M-102");
+}
+
+#[test]
 fn bytes_of_another_size() {
     let sound = b"W\t2\t1\nA\t0\nB\t5\n";
+    let own = b"F\t2\t1\nA\t0\nB\t5\nC\t2\t1\n";
     for size in [0, 1, 38, 45_001, OUTPUT_SIZE - 1, OUTPUT_SIZE + 1, 2 * OUTPUT_SIZE] {
-        for file in [&sound[..], &sound[1..], b"", &[b'x'; 45_001]] {
+        for file in [&sound[..], &sound[1..], own, b"", &[b'x'; MOST_BYTES + 1]] {
             let mut out = lent::bytes(size);
             assert_eq!(list(file, &mut out), 0);
             assert!(out == lent::bytes(size));
@@ -181,11 +251,13 @@ fn bytes_of_another_size() {
 
 #[test]
 fn files_of_the_greatest_size() {
-    let start = b"W\t1\t1\nA\t0\n";
+    let starts = [b"W\t1\t1\nA\t0\n", b"F\t1\t1\nA\t0\n"];
     let lengths = [(44_999, 11), (45_000, 11), (45_001, 1), (45_002, 1), (3_000_000, 1)];
     for (length, number) in lengths {
-        let mut file = start.to_vec();
-        file.resize(length, b'\n');
-        assert_eq!(refusal(&check_listing(&file)), number);
+        for start in starts {
+            let mut file = start.to_vec();
+            file.resize(length, b'\n');
+            assert_eq!(refusal(&check_listing(&file)), number);
+        }
     }
 }

@@ -6,10 +6,12 @@
 BIN is the folder of the reference's two programs, wagner-reference and wagner-files (cargo build --release in a copy of reference/). What
 a file brings is what wagner-reference prints with the requests in force; a text of more than 1,500 bytes stands as its length and its
 checksum Adler-32. Behind each stands how many of 1,048,576 lent bytes are left. The files of the base come first: they bring what they
-bring with --requests 0 and a `c` line after the `t` line, but for a fourth field in line 1, which the base refuses, and for a row 1 named
-`V`, which is read as weights. A case is the length of the file and the number of bytes that are kept of it, each in three bytes, the
-highest first, and these bytes; the file goes on with `x`.
+bring with --requests 0 and a `c` line after the `t` line, but for a fourth field in line 1 and the letter `F`, which the base refuses, and
+for a row 1 named `V`, which is read as weights. The files of each request follow; those from before M-103 bring what they brought, but for
+the ones that begin with `F`. A case is the length of the file and the number of bytes that are kept of it, each in three bytes, the highest
+first, and these bytes; the file goes on with `x`.
 """
+import itertools
 import os
 import subprocess
 import sys
@@ -19,7 +21,7 @@ BIN = sys.argv[1]
 HERE = os.path.dirname(os.path.abspath(__file__))
 LENT = 1048576
 MOST_PRINTED = 1500
-IN_FORCE = 3  # so many requests, from M-100 on
+IN_FORCE = 4  # so many requests, from M-100 on
 EXAMPLE = b'W\t4\t3\nA\t0\t0\t0\nB\t2\t1\t0\nC\t2\t3\t1\nD\t-1\t1\t2\n'
 
 
@@ -195,6 +197,175 @@ def indices():
     yield weighed(mixed, [b'9'] * 128)                          # the largest floor, 2,301,696
 
 
+def branch_lines(ancestors):
+    """The `C` lines of nodes 2, 3 and so on with these ancestors."""
+    return [b'C\t%d\t%d\n' % branch for branch in enumerate(ancestors, 2)]
+
+
+def own(file, ancestors=()):
+    """The `F` file with the rows of a `W` file and this branching."""
+    return b'F' + file[1:] + b''.join(branch_lines(ancestors))
+
+
+def hung(n, place):
+    """A branching of n taxa: each from row 3 on is hung on the branch above a node, by a place among those that are there."""
+    ancestors = {2: 1}
+    nodes = [2]
+    for taxon in range(3, n + 1):
+        lower, htu = nodes[place(taxon) % len(nodes)], n + taxon - 2
+        ancestors |= {htu: ancestors[lower], lower: htu, taxon: htu}
+        nodes += [taxon, htu]
+    return [ancestors[v] for v in range(2, 2 * n - 1)]
+
+
+def turned(n, ancestors):
+    """The same branching with its HTUs numbered from the last to the first."""
+    number = [*range(n + 1), *range(2 * n - 2, n, -1)]
+    return [number[ancestors[number[v] - 2]] for v in range(2, 2 * n - 1)]
+
+
+def own_branchings():
+    """`F` files that are accepted: the least and the largest, by weights, every branching of four taxa, HTUs in another order, and taxa
+    named like lines; such names in `W` files."""
+    for m in [1, 3, 128]:
+        yield own(matrix(1, m))                                 # no `C` line, no `T` and no `H` line
+    yield own(weighed(matrix(1, 3), [b'2', b'9', b'1']))
+    yield own(matrix(2, 3), [1])
+    yield own(weighed(matrix(2, 3), [b'2', b'9', b'1']), [1])
+    yield own(matrix(3, 3), [4, 4, 1])
+    yield own(rows([-7, 0], [-7, 0]), [1])                      # a total of 0
+    yield own(rows(*[[-7, 0]] * 5), hung(5, lambda taxon: 0))
+    for pair in [(2, 3), (2, 4), (3, 4)]:                       # the two below the lower HTU, by either number of it
+        for lower, upper in [(5, 6), (6, 5)]:
+            ancestors = [lower if taxon in pair else upper for taxon in [2, 3, 4]] + ([upper, 1] if lower == 5 else [1, upper])
+            yield own(EXAMPLE, ancestors)                       # the Wagner tree is the second
+            yield own(weighed(EXAMPLE, [b'3', b'1', b'2']), ancestors)
+    crossed = rows([0], [1], [1], [0])
+    yield own(crossed, [5, 5, 6, 6, 1])                         # the floor, 1000 thousandths
+    yield own(crossed, [5, 6, 5, 6, 1])                         # twice the floor, 500
+    places = [lambda taxon: 0, lambda taxon: -1, lambda taxon: taxon // 2, lambda taxon: taxon * taxon]
+    for place in places:                                        # row by row on one taxon, on the top, and in other shapes
+        ancestors = hung(9, place)
+        yield own(matrix(9, 2), ancestors)
+        yield own(weighed(matrix(9, 2), [b'9', b'2']), turned(9, ancestors))
+        yield own(matrix(64, 1), hung(64, place))
+        yield own(matrix(64, 1), turned(64, hung(64, place)))
+    largest = matrix(64, 128, lambda v, j: 999 if (v + j) % 2 else -999)
+    mixed = matrix(64, 128, lambda v, j: (v * v + j * j * v) % 10)
+    yield own(mixed, hung(64, lambda taxon: taxon * taxon))
+    yield own(weighed(mixed, [b'%d' % (j % 9 + 1) for j in range(128)]), turned(64, hung(64, lambda taxon: 5 * taxon)))
+    yield own(weighed(largest, [b'9'] * 128), hung(64, lambda taxon: 0))  # branches of 2,301,696
+    letters = b'F\t4\t2\nF\t0\t1\nC\t2\t4\nW\t3\t3\nT\t4\t1\n'
+    yield letters + b''.join(branch_lines([5, 5, 6, 6, 1]))     # a row that reads like a `C` line
+    yield b'F\t2\t2\nC\t2\t1\nD\t2\t1\nC\t2\t1\n'
+    yield b'F\t3\t1\nV\t5\nV\t0\nU\t1\nN\t2\n' + b''.join(branch_lines([4, 4, 1]))
+    for row in [b'C\t2\t1\n', b'F\t2\t1\n']:
+        yield b'W\t1\t2\n' + row                              # names of taxa in a `W` file
+        yield b'W\t2\t2\nA\t1\t1\n' + row
+        yield b'W\t2\t2\n' + row + b'A\t1\t1\n'
+
+
+def wrong_lines(v, above):
+    """What may stand where the `C` line of a node is wanted, each of another form or for another node."""
+    yield from [b'', b'\n', b'C\n', b'C\t\n', b'C\t\t\n', b'C\t%d\n' % v, b'C %d %d\n' % (v, above), b'%d\t%d\n' % (v, above)]
+    for more in [b'\t', b'\t0', b'\t1\t', b'\r', b' ', b'\0']:
+        yield b'C\t%d\t%d%s\n' % (v, above, more)              # too many fields, or a byte that is no digit
+    for letter in [b'c', b'', b'CC', b' C', b'C ', b'\tC', b'T', b'D', b'\xc3']:
+        yield b'%s\t%d\t%d\n' % (letter, v, above)
+    for form in [b'0%d', b'-%d', b'+%d', b'%d000000', b' %d', b'%d ', b'%d.0', b'#%d', b'T%d', b'%d..%d']:
+        yield b'C\t%s\t%d\n' % (form.replace(b'%d', b'%d' % v), above)
+        yield b'C\t%d\t%s\n' % (v, form.replace(b'%d', b'%d' % above))
+    for field in [b'', b'-0', b'00', b'-', b'1000000', b'x']:
+        yield b'C\t%s\t%d\n' % (field, above)
+        yield b'C\t%d\t%s\n' % (v, field)
+    for node in sorted({0, 1, v - 1, v + 1, 2 * v, 999999}):
+        yield b'C\t%d\t%d\n' % (node, above)
+
+
+def lines_of_branchings():
+    """The `C` lines of `F` files in a wrong form, in another order, missing and too many, and beside what is asked before and after."""
+    start = b'F\t3\t1\nA\t0\nB\t5\nC\t2\n'
+    ancestors = [4, 4, 1]
+    right = branch_lines(ancestors)
+    for at in range(3):
+        before, behind = start + b''.join(right[:at]), b''.join(right[at + 1:])
+        for wrong in wrong_lines(at + 2, ancestors[at]):
+            yield before + wrong + behind                       # 17
+        for end in [b'', right[at][:-1], b'C', b'C\t', b'x']:
+            yield before + end                                  # 17: no line, or no line feed
+        for wrong in [b'C\t9\t9\n', b'\n', b'D\t1\n']:
+            yield before + wrong + behind + b'x'                # 17, before 11
+    for order in itertools.permutations(right):
+        yield start + b''.join(order)                           # 17 but for the first
+    yield start + right[0] + b''.join(right)
+    for rest in [b'C\t5\t1\n', b'C\t4\t1\n', b'\n', b'x', b'D\t1\n', b'V\t1\n', b'\0', b'C']:
+        yield start + b''.join(right) + rest                    # 11 at line 8
+        yield weighed(start, [b'7']) + b''.join(right) + rest   # at line 9
+        yield start + b''.join(branch_lines([4, 4, 4])) + rest  # 11, before 14
+    yield own(matrix(1, 1)) + b'C\t2\t1\n'                     # 11 at line 3
+    yield own(matrix(1, 1)) + b'C\t1\t0\n'
+    for n in [1, 2, 3]:
+        yield matrix(n, 1) + b''.join(branch_lines([1]))        # 11: a `W` file has no `C` lines
+        yield with_field(matrix(n, 1), b'closest') + b''.join(branch_lines([4, 4, 1]))
+    yield weighed(start, [b'7']) + b''.join(right[:2])          # 17 at line 8
+    yield start + b'C\t2\t2\nC\t3\t4\nC\t4\t01\n'             # 17, before 14
+    yield start + b'C\t2\t0\nC\t3\t4\n'
+    yield start[:-4] + b''.join(right)                          # a row missing: the first `C` line is none, 8
+    yield b'F\t3\t2\nA\t0\t0\nB\t5\t5\n' + b''.join(right)    # a row missing: the first `C` line is one, 17
+    yield b'F\t3\t2\nA\t0\t0\nC\t5\t5\n' + b''.join(right)    # 7
+    yield b'F\t2\t1\nC\t2\t1\nA\t0\nB\t5\n'                  # the `C` line before the rows, 8
+
+
+def no_branchings():
+    """`F` files whose ancestors are no branching: 14."""
+    for above in [0, 2, 3, 257, 65537, 999999]:                 # no node, or the node itself
+        yield own(matrix(2, 1), [above])
+    for ancestors in [*itertools.product(range(1, 5), repeat=3), (0, 4, 1), (4, 0, 1), (4, 4, 0), (5, 4, 1), (4, 5, 1), (4, 4, 5)]:
+        yield own(matrix(3, 1), ancestors)                      # but for 4, 4, 1
+    for ancestors in [
+        [5, 5, 5, 1, 5],                                        # an HTU above four nodes, one above none
+        [3, 5, 3, 1, 5],                                        # a taxon above two nodes
+        [1, 5, 6, 6, 5],                                        # two HTUs in a ring, row 1 with its taxon apart
+        [5, 6, 6, 6, 5],                                        # no node below row 1
+        [5, 5, 6, 1, 1],                                        # two nodes below row 1
+        [6, 6, 1, 7, 8, 8, 7],                                  # two HTUs in a ring, one below them
+        [1, 6, 7, 8, 7, 8, 6],                                  # three HTUs in a ring
+    ]:
+        yield own(matrix(len(ancestors) // 2 + 2, 1), ancestors)
+        yield own(weighed(matrix(len(ancestors) // 2 + 2, 1), [b'3']), ancestors)
+        yield own(matrix(len(ancestors) // 2 + 2, 1), ancestors) + b'\n'  # 11, before 14
+    long = hung(64, lambda taxon: -1)
+    for v, above in [(2, 0), (2, 127), (64, 64), (126, 126), (65, 1), (125, 1), (126, 65), (126, 2), (100, 3)]:
+        yield own(matrix(64, 1), long[:v - 2] + [above] + long[v - 1:])
+    ring = long.copy()
+    ring[0], ring[126 - 2] = 1, 65                              # 62 HTUs in a ring
+    yield own(matrix(64, 1), ring)
+
+
+def own_files_refused():
+    """`F` files that are refused before their `C` lines: by each number that a file of this kind can meet, and beside later ones."""
+    lines = b''.join(branch_lines([4, 4, 1]))
+    start = own(matrix(1, 1))
+    for length in [44999, 45000, 45001, 65536]:                 # 11, and 1 from 45,001 bytes on
+        yield start + b'x' * (length - len(start))
+    for rest in [b'', b'\t1', b'\t\t', b'\t01\t1', b'\t1\t-1', b'\t1\t1000000', b'\t1\t1\t', b'\t1\t1\tadvance', b'\t1\t1\tclosest',
+                 b'\t1\t1\tnot', b'\t0\t1\tclosest', b'\t1\t1\tclosest\tadvance']:
+        yield b'F' + rest + b'\nA\t0\n'                       # 3
+    for letter in [b'f', b'FF', b' F', b'F ', b'F\r', b'FW', b'WF', b'C', b'E', b'\tF']:
+        yield letter + b'\t1\t1\nA\t0\n'
+    yield b'F\t1\t1'
+    for line in [b'F\t0\t1', b'F\t65\t1', b'F\t1\t0', b'F\t1\t129', b'F\t999999\t999999']:
+        yield line + b'\nV\t0\nA\t0\n'                       # 4, before 16
+    for line in [b'V\n', b'V\t0\n', b'V\t1\t1\n', b'V\t10\n', b'V\t']:
+        yield b'F\t3\t1\n' + line + b'A\t0\nB\t5\nC\t6\n' + lines  # 16
+    for rest in [b'', b'A\t0', b'A\t0\n', b'A\t0\nB\t5', b'A\t0\nB\t5\nC\t6']:
+        yield b'F\t3\t1\n' + rest                             # 5
+    for row in [b'C\n', b'C\t6\t6\n', b'1\n', b'\n', b'_C\t6\n', b'Seventeen_letters\t6\n', b'#1\t6\n', b'B\t6\n', b'A\tx\n', b'C\t06\n',
+                b'C\t2..5\n', b'C\t-\n', b'U\to\n', b'C\t1000\n', b'C\t-1000\n']:
+        yield b'F\t3\t1\nA\t0\nB\t5\n' + row + lines           # 8, 6, 7, 9 and 10
+        yield b'F\t3\t1\nA\t0\nB\t5\n' + row + b'C\t2\t2\nx'   # before 17, 11 and 14
+
+
 def generated(first, count, least, most, requests=0, right=lambda file: True):
     """Generated files from a seed on, with a length within limits, that are right for what is asked."""
     seed = first
@@ -230,11 +401,18 @@ def without_index(text):
 
 
 def as_before(file):
-    """A file brings what it brought with the base alone and a `c` line, but for a fourth field, which the base refuses by 3, and a row 1
-    named `V`."""
+    """A file brings what it brought with the base alone and a `c` line, but for a fourth field and the letter `F`, which the base refuses
+    by 3, and a row 1 named `V`."""
     before = run('wagner-reference', requests=0, given=file)
     now = run('wagner-reference', requests=IN_FORCE, given=file)
-    return before == without_index(now) or (before == b'R\t3\t1\n' and has_word(file)) or has_weights(file)
+    refused = before == b'R\t3\t1\n' and (has_word(file) or is_own(file))
+    return before == without_index(now) or refused or has_weights(file)
+
+
+def as_with_three(file):
+    """A file brings what it brought with M-100, M-101 and M-102 alone, but for the letter `F`, which was refused by 3."""
+    before = run('wagner-reference', requests=3, given=file)
+    return before == run('wagner-reference', requests=IN_FORCE, given=file) or (before == b'R\t3\t1\n' and is_own(file))
 
 
 def has_word(file):
@@ -247,6 +425,17 @@ def has_weights(file):
     return first_field(file, 2) == b'V'
 
 
+def is_own(file):
+    """A file that begins with the letter `F`."""
+    return first_field(file, 1) == b'F'
+
+
+def numbers_met(files):
+    """The numbers by which files are refused, 0 for one that is accepted."""
+    lines = (run('wagner-reference', requests=IN_FORCE, given=file).split(b'\n')[0].split(b'\t') for file in files)
+    return {int(line[1]) if line[0] == b'R' else 0 for line in lines}
+
+
 base = [*named_edges(), *generated(1, 300, 0, 400), *generated(20000, 40, 401, 1500), *generated(40000, 2, 5000, 9000)]
 assert all(map(as_before, base))
 files = [*base, *fourth_fields(), *in_both_orders()]
@@ -254,6 +443,12 @@ files += [*generated(60000, 80, 0, 400, 1, has_word), *generated(80000, 10, 401,
 files += [*weight_lines(), *by_weights()]
 files += [*generated(100000, 80, 0, 400, 2, has_weights), *generated(120000, 10, 401, 1500, 2, has_weights)]
 files += indices()
+assert all(map(as_with_three, files))
+files += dict.fromkeys([*own_branchings(), *lines_of_branchings(), *no_branchings(), *own_files_refused()])
+files += [*generated(140000, 80, 0, 400, 4, is_own), *generated(160000, 10, 401, 1500, 4, is_own)]
+# every number that a file of its kind can meet stands here
+assert numbers_met(filter(is_own, files)) == {0, 1, 3, 4, 5, 6, 7, 8, 9, 10, 11, 14, 16, 17}
+assert numbers_met(file for file in files if not is_own(file)) == {0, 1, 2, 3, 4, 5, 6, 7, 8, 9, 10, 11, 15, 16}
 # three numbers of lent bytes that are not the full size: refused with 12, 0 bytes counted, all of them left
 refused = b''.join(b'R\t12\t0\nk\t%d\n' % size for size in [40, LENT - 1, LENT + 1])
 with open(os.path.join(HERE, 'data', 'cases'), 'wb') as cases:

@@ -2,7 +2,7 @@
 //!
 //! `cargo run --release --bin benchmark`
 
-use compare::{lent, plain, ADVANCE, CLOSEST, IN_FORCE, MATRIX_SIZE, OUTPUT_SIZE};
+use compare::{lent, plain, FileRead, ADVANCE, CLOSEST, IN_FORCE, MATRIX_SIZE, OUTPUT_SIZE};
 use std::hint::black_box;
 use std::time::{Duration, Instant};
 use wagner_reference::consistency::{consistency, floor};
@@ -41,6 +41,19 @@ fn weighted(file: &[u8], m: usize) -> Vec<u8> {
     [&file[..second], line.as_bytes(), &file[second..]].concat()
 }
 
+/// An `F` file of the same rows whose branching is the tree by advancement.
+fn own_file(file: &[u8]) -> Vec<u8> {
+    let mut matrix = vec![0; MATRIX_SIZE];
+    let (mut weights, mut names) = (lent::weights(), lent::names());
+    let head = plain::read(file, &mut matrix, &mut weights, &mut names, &mut lent::branches());
+    let FileRead { n, m, .. } = head.unwrap();
+    let mut text = [b"F", &file[1..]].concat();
+    for record in branches(&matrix, &weights, n, m).chunks_exact(3).take(2 * n - 3) {
+        text.extend(format!("C\t{}\t{}\n", record[0], record[1]).bytes());
+    }
+    text
+}
+
 /// The least time that some work takes, in microseconds: runs of it until a
 /// quarter of a second is spent, at least ten.
 fn time(mut work: impl FnMut()) -> f64 {
@@ -59,7 +72,7 @@ fn time(mut work: impl FnMut()) -> f64 {
 /// The parts of one program, in microseconds. `build` is by advancement and
 /// `closest` the other order; `both` is `build` and fit, `index` that of the
 /// tree by advancement, lent as a branching, `whole` is from a file's bytes to
-/// those of its listing, by advancement.
+/// those of its listing, by advancement, and `own` the same of an `F` file.
 #[derive(Clone, Copy)]
 struct Parts {
     read: f64,
@@ -70,6 +83,7 @@ struct Parts {
     floor: f64,
     index: f64,
     whole: f64,
+    own: f64,
 }
 
 impl Parts {
@@ -94,14 +108,15 @@ impl Parts {
             floor: self.floor.min(other.floor),
             index: self.index.min(other.index),
             whole: self.whole.min(other.whole),
+            own: self.own.min(other.own),
         }
     }
 
     /// All times, in the order of their names.
     fn all(self) -> [f64; COUNT] {
         let (fit, print) = (self.fit(), self.print());
-        let Parts { read, network, build, closest, floor, index, whole, .. } = self;
-        [read, network, build, closest, fit, floor, index, print, whole]
+        let Parts { read, network, build, closest, floor, index, whole, own, .. } = self;
+        [read, network, build, closest, fit, floor, index, print, own, whole]
     }
 }
 
@@ -119,10 +134,10 @@ fn rounds_of_both(measure: impl Fn(&[u8]) -> Parts, files: [&[u8]; 2]) -> [[f64;
 
 const ROUNDS: usize = 5;
 
-const COUNT: usize = 9;
+const COUNT: usize = 10;
 
 const NAMES: [&str; COUNT] =
-    ["read", "network", "build", "closest", "fit", "floor", "index", "print", "whole"];
+    ["read", "network", "build", "closest", "fit", "floor", "index", "print", "own", "whole"];
 
 /// The Wagner tree of a lent matrix by advancement, as a lent branching.
 fn branches(matrix: &[i32], weights: &[u8], n: usize, m: usize) -> Vec<usize> {
@@ -134,10 +149,12 @@ fn branches(matrix: &[i32], weights: &[u8], n: usize, m: usize) -> Vec<usize> {
 fn ours(file: &[u8]) -> Parts {
     let mut matrix = vec![0; MATRIX_SIZE];
     let (mut weights, mut names) = (lent::weights(), lent::names());
+    let mut records = lent::branches();
     let read = time(|| {
-        black_box(compare::read(black_box(file), &mut matrix, &mut weights, &mut names));
+        let file = black_box(file);
+        black_box(compare::read(file, &mut matrix, &mut weights, &mut names, &mut records));
     });
-    let head = compare::read(file, &mut matrix, &mut weights, &mut names);
+    let head = compare::read(file, &mut matrix, &mut weights, &mut names, &mut records);
     let (n, m) = (head.n, head.m);
     let network = time(|| {
         black_box(compare::network(black_box(&matrix), &weights, n, m));
@@ -164,17 +181,24 @@ fn ours(file: &[u8]) -> Parts {
     let whole = time(|| {
         black_box(compare::list(black_box(file), &mut out));
     });
-    Parts { read, network, build, closest, both, floor, index, whole }
+    let file = own_file(file);
+    let own = time(|| {
+        black_box(compare::list(black_box(&file), &mut out));
+    });
+    Parts { read, network, build, closest, both, floor, index, whole, own }
 }
 
 /// The parts of the plain loops.
 fn plain_loops(file: &[u8]) -> Parts {
     let mut matrix = vec![0; MATRIX_SIZE];
     let (mut weights, mut names) = (lent::weights(), lent::names());
+    let mut records = lent::branches();
     let read = time(|| {
-        black_box(plain::read(black_box(file), &mut matrix, &mut weights, &mut names));
+        let file = black_box(file);
+        black_box(plain::read(file, &mut matrix, &mut weights, &mut names, &mut records));
     });
-    let (n, m, _) = plain::read(file, &mut matrix, &mut weights, &mut names).unwrap();
+    let head = plain::read(file, &mut matrix, &mut weights, &mut names, &mut records).unwrap();
+    let (n, m) = (head.n, head.m);
     let network = time(|| {
         black_box(plain::network(black_box(&matrix), &weights, n, m));
     });
@@ -202,7 +226,12 @@ fn plain_loops(file: &[u8]) -> Parts {
         out = plain::list(black_box(file), std::mem::take(&mut out)).unwrap();
         black_box(&out);
     });
-    Parts { read, network, build, closest, both, floor, index, whole }
+    let file = own_file(file);
+    let own = time(|| {
+        out = plain::list(black_box(&file), std::mem::take(&mut out)).unwrap();
+        black_box(&out);
+    });
+    Parts { read, network, build, closest, both, floor, index, whole, own }
 }
 
 /// The parts of the reference.
@@ -236,7 +265,11 @@ fn theirs(file: &[u8]) -> Parts {
     let whole = time(|| {
         black_box(listing(black_box(file), IN_FORCE));
     });
-    Parts { read: read_time, network, build: build_time, closest, both, floor, index, whole }
+    let file = own_file(file);
+    let own = time(|| {
+        black_box(listing(black_box(&file), IN_FORCE));
+    });
+    Parts { read: read_time, network, build: build_time, closest, both, floor, index, whole, own }
 }
 
 /// Prints the times of one part.
