@@ -10,13 +10,13 @@ use Rattle.matrix.specs.Outcomes.{value}
 use Rattle.matrix.specs.Questions.{askMatrix}
 use Rattle.matrix.specs.declared.refusal.Asked.the-variants.{Passed}
 use Rattle.matrix.proofs.Passing.{matrix-passes}
-use Rattle.matrix_file.specs.Job.{Job}
-use Rattle.matrix_file.specs.Header.{headerOf}
-use Rattle.matrix_file.specs.Reading.{readAnswer}
+use Rattle.file_form.specs.Job.{Job}
+use Rattle.file_form.specs.Header.{headerOf}
+use Rattle.file_form.specs.Reading.{readAnswer}
 use Rattle.matrix_file.specs.Report.{ReadDone}
-use Rattle.matrix_file.specs.Written.{LentLists, jobWritten}
-use Rattle.matrix_file.specs.declared.answer.Header.{Header}
-use Rattle.matrix_file.specs.declared.answer.Kind.the-variants.{Own}
+use Rattle.file_form.specs.Written.{LentLists, jobWritten}
+use Rattle.file_form.specs.declared.header.Header.{Header}
+use Rattle.file_form.specs.declared.header.Kind.the-variants.{Own}
 use Rattle.matrix_file.specs.declared.answer.Read.{Read}
 use Rattle.matrix_file.specs.declared.answer.Read.the-variants.{Accepted}
 use Rattle.matrix_file.proofs.Lists.ReadLists.{job-lent, job-weighed, read-accepting}

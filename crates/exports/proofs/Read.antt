@@ -6,8 +6,8 @@ use Rattle.matrix.specs.Outcomes.{value}
 use Rattle.matrix.specs.Refusals.{refusalNumber}
 use Rattle.matrix.specs.declared.refusal.Refusal.{Refusal}
 use Rattle.matrix_file.specs.Report.{readSays, ReadDone}
-use Rattle.matrix_file.specs.Written.{LentLists}
-use Rattle.matrix_file.specs.declared.answer.Header.{Header}
+use Rattle.file_form.specs.Written.{LentLists}
+use Rattle.file_form.specs.declared.header.Header.{Header}
 use Rattle.matrix_file.specs.declared.answer.Read.{Read}
 use Rattle.matrix_file.specs.declared.answer.Read.the-variants.{Accepted, Refused}
 use Rattle.exports.specs.Answers.{fileRead}

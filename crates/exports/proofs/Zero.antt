@@ -12,11 +12,11 @@ use Rattle.matrix.specs.declared.refusal.Refusal.the-variants.{NameForm, NameTa
 use Rattle.matrix.specs.declared.refusal.Refusal.the-variants.{ListSize, NotThere, NotBranching, UnknownOrder, WeightForm, BranchForm}
 use Rattle.matrix.specs.declared.refusal.Asked.{Asked}
 use Rattle.matrix.specs.declared.refusal.Asked.the-variants.{Passed, Refused}
-use Rattle.matrix_file.specs.Job.{Job}
-use Rattle.matrix_file.specs.Reading.{readAnswer}
+use Rattle.file_form.specs.Job.{Job}
+use Rattle.file_form.specs.Reading.{readAnswer}
 use Rattle.matrix_file.specs.Report.{askSize, readOutcome, withHeader}
-use Rattle.matrix_file.specs.Written.{LentLists}
-use Rattle.matrix_file.proofs.File.Numbered.{refused-bounds}
+use Rattle.file_form.specs.Written.{LentLists}
+use Rattle.file_form.proofs.File.Numbered.{refused-bounds}
 use Rattle.consistency.specs.declared.index.Index.{Index}
 use Rattle.consistency.specs.declared.index.Index.the-variants.{Divided, NoTotal}
 use Rattle.exports.specs.Answers.{fileRead, measured, indexed}

@@ -1,9 +1,9 @@
 -- What the structs that are handed back say of what an input brings.
 use Prim.Native.Nat.{ℕ}
 use Rattle.matrix.specs.Outcomes.{Outcome, value, refused}
-use Rattle.matrix_file.specs.declared.answer.Header.{Header}
-use Rattle.matrix_file.specs.declared.answer.Kind.{Kind}
-use Rattle.matrix_file.specs.declared.answer.Kind.the-variants.{Wagner, Own}
+use Rattle.file_form.specs.declared.header.Header.{Header}
+use Rattle.file_form.specs.declared.header.Kind.{Kind}
+use Rattle.file_form.specs.declared.header.Kind.the-variants.{Wagner, Own}
 use Rattle.listing.specs.Meant.{orderMeant}
 use Rattle.exports.specs.Orders.{orderNumber}
 use Rattle.consistency.specs.declared.index.Index.{Index}

@@ -14,8 +14,8 @@ use Rattle.matrix.specs.declared.refusal.Refusal.the-variants.{ListSize}
 use Rattle.matrix.specs.declared.refusal.Asked.{Asked}
 use Rattle.matrix.specs.declared.refusal.Asked.the-variants.{Passed, Refused}
 use Rattle.difference.specs.Rows.{difference, nodeDifference, weighing}
-use Rattle.matrix_file.specs.Reading.{jobIn}
-use Rattle.matrix_file.specs.Written.{LentLists, jobWritten}
+use Rattle.file_form.specs.Reading.{jobIn}
+use Rattle.file_form.specs.Written.{LentLists, jobWritten}
 use Rattle.matrix_file.specs.Report.{withHeader, readOutcome}
 use Rattle.prim.specs.Network.{network, networkLength}
 use Rattle.branching.specs.LentNumbers.{lentNumbers, recordsIn}

@@ -16,10 +16,10 @@ use lib.Signed.{ltZ}
 use Rattle.lists.proofs.Numbers.{map-numbers}
 use Rattle.difference.specs.Rows.{apart}
 use Rattle.difference.proofs.Laws.Codes.{apart-from-zero}
-use Rattle.matrix_file.specs.Bytes.{tab, minus, partLength, firstPart}
-use Rattle.matrix_file.specs.Decimal.{digitsOf, decimal}
-use Rattle.matrix_file.specs.Text.{bytes}
-use Rattle.matrix_file.specs.Job.{nameSize}
+use Rattle.file_form.specs.Bytes.{tab, minus, partLength, firstPart}
+use Rattle.file_form.specs.Decimal.{digitsOf, decimal}
+use Rattle.file_form.specs.Text.{bytes}
+use Rattle.file_form.specs.Job.{nameSize}
 use Rattle.lines.specs.Lines.{hyphen, htuName, nodeName}
 use Rattle.lines.specs.Names.{nameBytes, namesIn}
 

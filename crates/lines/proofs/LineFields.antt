@@ -2,7 +2,7 @@
 use mathlib.Core.Path.{_≡_, refl, ap, _∙_}
 use mathlib.Core.List.{List, [], _∷_, _++_, append-assoc}
 use Prim.Native.Nat.{ℕ}
-use Rattle.matrix_file.specs.Bytes.{tab, lineFeed, joinedBy}
+use Rattle.file_form.specs.Bytes.{tab, lineFeed, joinedBy}
 use Rattle.lines.specs.Lines.{line}
 
 -- what stands behind the first field of a line: a tab before each field, and the line feed

@@ -4,8 +4,8 @@ use mathlib.Core.Bool.{Bool, true, false}
 use Prim.Native.Nat.{ℕ}
 use Prim.Native.String.{String}
 use lib.IntN.{ℤ}
-use Rattle.matrix_file.specs.Decimal.{digitsOf, decimal}
-use Rattle.matrix_file.specs.Text.{bytes}
+use Rattle.file_form.specs.Decimal.{digitsOf, decimal}
+use Rattle.file_form.specs.Text.{bytes}
 use Rattle.prim.specs.Network.{Link}
 use Rattle.branching.specs.declared.placement.Placement.{Placement}
 use Rattle.consistency.specs.declared.index.Index.{Index}

@@ -4,9 +4,9 @@ use mathlib.Core.Bool.{true, false}
 use Prim.Native.Nat.{ℕ, zero, suc, _-_}
 use lib.Dec.{leb}
 use lib.ListN.{getD}
-use Rattle.matrix_file.specs.Bytes.{tab, lineFeed, joinedBy}
-use Rattle.matrix_file.specs.Decimal.{digitsOf}
-use Rattle.matrix_file.specs.Text.{bytes}
+use Rattle.file_form.specs.Bytes.{tab, lineFeed, joinedBy}
+use Rattle.file_form.specs.Decimal.{digitsOf}
+use Rattle.file_form.specs.Text.{bytes}
 
 -- a line: its fields parted by tabs, ended by a line feed
 unfoldable pub line : List (List ℕ) → List ℕ

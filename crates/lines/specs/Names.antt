@@ -3,8 +3,8 @@ use mathlib.Core.List.{List, map}
 use Prim.Native.Nat.{ℕ, _*_}
 use lib.ListN.{take, drop}
 use Rattle.lists.specs.Numbers.{numbers}
-use Rattle.matrix_file.specs.Bytes.{firstPart}
-use Rattle.matrix_file.specs.Job.{nameSize}
+use Rattle.file_form.specs.Bytes.{firstPart}
+use Rattle.file_form.specs.Job.{nameSize}
 
 -- the bytes lent for the name at place k, the first at place 0
 unfoldable pub nameBytes : List ℕ → ℕ → List ℕ

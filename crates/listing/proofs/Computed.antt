@@ -12,17 +12,17 @@ use Rattle.lists.specs.Pairs as lists-Pairs
 use Rattle.matrix.specs.NodeRows as matrix-NodeRows
 use Rattle.matrix.specs.Questions as matrix-Questions
 use Rattle.difference.specs.Rows as difference-Rows
-use Rattle.matrix_file.specs.Bytes as matrix-file-Bytes
-use Rattle.matrix_file.specs.Decimal as matrix-file-Decimal
-use Rattle.matrix_file.specs.Job as matrix-file-Job
-use Rattle.matrix_file.specs.Lines as matrix-file-Lines
-use Rattle.matrix_file.specs.Header as matrix-file-Header
-use Rattle.matrix_file.specs.Optional as matrix-file-Optional
-use Rattle.matrix_file.specs.Weights as matrix-file-Weights
-use Rattle.matrix_file.specs.Branches as matrix-file-Branches
-use Rattle.matrix_file.specs.Rows as matrix-file-Rows
-use Rattle.matrix_file.specs.Reading as matrix-file-Reading
-use Rattle.matrix_file.specs.Text as matrix-file-Text
+use Rattle.file_form.specs.Bytes as file-form-Bytes
+use Rattle.file_form.specs.Decimal as file-form-Decimal
+use Rattle.file_form.specs.Job as file-form-Job
+use Rattle.file_form.specs.Lines as file-form-Lines
+use Rattle.file_form.specs.Header as file-form-Header
+use Rattle.file_form.specs.Optional as file-form-Optional
+use Rattle.file_form.specs.Weights as file-form-Weights
+use Rattle.file_form.specs.Branches as file-form-Branches
+use Rattle.file_form.specs.Rows as file-form-Rows
+use Rattle.file_form.specs.Reading as file-form-Reading
+use Rattle.file_form.specs.Text as file-form-Text
 use Rattle.prim.specs.Network as prim-Network
 use Rattle.branching.specs.Ancestors as branching-Ancestors
 use Rattle.branching.specs.Nodes as branching-Nodes
@@ -52,22 +52,22 @@ unfolding flatMap matrix-Shape.row matrix-Shape.inRange matrix-Shape.lastNode li
     matrix-Questions.rowsInRange matrix-Questions.askMatrix matrix-Questions.nodesExist matrix-Questions.htuInRange
     matrix-Questions.htusInRange matrix-Questions.askNodes difference-Rows.apart difference-Rows.lower difference-Rows.higher
     difference-Rows.median difference-Rows.part matrix-Shape.weightAt matrix-Shape.weightOf matrix-Shape.isWeight
-    difference-Rows.difference difference-Rows.medians matrix-file-Bytes.isDigit matrix-file-Bytes.isLetter
-    matrix-file-Bytes.partsAt matrix-file-Bytes.partLength matrix-file-Bytes.firstPart matrix-file-Bytes.behindPart
-    matrix-file-Bytes.joinedBy matrix-file-Decimal.digitsIn matrix-file-Decimal.digitsOf matrix-file-Decimal.decimal
-    matrix-file-Decimal.noLeadingZero matrix-file-Decimal.numberForm matrix-file-Decimal.numberFrom matrix-file-Decimal.numberOf
-    matrix-file-Decimal.codeForm matrix-file-Decimal.codeOf matrix-file-Job.inName matrix-file-Job.nameForm
-    matrix-file-Job.differsFromAll matrix-file-Job.allDiffer matrix-file-Job.hasCodes matrix-file-Job.firstText matrix-file-Job.rowText
-    matrix-file-Job.ended matrix-file-Job.fileOf matrix-file-Lines.linesOf matrix-file-Lines.fieldsOf matrix-file-Header.headerIn
-    matrix-file-Header.firstForm matrix-file-Header.orderKnown matrix-file-Header.isOrder matrix-file-Header.orderIn
-    matrix-file-Header.firstLineForm matrix-file-Header.askFirstLine matrix-file-Header.askWeights matrix-file-Header.askHeader
-    matrix-file-Optional.optionalThere matrix-file-Optional.optionalFields matrix-file-Optional.askOptional
-    matrix-file-Weights.weightForm matrix-file-Weights.weightIn matrix-file-Weights.weightsForm matrix-file-Weights.weightsSaid
-    matrix-file-Header.isKind matrix-file-Header.kindSaid matrix-file-Branches.branchForm matrix-file-Branches.ancestorIn
-    matrix-file-Branches.branchText matrix-file-Branches.branchTexts matrix-file-Branches.askBranches matrix-file-Reading.askAfter
-    matrix-file-Rows.nameIn matrix-file-Rows.codesIn matrix-file-Rows.askCodes matrix-file-Rows.askRow matrix-file-Rows.askRows
-    matrix-file-Reading.jobOf matrix-file-Reading.nothingMore matrix-file-Reading.askEnd matrix-file-Reading.askBehind
-    matrix-file-Reading.askFile matrix-file-Reading.askLength matrix-file-Reading.readAnswer matrix-file-Text.bytes prim-Network.taxa
+    difference-Rows.difference difference-Rows.medians file-form-Bytes.isDigit file-form-Bytes.isLetter
+    file-form-Bytes.partsAt file-form-Bytes.partLength file-form-Bytes.firstPart file-form-Bytes.behindPart
+    file-form-Bytes.joinedBy file-form-Decimal.digitsIn file-form-Decimal.digitsOf file-form-Decimal.decimal
+    file-form-Decimal.noLeadingZero file-form-Decimal.numberForm file-form-Decimal.numberFrom file-form-Decimal.numberOf
+    file-form-Decimal.codeForm file-form-Decimal.codeOf file-form-Job.inName file-form-Job.nameForm
+    file-form-Job.differsFromAll file-form-Job.allDiffer file-form-Job.hasCodes file-form-Job.firstText file-form-Job.rowText
+    file-form-Job.ended file-form-Job.fileOf file-form-Lines.linesOf file-form-Lines.fieldsOf file-form-Header.headerIn
+    file-form-Header.firstForm file-form-Header.orderKnown file-form-Header.isOrder file-form-Header.orderIn
+    file-form-Header.firstLineForm file-form-Header.askFirstLine file-form-Header.askWeights file-form-Header.askHeader
+    file-form-Optional.optionalThere file-form-Optional.optionalFields file-form-Optional.askOptional
+    file-form-Weights.weightForm file-form-Weights.weightIn file-form-Weights.weightsForm file-form-Weights.weightsSaid
+    file-form-Header.isKind file-form-Header.kindSaid file-form-Branches.branchForm file-form-Branches.ancestorIn
+    file-form-Branches.branchText file-form-Branches.branchTexts file-form-Branches.askBranches file-form-Reading.askAfter
+    file-form-Rows.nameIn file-form-Rows.codesIn file-form-Rows.askCodes file-form-Rows.askRow file-form-Rows.askRows
+    file-form-Reading.jobOf file-form-Reading.nothingMore file-form-Reading.askEnd file-form-Reading.askBehind
+    file-form-Reading.askFile file-form-Reading.askLength file-form-Reading.readAnswer file-form-Text.bytes prim-Network.taxa
     prim-Network.networkLength lists-Tests.among lists-Filters.without prim-Network.unplaced prim-Network.nearestPlaced
     prim-Network.distance prim-Network.link prim-Network.next prim-Network.grow prim-Network.network difference-Rows.nodeDifference
     branching-Ancestors.ancestor branching-Ancestors.descendants branching-Nodes.hasAncestor branching-Nodes.inTree lists-Filters.keep
@@ -94,4 +94,4 @@ unfolding flatMap matrix-Shape.row matrix-Shape.inRange matrix-Shape.lastNode li
     listing-Blocks.rangeLine listing-Blocks.fittedLines listing-Blocks.rangeLines listing-Listing.primBlock listing-Listing.wagnerBlock
     listing-Listing.fittedBlock listing-Listing.indexBlock listing-Listing.rangeBlock listing-Listing.treeBlocks listing-Listing.blocksFor listing-Listing.blocks listing-Listing.listing
     listing-Listing.printed listing-Listing.listingOf listing-Listing.output
-computed lines = listing-Listing.output (flatMap matrix-file-Text.bytes lines)
+computed lines = listing-Listing.output (flatMap file-form-Text.bytes lines)

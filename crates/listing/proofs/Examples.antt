@@ -3,7 +3,7 @@ use mathlib.Core.Path.{_≡_, refl}
 use mathlib.Core.List.{List, [], _∷_, flatMap}
 use Prim.Native.Nat.{ℕ}
 use Prim.Native.String.{String}
-use Rattle.matrix_file.specs.Text.{bytes}
+use Rattle.file_form.specs.Text.{bytes}
 use Rattle.listing.proofs.Computed.{computed}
 
 -- the bytes of some lines

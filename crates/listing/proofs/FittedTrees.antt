@@ -8,7 +8,7 @@ use lib.IntN.{ℤ}
 use lib.ListN.{length, getD}
 use Rattle.matrix.specs.NodeRows.{rowsOf}
 use Rattle.matrix.specs.Questions.{LentMatrix, LentWeights}
-use Rattle.matrix_file.specs.Job.{Job}
+use Rattle.file_form.specs.Job.{Job}
 use Rattle.difference.specs.Rows.{Measure, weighing}
 use Rattle.branching.specs.declared.tree.Tree.{Tree}
 use Rattle.branching.specs.Ancestors.{ancestors, ancestor}

@@ -9,8 +9,8 @@ use Rattle.matrix.specs.NodeRows.{rowsOf}
 use Rattle.matrix.specs.Questions.{LentMatrix, LentWeights, askMatrix}
 use Rattle.matrix.specs.declared.refusal.Asked.the-variants.{Passed}
 use Rattle.matrix.proofs.Passing.{matrix-passes}
-use Rattle.matrix_file.specs.Job.{Job}
-use Rattle.matrix_file.specs.declared.answer.Kind.the-variants.{Wagner}
+use Rattle.file_form.specs.Job.{Job}
+use Rattle.file_form.specs.declared.header.Kind.the-variants.{Wagner}
 use Rattle.difference.specs.Rows.{difference, nodeDifference, Measure, weighing}
 use Rattle.prim.specs.Network.{network}
 use Rattle.prim.specs.Answers.{Holds, NetworkAnswer}

@@ -7,10 +7,10 @@ use native.Mathlib.Omega.{arith}
 use lib.IntN.{ℤ}
 use Rattle.matrix.specs.Shape.{lastNode}
 use Rattle.matrix.specs.Outcomes.{value}
-use Rattle.matrix_file.specs.Job.{Job}
-use Rattle.matrix_file.specs.declared.answer.Kind.the-variants.{Wagner, Own}
-use Rattle.matrix_file.specs.Reading.{readAnswer}
-use Rattle.matrix_file.proofs.File.Accepted.{accepted-exactly}
+use Rattle.file_form.specs.Job.{Job}
+use Rattle.file_form.specs.declared.header.Kind.the-variants.{Wagner, Own}
+use Rattle.file_form.specs.Reading.{readAnswer}
+use Rattle.file_form.proofs.File.Accepted.{accepted-exactly}
 use Rattle.prim.specs.Network.{networkLength}
 use Rattle.branching.specs.Ancestors.{treeWith}
 use Rattle.branching.specs.Growing.{branching}

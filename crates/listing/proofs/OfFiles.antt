@@ -9,13 +9,13 @@ use lib.ListN.{length, length-append}
 use Rattle.lists.proofs.Filled.{getD-replicate}
 use Rattle.matrix.specs.Shape.{weightAt}
 use Rattle.matrix.specs.Outcomes.{Outcome, value, refused}
-use Rattle.matrix_file.specs.Decimal.{digitsOf}
-use Rattle.matrix_file.specs.Text.{bytes}
-use Rattle.matrix_file.specs.Job.{Job}
-use Rattle.matrix_file.specs.declared.answer.Kind.{Kind}
-use Rattle.matrix_file.specs.declared.answer.Kind.the-variants.{Wagner, Own}
-use Rattle.matrix_file.specs.Reading.{readAnswer}
-use Rattle.matrix_file.proofs.File.FileOfRead.{file-of-read}
+use Rattle.file_form.specs.Decimal.{digitsOf}
+use Rattle.file_form.specs.Text.{bytes}
+use Rattle.file_form.specs.Job.{Job}
+use Rattle.file_form.specs.declared.header.Kind.{Kind}
+use Rattle.file_form.specs.declared.header.Kind.the-variants.{Wagner, Own}
+use Rattle.file_form.specs.Reading.{readAnswer}
+use Rattle.file_form.proofs.File.FileOfRead.{file-of-read}
 use Rattle.difference.specs.Rows.{Measure, plain}
 use Rattle.difference.proofs.Laws.Measure.{measure-alike}
 use Rattle.branching.specs.Ancestors.{treeWith}

@@ -9,10 +9,10 @@ use Rattle.lists.specs.Sums.{sumOver}
 use Rattle.lists.specs.Numbers.{numbers}
 use Rattle.lists.specs.Filters.{keep}
 use Rattle.difference.specs.Rows.{Measure}
-use Rattle.matrix_file.specs.Job.{Job}
-use Rattle.matrix_file.specs.declared.answer.Kind.{Kind}
-use Rattle.matrix_file.specs.declared.answer.Kind.the-variants.{Wagner, Own}
-use Rattle.matrix_file.specs.declared.answer.OrderWord.{OrderWord}
+use Rattle.file_form.specs.Job.{Job}
+use Rattle.file_form.specs.declared.header.Kind.{Kind}
+use Rattle.file_form.specs.declared.header.Kind.the-variants.{Wagner, Own}
+use Rattle.file_form.specs.declared.header.OrderWord.{OrderWord}
 use Rattle.prim.specs.Network.{network, networkLength, grow}
 use Rattle.branching.specs.Nodes.{nodesIn, otherNodes}
 use Rattle.branching.specs.Branches.{treeLength}

@@ -8,8 +8,8 @@ use lib.ListN.{length, length-map, length-append}
 use Rattle.lists.specs.Numbers.{numbers}
 use Rattle.lists.proofs.Numbers.{length-numbers, length-map-numbers}
 use Rattle.matrix.specs.NodeRows.{rowOf}
-use Rattle.matrix_file.specs.Job.{Job}
-use Rattle.matrix_file.specs.declared.answer.Kind.the-variants.{Wagner, Own}
+use Rattle.file_form.specs.Job.{Job}
+use Rattle.file_form.specs.declared.header.Kind.the-variants.{Wagner, Own}
 use Rattle.difference.specs.Rows.{Measure, nodeDifference}
 use Rattle.prim.specs.Network.{Link, network, networkLength}
 use Rattle.prim.proofs.Placing.{network-length}

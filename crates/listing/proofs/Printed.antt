@@ -2,9 +2,9 @@
 use mathlib.Core.Path.{_≡_, ap}
 use mathlib.Core.List.{List}
 use Prim.Native.Nat.{ℕ}
-use Rattle.matrix_file.specs.Job.{Job}
+use Rattle.file_form.specs.Job.{Job}
 use Rattle.matrix.specs.Outcomes.{Outcome}
-use Rattle.matrix_file.specs.Reading.{readAnswer}
+use Rattle.file_form.specs.Reading.{readAnswer}
 use Rattle.lines.specs.Lines.{joined}
 use Rattle.listing.specs.Listing.{printed, listingOf, output}
 

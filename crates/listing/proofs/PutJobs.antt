@@ -5,9 +5,9 @@ use Prim.Native.Nat.{ℕ}
 use native.Mathlib.Omega.{arith}
 use lib.IntN.{ℤ}
 use Rattle.matrix.specs.NodeRows.{rowsOf}
-use Rattle.matrix_file.specs.declared.answer.Header.{Header}
-use Rattle.matrix_file.specs.declared.answer.Kind.the-variants.{Wagner, Own}
-use Rattle.matrix_file.specs.Written.{LentLists, lent}
+use Rattle.file_form.specs.declared.header.Header.{Header}
+use Rattle.file_form.specs.declared.header.Kind.the-variants.{Wagner, Own}
+use Rattle.file_form.specs.Written.{LentLists, lent}
 use Rattle.difference.specs.Rows.{Measure, weighing}
 use Rattle.branching.specs.declared.branch.Branch.{Branch}
 use Rattle.branching.specs.declared.tree.Tree.{Tree}

@@ -12,15 +12,15 @@ use Rattle.matrix.specs.Questions.{LentMatrix, LentWeights}
 use Rattle.matrix.specs.Refusals.{refusalNumber}
 use Rattle.matrix.specs.Outcomes.{value, refused}
 use Rattle.matrix.specs.declared.refusal.Refusal.{Refusal}
-use Rattle.matrix_file.specs.Job.{Job}
-use Rattle.matrix_file.specs.Header.{headerOf}
-use Rattle.matrix_file.specs.Reading.{readAnswer}
+use Rattle.file_form.specs.Job.{Job}
+use Rattle.file_form.specs.Header.{headerOf}
+use Rattle.file_form.specs.Reading.{readAnswer}
 use Rattle.matrix_file.specs.Report.{readSays, readOutcome, ReadDone}
-use Rattle.matrix_file.specs.Written.{namesSize, weightsWritten, LentLists}
-use Rattle.matrix_file.specs.declared.answer.Header.{Header}
+use Rattle.file_form.specs.Written.{namesSize, weightsWritten, LentLists}
+use Rattle.file_form.specs.declared.header.Header.{Header}
 use Rattle.matrix_file.specs.declared.answer.Read.{Read}
 use Rattle.matrix_file.specs.declared.answer.Read.the-variants as Read
-use Rattle.matrix_file.proofs.File.Outcomes.{then-refused}
+use Rattle.file_form.proofs.File.Outcomes.{then-refused}
 use Rattle.matrix_file.proofs.Lists.ReadLists.{job-lent, job-weighed, Accepting, read-accepting}
 use Rattle.matrix_file.proofs.Lists.ReadWalk.{full-lists, sized, full as outcome-full}
 use Rattle.branching.specs.Branches.{ancestorsOf}

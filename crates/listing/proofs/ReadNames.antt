@@ -5,8 +5,8 @@ use Prim.Native.Nat.{ℕ, _+_, _-_}
 use native.Mathlib.Omega.{arith}
 use lib.ListN.{length}
 use Rattle.lists.proofs.Every.{every-at}
-use Rattle.matrix_file.specs.Job.{Job, JobWithinLimits, nameForm}
-use Rattle.matrix_file.specs.Written.{namesSize, namesWritten}
+use Rattle.file_form.specs.Job.{Job, JobWithinLimits, nameForm}
+use Rattle.file_form.specs.Written.{namesSize, namesWritten}
 use Rattle.matrix_file.proofs.Lists.ReadLists.{job-name}
 use Rattle.lines.specs.Names.{nameBytes}
 use Rattle.listing.specs.Handed.{HoldsNames}

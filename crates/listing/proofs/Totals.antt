@@ -12,7 +12,7 @@ use Rattle.lists.proofs.Both.{and-left, and-right}
 use Rattle.lists.proofs.Every.{every-at}
 use Rattle.matrix.specs.NodeRows.{rowOf}
 use Rattle.matrix.specs.Questions.{oneTo, withinLimits}
-use Rattle.matrix_file.specs.Job.{Job, JobWithinLimits, hasCodes}
+use Rattle.file_form.specs.Job.{Job, JobWithinLimits, hasCodes}
 use Rattle.difference.specs.Rows.{Measure}
 use Rattle.prim.specs.Network.{Link, networkLength}
 use Rattle.branching.specs.declared.placement.Placement.{Placement}

@@ -13,9 +13,9 @@ use Rattle.lists.specs.Filled.{filled}
 use Rattle.lists.specs.Tests.{every}
 use Rattle.lists.proofs.Both.{and-left, and-right}
 use Rattle.lists.proofs.Every.{every-head, every-tail}
-use Rattle.matrix_file.specs.Bytes.{underscore, isDigit, isLetter, partLength, firstPart}
-use Rattle.matrix_file.specs.Job.{nameSize, inName, nameForm}
-use Rattle.matrix_file.specs.Written.{padded}
+use Rattle.file_form.specs.Bytes.{underscore, isDigit, isLetter, partLength, firstPart}
+use Rattle.file_form.specs.Job.{nameSize, inName, nameForm}
+use Rattle.file_form.specs.Written.{padded}
 use Rattle.lines.specs.Lines.{nodeName}
 use Rattle.lines.specs.Names.{namesIn}
 use Rattle.lines.proofs.Fields.{part-goes-on, node-taxon, node-lent, node-htu}

@@ -7,10 +7,10 @@ use lib.IntN.{ℤ}
 use lib.ListN.{length}
 use Rattle.matrix.specs.Shape.{columns, matrixSize, row}
 use Rattle.matrix.specs.NodeRows.{rowsOf}
-use Rattle.matrix_file.specs.declared.answer.Header.{Header}
-use Rattle.matrix_file.specs.declared.answer.Kind.the-variants.{Own}
-use Rattle.matrix_file.specs.Job.{Job}
-use Rattle.matrix_file.specs.Written.{LentLists}
+use Rattle.file_form.specs.declared.header.Header.{Header}
+use Rattle.file_form.specs.declared.header.Kind.the-variants.{Own}
+use Rattle.file_form.specs.Job.{Job}
+use Rattle.file_form.specs.Written.{LentLists}
 use Rattle.difference.specs.Rows.{Measure, difference, nodeDifference, weighing}
 use Rattle.prim.specs.Network.{network}
 use Rattle.prim.specs.Answers.{mostLinks, Holds}

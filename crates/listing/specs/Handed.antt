@@ -7,8 +7,8 @@ use lib.IntN.{ℤ}
 use lib.ListN.{length, getD, take}
 use Rattle.lists.specs.Filled.{filled}
 use Rattle.lists.specs.Numbers.{numbers}
-use Rattle.matrix_file.specs.Job.{nameForm}
-use Rattle.matrix_file.specs.Written.{padded}
+use Rattle.file_form.specs.Job.{nameForm}
+use Rattle.file_form.specs.Written.{padded}
 use Rattle.prim.specs.declared.answer.Network.{Network}
 use Rattle.branching.specs.declared.placement.Placement.{Placement}
 use Rattle.branching.specs.declared.tree.Tree.{Tree}

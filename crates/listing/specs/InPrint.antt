@@ -11,7 +11,7 @@ use lib.Signed.{_≤ℤ_}
 use Rattle.lists.specs.Numbers.{numbers}
 use Rattle.lists.specs.Sums.{sumOver}
 use Rattle.matrix.specs.NodeRows.{rowOf}
-use Rattle.matrix_file.specs.Job.{Job}
+use Rattle.file_form.specs.Job.{Job}
 use Rattle.difference.specs.Rows.{nodeDifference}
 use Rattle.prim.specs.Network.{Link}
 use Rattle.prim.specs.Rival.{Connected, linkEnds, linksLength}

@@ -3,10 +3,10 @@ use mathlib.Core.List.{List, [], _∷_, _++_, map, flatMap}
 use Prim.Native.Nat.{ℕ}
 use Rattle.matrix.specs.NodeRows.{rowOf}
 use Rattle.matrix.specs.Outcomes.{Outcome, value, refused}
-use Rattle.matrix_file.specs.Job.{Job}
-use Rattle.matrix_file.specs.declared.answer.Kind.{Kind}
-use Rattle.matrix_file.specs.declared.answer.Kind.the-variants.{Wagner, Own}
-use Rattle.matrix_file.specs.Reading.{readAnswer}
+use Rattle.file_form.specs.Job.{Job}
+use Rattle.file_form.specs.declared.header.Kind.{Kind}
+use Rattle.file_form.specs.declared.header.Kind.the-variants.{Wagner, Own}
+use Rattle.file_form.specs.Reading.{readAnswer}
 use Rattle.difference.specs.Rows.{Measure, nodeDifference}
 use Rattle.prim.specs.Network.{network, networkLength}
 use Rattle.branching.specs.Ancestors.{treeWith}

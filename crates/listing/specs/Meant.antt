@@ -1,7 +1,7 @@
 -- Which order of placing line 1 of a file means (document 02, M-100), and how change is measured by the weights of its `V` line (M-101).
-use Rattle.matrix_file.specs.declared.answer.OrderWord.{OrderWord}
-use Rattle.matrix_file.specs.declared.answer.OrderWord.the-variants as Word
-use Rattle.matrix_file.specs.Job.{Job}
+use Rattle.file_form.specs.declared.header.OrderWord.{OrderWord}
+use Rattle.file_form.specs.declared.header.OrderWord.the-variants as Word
+use Rattle.file_form.specs.Job.{Job}
 use Rattle.difference.specs.Rows.{Measure, weighing}
 use Rattle.wagner.specs.declared.order.Order.{Order}
 use Rattle.wagner.specs.declared.order.Order.the-variants as Order

@@ -13,7 +13,7 @@ use matrix_file::reading::read;
 ghost use mathlib.Core.Path.{_≡_};
 ghost use lib.ListN.{length, replicate};
 ghost use Rattle.matrix.specs.Shape.{matrixSize, columns};
-ghost use Rattle.matrix_file.specs.Written.{namesSize};
+ghost use Rattle.file_form.specs.Written.{namesSize};
 ghost use Rattle.branching.specs.LentNumbers.{lentNumbers};
 ghost use Rattle.lines.specs.Put.{Put};
 ghost use Rattle.listing.specs.Listing.{output};

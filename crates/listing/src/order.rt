@@ -1,5 +1,5 @@
 // The order of placing that line 1 of a file means.
-use matrix_file::answer::OrderWord;
+use file_form::header::OrderWord;
 use wagner::order::Order;
 ghost use mathlib.Core.Path.{_≡_};
 ghost use Rattle.listing.specs.Meant.{orderMeant};

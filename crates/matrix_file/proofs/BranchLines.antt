@@ -1,7 +1,4 @@
--- The `C` lines of a file: what passes their questions, how they are written, and the walks that put the questions and read them.
-pub mod Form
-pub mod Passed
-pub mod Written
+-- The `C` lines of a file: the walks that put their questions and read them.
 pub mod Walk
 pub mod Said
 pub mod Tree

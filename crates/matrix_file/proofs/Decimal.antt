@@ -1,5 +1,3 @@
--- Whole numbers in decimal.
-pub mod Digits
-pub mod Codes
+-- Whole numbers in decimal, as walks over their digits read them.
 pub mod NumberWalk
 pub mod CodeWalk

@@ -1,6 +1,4 @@
--- Laws of reading a matrix file. `File.Accepted` has the law that joins the file of a job and the questions; `Lists.ReadLists` says what
--- the lent lists hold after a read.
-pub mod Text
+-- Laws of reading a matrix file. `Lists.ReadLists` says what the lent lists hold after a read.
 pub mod Decimal
 pub mod Rows
 pub mod BranchLines

@@ -1,8 +1,4 @@
--- The rows of a file: names and codes within the limits, what passes their questions, and the walk that puts them.
-pub mod Within
-pub mod Names
-pub mod PassedRows
-pub mod WrittenRows
+-- The rows of a file: the form of a name, and the walks that put the rows' questions.
 pub mod RowsWalk
 pub mod NameForm
 pub mod NamesWalk

@@ -1,15 +1,3 @@
 -- Reading a matrix file (document 01, "The matrix file" and "Reading a file").
-pub mod Bytes
-pub mod Decimal
-pub mod Lines
-pub mod Optional
-pub mod Weights
-pub mod Branches
-pub mod Job
-pub mod Header
-pub mod Rows
-pub mod Reading
-pub mod Written
 pub mod Report
 pub mod Walk
-pub mod Text

@@ -12,13 +12,13 @@ use Rattle.matrix.specs.declared.refusal.Refusal.the-variants.{ListSize}
 use Rattle.matrix.specs.declared.refusal.Asked.{Asked}
 use Rattle.matrix.specs.declared.refusal.Asked.the-variants.{Passed}
 use Rattle.branching.specs.LentNumbers.{lentNumbers}
-use Rattle.matrix_file.specs.declared.answer.Header.{Header}
+use Rattle.file_form.specs.declared.header.Header.{Header}
 use Rattle.matrix_file.specs.declared.answer.Read.{Read}
 use Rattle.matrix_file.specs.declared.answer.Read.the-variants.{Accepted, Refused}
-use Rattle.matrix_file.specs.Job.{Job}
-use Rattle.matrix_file.specs.Header.{headerOf}
-use Rattle.matrix_file.specs.Reading.{readAnswer, jobIn}
-use Rattle.matrix_file.specs.Written.{namesSize, LentLists, jobWritten}
+use Rattle.file_form.specs.Job.{Job}
+use Rattle.file_form.specs.Header.{headerOf}
+use Rattle.file_form.specs.Reading.{readAnswer, jobIn}
+use Rattle.file_form.specs.Written.{namesSize, LentLists, jobWritten}
 
 -- what an answer says in document 01's terms: the header, or the number of the refusal and the line
 abbrev pub readSays : Read → Outcome Header

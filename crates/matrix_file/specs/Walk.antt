@@ -1,34 +1,31 @@
 -- No public contract cites this file. What a walk over the rows or the `C` lines of a file knows and answers: the names that it has
--- passed, that lines are well formed, and where they end.
+-- passed, and where they end.
 use mathlib.Core.Path.{_≡_}
 use mathlib.Core.List.{List, [], _∷_, map}
-use mathlib.Core.Bool.{Bool, true, _&&_}
-use Prim.Native.Nat.{ℕ, zero, suc, _+_, _<_}
-use lib.Dec.{leb}
-use lib.ListN.{length, getD, take, drop}
-use Rattle.lists.specs.Tests.{every}
+use mathlib.Core.Bool.{Bool}
+use Prim.Native.Nat.{ℕ, zero, suc, _+_}
+use lib.ListN.{getD, take, drop}
 use Rattle.matrix.specs.Outcomes.{Outcome, refused}
 use Rattle.matrix.specs.Refusals.{refusalNumber}
 use Rattle.matrix.specs.declared.refusal.Asked.{Asked}
 use Rattle.matrix.specs.declared.refusal.Asked.the-variants as Asked
-use Rattle.branching.specs.LentNumbers.{recordNumbers}
-use Rattle.matrix_file.specs.declared.answer.Header.{Header}
+use Rattle.file_form.specs.declared.header.Header.{Header}
 use Rattle.matrix_file.specs.declared.answer.Read.{Read}
 use Rattle.matrix_file.specs.declared.answer.Read.the-variants as Read
 use Rattle.matrix_file.specs.declared.answer.LinesAnswer.{LinesAnswer}
 use Rattle.matrix_file.specs.declared.answer.LinesAnswer.the-variants.{Ended, Refused}
 use Rattle.matrix_file.specs.declared.bytes.Alphabet.{Alphabet}
 use Rattle.matrix_file.specs.declared.bytes.Alphabet.the-variants.{Digits, Name}
-use Rattle.matrix_file.specs.Bytes.{tab, isDigit, firstPart}
-use Rattle.matrix_file.specs.Decimal.{numberOf, codeForm}
-use Rattle.matrix_file.specs.Job.{Job, inName, nameForm}
-use Rattle.matrix_file.specs.Lines.{linesOf, fieldsOf}
-use Rattle.matrix_file.specs.Rows.{nameIn, askRows}
-use Rattle.matrix_file.specs.Branches.{branchCount, branchForm, ancestorIn, askBranches}
-use Rattle.matrix_file.specs.Header.{headerOf}
-use Rattle.matrix_file.specs.Reading.{askAfter}
+use Rattle.file_form.specs.Bytes.{tab, isDigit, firstPart}
+use Rattle.file_form.specs.Job.{Job, inName}
+use Rattle.file_form.specs.Lines.{linesOf}
+use Rattle.file_form.specs.Rows.{nameIn, askRows}
+use Rattle.file_form.specs.Branches.{branchCount, ancestorIn, askBranches}
+use Rattle.file_form.specs.Header.{headerOf}
+use Rattle.file_form.specs.Reading.{askAfter}
 use Rattle.matrix_file.specs.Report.{readSays, withHeader}
-use Rattle.matrix_file.specs.Written.{padded}
+use Rattle.file_form.specs.Formed.{BranchesFormed}
+use Rattle.file_form.specs.Written.{padded}
 
 -- a byte is one of an alphabet
 abbrev pub inAlphabet : Alphabet → ℕ → Bool
@@ -43,17 +40,6 @@ namesPassed rows starts (suc count) = firstPart tab (drop (getD starts count 0) 
 -- the name of a row's line, as it is written
 abbrev pub paddedIn : List ℕ → List ℕ
 paddedIn line = padded (nameIn line)
-
--- a row's line: a name and 1 to 128 codes, all of the right form
-unfoldable pub rowForm : List ℕ → Bool
-rowForm line =
-    (leb 2 (length (fieldsOf line)) && leb (length (fieldsOf line)) 129)
-    && (nameForm (nameIn line) && every codeForm (drop 1 (fieldsOf line)))
-
--- a text has n lines ended by a line feed, each a row's
-pub record RowsFormed (n : ℕ) (rows : List ℕ) : Type 0 where
-  pub count : n < length (linesOf rows)
-  pub formed : every rowForm (take n (linesOf rows)) ≡ true
 
 -- the header if the questions put to a line pass, else their refusal and the line
 abbrev pub headerOn : ℕ → Asked → Header → Read
@@ -80,19 +66,10 @@ pub record RowsAsked (rows : List ℕ) (header : Header) (first : ℕ) (r : Line
       (follow : ℕ → List (List ℕ) → Outcome Job) → linesSay rows r follow ≡ askRows header [] first (header .n) (linesOf rows) follow
   pub ends : (at line : ℕ) → r ≡ Ended at line → LinesPassed rows (header .n) first at line
 
--- a text has so many lines ended by a line feed, each the `C` line of its node
-pub record BranchesFormed (count : ℕ) (text : List ℕ) : Type 0 where
-  pub more : count < length (linesOf text)
-  pub formed : (k : ℕ) → k < count → branchForm (k + 2) (fieldsOf (getD (linesOf text) k [])) ≡ true
-
 -- a walk over `C` lines answers their questions, whatever follows them, and ends behind them
 pub record BranchesAsked (text : List ℕ) (count first : ℕ) (r : LinesAnswer) : Type 0 where
   pub says : (follow : ℕ → List (List ℕ) → Outcome Job) → linesSay text r follow ≡ askBranches first 2 count (linesOf text) follow
   pub ends : (at line : ℕ) → r ≡ Ended at line → LinesPassed text count first at line × BranchesFormed count text
-
--- the record that a `C` line says
-abbrev pub recordIn : List ℕ → List ℕ
-recordIn line = recordNumbers (numberOf (getD (fieldsOf line) 1 [])) (ancestorIn line)
 
 -- what stands behind the rows was asked: an answer says what it brings, of a job with this header and the branching that its lines say
 pub record RestAsked (rest : List ℕ) (line : ℕ) (header : Header) (r : Read) : Type 0 where

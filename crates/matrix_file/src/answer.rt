@@ -1,31 +1,9 @@
 // What a read answers.
+use file_form::header::Header;
 use matrix::refusal::Asked;
 use matrix::refusal::Refusal;
 ghost use mathlib.Core.Path.{_≡_};
 ghost use Rattle.matrix_file.specs.Walk.{headerOn};
-
-// The kind of a file: `W`, whose Wagner tree is built, or `F`, which brings a branching of its own.
-pub enum Kind {
-    Wagner,
-    Own,
-}
-
-// The word that line 1 carries for the order of placing.
-pub enum OrderWord {
-    Unsaid,
-    Advance,
-    Closest,
-}
-
-// What the header of a file says: its kind, the numbers of taxa and characters, the word for the order of placing, and whether there is a
-// `V` line.
-pub struct Header {
-    pub kind: Kind,
-    pub n: usize,
-    pub m: usize,
-    pub order: OrderWord,
-    pub weighed: bool,
-}
 
 // The header of an accepted file, or why a file is refused and at which line.
 pub enum Read {

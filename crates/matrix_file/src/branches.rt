@@ -1,5 +1,4 @@
 // The branching of a file: its `C` lines.
-use crate::answer::Kind;
 use crate::answer::LinesAnswer;
 use crate::bytes::LINE_FEED;
 use crate::bytes::TAB;
@@ -14,6 +13,7 @@ use branching::lent::record_count;
 use branching::numbers::RECORD;
 use branching::tree::PLACES;
 use branching::tree::Tree;
+use file_form::header::Kind;
 use matrix::refusal::Asked;
 use matrix::refusal::Refusal;
 ghost use mathlib.Core.Path.{_≡_};
@@ -27,10 +27,11 @@ ghost use Rattle.matrix.specs.Shape.{mostTaxa};
 ghost use Rattle.branching.specs.Ancestors.{places, treeWith, ancestors};
 ghost use Rattle.branching.specs.Asking.{branchesSize};
 ghost use Rattle.branching.specs.LentNumbers.{recordSize, recordNumbers};
-ghost use Rattle.matrix_file.specs.Decimal.{numberForm, numberOf};
-ghost use Rattle.matrix_file.specs.Lines.{linesOf, fieldsOf};
-ghost use Rattle.matrix_file.specs.Branches.{branchCount, branchForm, ancestorIn, askTree};
-ghost use Rattle.matrix_file.specs.Walk.{behindRowsMost, BranchesAsked, BranchesFormed, recordIn};
+ghost use Rattle.file_form.specs.Decimal.{numberForm, numberOf};
+ghost use Rattle.file_form.specs.Lines.{linesOf, fieldsOf};
+ghost use Rattle.file_form.specs.Branches.{branchCount, branchForm, ancestorIn, askTree};
+ghost use Rattle.file_form.specs.Formed.{BranchesFormed, recordIn};
+ghost use Rattle.matrix_file.specs.Walk.{behindRowsMost, BranchesAsked};
 
 // The field of a `C` line that says its node.
 const NODE: usize = 1;

@@ -6,9 +6,9 @@ ghost use lib.Dec.{leb, eqb};
 ghost use mathlib.Core.List.{[]};
 ghost use lib.ListN.{length, getD, drop};
 ghost use Rattle.lists.specs.Tests.{every, sameNumbers as sameText};
-ghost use Rattle.matrix_file.specs.Bytes.{isDigit, isLetter, partsAt, partLength, firstPart, behindPart};
-ghost use Rattle.matrix_file.specs.Job.{inName};
-ghost use Rattle.matrix_file.specs.Lines.{linesOf, fieldsOf};
+ghost use Rattle.file_form.specs.Bytes.{isDigit, isLetter, partsAt, partLength, firstPart, behindPart};
+ghost use Rattle.file_form.specs.Job.{inName};
+ghost use Rattle.file_form.specs.Lines.{linesOf, fieldsOf};
 ghost use Rattle.matrix_file.specs.Walk.{inAlphabet};
 
 // What parts fields.

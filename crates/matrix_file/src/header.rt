@@ -1,7 +1,4 @@
 // The header of a file: line 1, and the `V` line.
-use crate::answer::Header;
-use crate::answer::Kind;
-use crate::answer::OrderWord;
 use crate::answer::Read;
 use crate::answer::on_line;
 use crate::answer::refused;
@@ -18,13 +15,16 @@ use crate::optional::lines_taken;
 use crate::optional::optional_there;
 use crate::weights::LETTER;
 use crate::weights::ask_weights;
+use file_form::header::Header;
+use file_form::header::Kind;
+use file_form::header::OrderWord;
 use matrix::questions::within_limits;
 use matrix::refusal::Refusal;
 ghost use mathlib.Core.Path.{_≡_};
 ghost use mathlib.Core.Bool.{true};
 ghost use Prim.Native.Nat.{_+_};
-ghost use Rattle.matrix_file.specs.Lines.{linesOf, fieldsOf};
-ghost use Rattle.matrix_file.specs.Header.{isKind, kindSaid, mostFields, firstForm, orderKnown, orderIn, headerFrom, headerLines, askHeader};
+ghost use Rattle.file_form.specs.Lines.{linesOf, fieldsOf};
+ghost use Rattle.file_form.specs.Header.{isKind, kindSaid, mostFields, firstForm, orderKnown, orderIn, headerFrom, headerLines, askHeader};
 ghost use Rattle.matrix_file.specs.Report.{readSays};
 
 // How many lines a header takes: line 1, and the `V` line if there is one.

@@ -1,6 +1,5 @@
 // The questions put to a file, in order.
 use crate::NAME_SIZE;
-use crate::answer::Header;
 use crate::answer::LinesAnswer;
 use crate::answer::Read;
 use crate::answer::on_line;
@@ -23,6 +22,7 @@ use crate::header::ask_header;
 use crate::header::header_lines;
 use crate::numbers::code_form;
 use crate::numbers::code_of;
+use file_form::header::Header;
 use matrix::MOST_TAXA;
 use matrix::questions::in_range;
 use matrix::refusal::Asked;
@@ -32,11 +32,11 @@ ghost use Prim.Native.Nat.{_≤_, _<_};
 ghost use lib.ListN.{length};
 ghost use Rattle.matrix.specs.Shape.{mostTaxa};
 ghost use Rattle.matrix.specs.Outcomes.{ask};
-ghost use Rattle.matrix_file.specs.Job.{nameForm, differsFromAll};
-ghost use Rattle.matrix_file.specs.Lines.{linesOf, fieldsOf};
-ghost use Rattle.matrix_file.specs.Header.{headerLines};
-ghost use Rattle.matrix_file.specs.Rows.{askCodes, askRow};
-ghost use Rattle.matrix_file.specs.Reading.{nothingMore, askBehind, readAnswer};
+ghost use Rattle.file_form.specs.Job.{nameForm, differsFromAll};
+ghost use Rattle.file_form.specs.Lines.{linesOf, fieldsOf};
+ghost use Rattle.file_form.specs.Header.{headerLines};
+ghost use Rattle.file_form.specs.Rows.{askCodes, askRow};
+ghost use Rattle.file_form.specs.Reading.{nothingMore, askBehind, readAnswer};
 ghost use Rattle.matrix_file.specs.Report.{readSays, withHeader};
 ghost use Rattle.matrix_file.specs.Walk.{namesPassed, behindRowsMost, RowsAsked, RestAsked};
 

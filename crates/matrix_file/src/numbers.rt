@@ -6,7 +6,7 @@ ghost use mathlib.Core.Path.{_≡_};
 ghost use mathlib.Core.Bool.{true};
 ghost use Prim.Native.Nat.{_<_};
 ghost use lib.IntN.{pos, negℤ};
-ghost use Rattle.matrix_file.specs.Decimal.{aMillion, numberForm, NumberSaid, codeForm, codeOf};
+ghost use Rattle.file_form.specs.Decimal.{aMillion, numberForm, NumberSaid, codeForm, codeOf};
 
 // A number has at most six digits.
 const MOST_DIGITS: usize = 6;

@@ -7,8 +7,8 @@ use crate::bytes::same_text;
 use matrix::refusal::Asked;
 use matrix::refusal::Refusal;
 ghost use mathlib.Core.Path.{_≡_};
-ghost use Rattle.matrix_file.specs.Lines.{linesOf};
-ghost use Rattle.matrix_file.specs.Optional.{optionalThere, askOptional, linesTaken};
+ghost use Rattle.file_form.specs.Lines.{linesOf};
+ghost use Rattle.file_form.specs.Optional.{optionalThere, askOptional, linesTaken};
 
 // Whether the line is there: whether the first field of the next line, up to a tab, a line feed or the end, is its letter.
 pub(crate) fn optional_there(text: &[u8], letter: u8) -> bool

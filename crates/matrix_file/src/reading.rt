@@ -1,6 +1,5 @@
 // Reading a file into a lent matrix and lent lists of weights, names and branch records.
 use crate::NAMES_SIZE;
-use crate::answer::Header;
 use crate::answer::Read;
 use crate::answer::refused;
 use crate::branches::branch_count;
@@ -14,6 +13,7 @@ use crate::weights::write_weights;
 use crate::writing::write_matrix;
 use crate::writing::write_names;
 use branching::numbers::LENT_NUMBERS;
+use file_form::header::Header;
 use matrix::COLUMNS;
 use matrix::ROWS;
 use matrix::refusal::Refusal;
@@ -21,9 +21,9 @@ ghost use mathlib.Core.Path.{_≡_};
 ghost use mathlib.Core.Bool.{true};
 ghost use lib.ListN.{length};
 ghost use Rattle.matrix.specs.Outcomes.{value};
-ghost use Rattle.matrix_file.specs.Reading.{jobIn, readAnswer};
+ghost use Rattle.file_form.specs.Reading.{jobIn, readAnswer};
 ghost use Rattle.matrix_file.specs.Report.{withHeader, fullSize, ReadDone};
-ghost use Rattle.matrix_file.specs.Written.{lent, jobWritten};
+ghost use Rattle.file_form.specs.Written.{lent, jobWritten};
 
 // Whether four lists have their full size, by their lengths.
 fn full_size(matrix: usize, weights: usize, names: usize, branches: usize) -> bool

@@ -1,5 +1,4 @@
 // The weights of the characters in a file: the `V` line.
-use crate::answer::Header;
 use crate::bytes::LINE_FEED;
 use crate::bytes::TAB;
 use crate::bytes::between;
@@ -7,6 +6,7 @@ use crate::bytes::field;
 use crate::bytes::first_part;
 use crate::bytes::separators;
 use crate::optional::ask_optional;
+use file_form::header::Header;
 use matrix::LIGHTEST;
 use matrix::refusal::Asked;
 use matrix::refusal::Refusal;
@@ -16,10 +16,10 @@ ghost use mathlib.Core.List.{[]};
 ghost use Prim.Native.Nat.{_≤_};
 ghost use lib.ListN.{length, getD, drop};
 ghost use Rattle.lists.specs.Over.{over};
-ghost use Rattle.matrix_file.specs.Lines.{linesOf, fieldsOf};
-ghost use Rattle.matrix_file.specs.Optional.{optionalFields};
-ghost use Rattle.matrix_file.specs.Weights.{weightForm, weightIn, weightsForm, weightsSaid};
-ghost use Rattle.matrix_file.specs.Header.{askWeights};
+ghost use Rattle.file_form.specs.Lines.{linesOf, fieldsOf};
+ghost use Rattle.file_form.specs.Optional.{optionalFields};
+ghost use Rattle.file_form.specs.Weights.{weightForm, weightIn, weightsForm, weightsSaid};
+ghost use Rattle.file_form.specs.Header.{askWeights};
 
 // The letter of the line.
 pub(crate) const LETTER: u8 = b'V';

@@ -14,13 +14,14 @@ ghost use Prim.Native.Nat.{_*_, _≤_};
 ghost use lib.ListN.{length, getD, take};
 ghost use Rattle.lists.specs.Over.{over, stripes};
 ghost use Rattle.lists.specs.Tests.{every};
-ghost use Rattle.matrix_file.specs.Decimal.{codeForm, codeOf};
+ghost use Rattle.file_form.specs.Decimal.{codeForm, codeOf};
 ghost use Rattle.matrix.specs.Shape.{columns};
-ghost use Rattle.matrix_file.specs.Job.{nameSize};
-ghost use Rattle.matrix_file.specs.Lines.{linesOf, fieldsOf};
-ghost use Rattle.matrix_file.specs.Rows.{codesIn};
-ghost use Rattle.matrix_file.specs.Walk.{RowsFormed, paddedIn};
-ghost use Rattle.matrix_file.specs.Written.{padded};
+ghost use Rattle.file_form.specs.Job.{nameSize};
+ghost use Rattle.file_form.specs.Lines.{linesOf, fieldsOf};
+ghost use Rattle.file_form.specs.Rows.{codesIn};
+ghost use Rattle.file_form.specs.Formed.{RowsFormed};
+ghost use Rattle.matrix_file.specs.Walk.{paddedIn};
+ghost use Rattle.file_form.specs.Written.{padded};
 
 // Writes the codes of a row over the front of a list.
 fn write_codes(out: &mut [i32], text: &[u8])

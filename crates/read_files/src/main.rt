@@ -5,14 +5,14 @@
 // length. Behind each case stands how many codes, weights, name bytes and numbers of branch records are as they were lent.
 use branching::lent::record_count;
 use branching::numbers::RECORD;
+use file_form::header::Kind;
+use file_form::header::OrderWord;
 use libc::STDOUT_FILENO;
 use matrix::questions::in_range;
 use matrix::refusal::Refusal;
 use matrix::refusal::number;
 use matrix::rows::row;
 use matrix::weights::weight_at;
-use matrix_file::answer::Kind;
-use matrix_file::answer::OrderWord;
 use matrix_file::answer::Read;
 use matrix_file::reading::read;
 ghost use mathlib.Core.Path.{_≡_};

@@ -12,7 +12,7 @@ use Rattle.lists.specs.Tests.{every}
 use Rattle.matrix.specs.NodeRows.{rowOf}
 use Rattle.matrix.specs.Shape.{inRange, weightAt, lastNode}
 use Rattle.matrix.specs.Questions.{allInRange}
-use Rattle.matrix_file.specs.Job.{hasCodes}
+use Rattle.file_form.specs.Job.{hasCodes}
 use Rattle.difference.specs.Rows.{apart, part, lower, higher, median, medians, difference, intervalBy, nodeDifference}
 use Rattle.branching.specs.declared.placement.Placement.{Placement}
 use Rattle.branching.specs.Ancestors.{ancestor, descendants}

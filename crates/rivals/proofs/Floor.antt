@@ -8,8 +8,8 @@ use Rattle.matrix.specs.NodeRows.{rowsOf}
 use Rattle.matrix.specs.Outcomes.{value}
 use Rattle.matrix.specs.Questions.{askMatrix}
 use Rattle.matrix.specs.declared.refusal.Asked.the-variants.{Passed}
-use Rattle.matrix_file.specs.Job.{Job}
-use Rattle.matrix_file.specs.Reading.{readAnswer}
+use Rattle.file_form.specs.Job.{Job}
+use Rattle.file_form.specs.Reading.{readAnswer}
 use Rattle.difference.specs.Rows.{weighing}
 use Rattle.branching.specs.Growing.{branching}
 use Rattle.fitting.specs.Fit.{fittedTotal}

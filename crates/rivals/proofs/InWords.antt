@@ -12,9 +12,9 @@ use Rattle.matrix.specs.Shape.{lastNode}
 use Rattle.matrix.specs.NodeRows.{rowOf, rowsOf}
 use Rattle.matrix.specs.Questions.{askMatrix}
 use Rattle.matrix.specs.declared.refusal.Asked.the-variants.{Passed}
-use Rattle.matrix_file.specs.Job.{Job}
+use Rattle.file_form.specs.Job.{Job}
 use Rattle.matrix.specs.Outcomes.{value}
-use Rattle.matrix_file.specs.Reading.{readAnswer}
+use Rattle.file_form.specs.Reading.{readAnswer}
 use Rattle.difference.specs.Rows.{difference, nodeDifference, weighing}
 use Rattle.prim.specs.Network.{network, networkLength}
 use Rattle.prim.specs.Rival.{Connected, linkEnds, linksLength}

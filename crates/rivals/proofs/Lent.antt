@@ -26,7 +26,7 @@ use Rattle.lists.proofs.Numbers.{numbers-append, length-map-numbers, map-number
 use Rattle.lists.proofs.Both.{or-cases}
 use Rattle.lists.proofs.Every.{every-at, every-from}
 use Rattle.matrix.proofs.Row.{row-length}
-use Rattle.matrix_file.specs.Job.{hasCodes}
+use Rattle.file_form.specs.Job.{hasCodes}
 use Rattle.branching.specs.declared.branch.Branch.{Branch}
 use Rattle.branching.specs.Branches.{ancestorsOf, lentBranching}
 use Rattle.branching.proofs.Passed.{PlacementAsked}

@@ -6,16 +6,16 @@ use mathlib.Core.List.{List}
 use Prim.Native.Nat.{ℕ, _≤_}
 use lib.ListN.{length}
 use Rattle.matrix.specs.Outcomes.{value}
-use Rattle.matrix_file.specs.Job.{Job, JobWithinLimits}
-use Rattle.matrix_file.specs.Branches.{branchCount, branched}
-use Rattle.matrix_file.specs.Reading.{readAnswer}
+use Rattle.file_form.specs.Job.{Job, JobWithinLimits}
+use Rattle.file_form.specs.Branches.{branchCount, branched}
+use Rattle.file_form.specs.Reading.{readAnswer}
 use Rattle.matrix_file.specs.Report.{ReadDone}
-use Rattle.matrix_file.specs.Written.{LentLists}
-use Rattle.matrix_file.specs.declared.answer.Header.{Header}
-use Rattle.matrix_file.specs.declared.answer.Kind.the-variants.{Own}
+use Rattle.file_form.specs.Written.{LentLists}
+use Rattle.file_form.specs.declared.header.Header.{Header}
+use Rattle.file_form.specs.declared.header.Kind.the-variants.{Own}
 use Rattle.matrix_file.specs.declared.answer.Read.{Read}
 use Rattle.matrix_file.specs.declared.answer.Read.the-variants as Read
-use Rattle.matrix_file.proofs.File.Accepted.{accepted-exactly}
+use Rattle.file_form.proofs.File.Accepted.{accepted-exactly}
 use Rattle.matrix_file.proofs.Lists.ReadLists.{read-accepting}
 use Rattle.difference.specs.Rows.{weighing}
 use Rattle.branching.specs.Ancestors.{treeWith}

@@ -13,10 +13,10 @@ use Rattle.lists.proofs.Over.{over-inside, over-behind}
 use Rattle.matrix.specs.NodeRows.{rowsOf}
 use Rattle.matrix.specs.Shape.{matrixSize, columns, weightAt}
 use Rattle.matrix.proofs.Passing.{matrix-passes}
-use Rattle.matrix_file.specs.Job.{Job, JobWithinLimits}
-use Rattle.matrix_file.specs.declared.answer.Header.{Header}
+use Rattle.file_form.specs.Job.{Job, JobWithinLimits}
+use Rattle.file_form.specs.declared.header.Header.{Header}
 use Rattle.matrix_file.specs.Report.{ReadDone}
-use Rattle.matrix_file.specs.Written.{matrixWritten, weightsWritten, LentLists}
+use Rattle.file_form.specs.Written.{matrixWritten, weightsWritten, LentLists}
 use Rattle.matrix_file.specs.declared.answer.Read.{Read}
 use Rattle.matrix_file.specs.declared.answer.Read.the-variants as Read
 use Rattle.matrix_file.proofs.Lists.ReadLists.{job-row, job-lent, job-weighed, read-accepting}

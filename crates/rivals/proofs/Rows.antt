@@ -19,10 +19,10 @@ use Rattle.lists.proofs.Both.{and-both}
 use Rattle.lists.proofs.Every.{every-at, every-from, every-append}
 use Rattle.matrix.proofs.Passing.{matrix-passed, weights-passed, true-oneTo}
 use Rattle.matrix.proofs.Row.{row-length}
-use Rattle.matrix_file.specs.Job.{Job, hasCodes}
+use Rattle.file_form.specs.Job.{Job, hasCodes}
 use Rattle.matrix.specs.Outcomes.{value}
-use Rattle.matrix_file.specs.Reading.{readAnswer}
-use Rattle.matrix_file.proofs.File.FileOfRead.{file-of-read}
+use Rattle.file_form.specs.Reading.{readAnswer}
+use Rattle.file_form.proofs.File.FileOfRead.{file-of-read}
 use Rattle.rivals.specs.Accepted.{CodeRows, Accepted, fileRead, matrixLent}
 
 -- the row of each node has m codes

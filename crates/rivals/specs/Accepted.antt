@@ -9,9 +9,9 @@ use Rattle.matrix.specs.NodeRows.{rowsOf}
 use Rattle.lists.specs.Tests.{every}
 use Rattle.matrix.specs.Questions.{allInRange, askMatrix}
 use Rattle.matrix.specs.declared.refusal.Asked.the-variants.{Passed}
-use Rattle.matrix_file.specs.Job.{Job, hasCodes}
+use Rattle.file_form.specs.Job.{Job, hasCodes}
 use Rattle.matrix.specs.Outcomes.{value}
-use Rattle.matrix_file.specs.Reading.{readAnswer}
+use Rattle.file_form.specs.Reading.{readAnswer}
 use Rattle.branching.specs.Nodes.{taxaPlaced}
 use Rattle.branching.specs.Growing.{growingTree, rowOneAlone}
 

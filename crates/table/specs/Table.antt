@@ -6,7 +6,7 @@ use Prim.Native.Nat.{ℕ}
 use Prim.Native.String.{String}
 use lib.IntN.{ℤ, pos, negsuc}
 use lib.ListN.{replicate}
-use Rattle.matrix_file.specs.Text.{bytes}
+use Rattle.file_form.specs.Text.{bytes}
 use Rattle.difference.specs.Rows.{difference, median, intervalDifference}
 use Rattle.fitting.specs.Sets.{join}
 use Rattle.fitting.specs.declared.spans.Span.{Span}

@@ -11,10 +11,10 @@ use lib.ListN.{length, getD}
 use borrow.Author.Tests.{leb-true}
 use Rattle.lists.proofs.Every.{every-at}
 use Rattle.matrix.specs.Shape.{inRange}
-use Rattle.matrix_file.specs.Decimal.{digitsOf, decimal}
-use Rattle.matrix_file.specs.Job.{Job, JobWithinLimits, nameForm}
-use Rattle.matrix_file.specs.Text.{bytes}
-use Rattle.matrix_file.proofs.Decimal.Digits.{digits-length}
+use Rattle.file_form.specs.Decimal.{digitsOf, decimal}
+use Rattle.file_form.specs.Job.{Job, JobWithinLimits, nameForm}
+use Rattle.file_form.specs.Text.{bytes}
+use Rattle.file_form.proofs.Decimal.Digits.{digits-length}
 use Rattle.lines.specs.Lines.{hyphen, htuName, nodeName}
 use Rattle.lines.specs.Kinds.{mark}
 use Rattle.lines.proofs.Fields.{node-taxon, node-htu}

@@ -13,7 +13,7 @@ use Rattle.lists.proofs.Numbers.{length-numbers}
 use Rattle.lists.proofs.Sums.{sum-most}
 use Rattle.matrix.specs.Shape.{inRange, weightOf}
 use Rattle.matrix.specs.Questions.{allInRange}
-use Rattle.matrix_file.specs.Job.{Job, JobWithinLimits}
+use Rattle.file_form.specs.Job.{Job, JobWithinLimits}
 use Rattle.difference.specs.Rows.{mostDifference, part}
 use Rattle.difference.proofs.Laws.Weights.{part-inRange}
 use Rattle.branching.specs.Ancestors.{ancestor}

@@ -11,18 +11,18 @@ use Rattle.matrix.specs.Questions.{withinLimits}
 use Rattle.matrix.specs.declared.refusal.Refusal.the-variants.{FirstLine, UnknownOrder, BeyondLimits, FileGoesOn, BranchForm}
 use Rattle.matrix.specs.declared.refusal.Asked.{Asked}
 use Rattle.matrix.specs.declared.refusal.Asked.the-variants.{Passed, Refused}
-use Rattle.matrix_file.specs.declared.answer.Header.{Header}
-use Rattle.matrix_file.specs.Lines.{linesOf, fieldsOf}
-use Rattle.matrix_file.specs.Header.{headerIn, rowLine, behindHeader, firstLineForm, firstFields, orderKnown, askFirstLine, askWeights}
-use Rattle.matrix_file.specs.Header.{askHeader}
+use Rattle.file_form.specs.declared.header.Header.{Header}
+use Rattle.file_form.specs.Lines.{linesOf, fieldsOf}
+use Rattle.file_form.specs.Header.{headerIn, rowLine, behindHeader, firstLineForm, firstFields, orderKnown, askFirstLine, askWeights}
+use Rattle.file_form.specs.Header.{askHeader}
 use Rattle.matrix.proofs.Passing.{ask-passed}
 use Rattle.matrix_file.proofs.File.OptionalWalk.{taken-most}
-use Rattle.matrix_file.specs.Rows.{nameIn, askRow, askRows}
-use Rattle.matrix_file.specs.Job.{Job}
+use Rattle.file_form.specs.Rows.{nameIn, askRow, askRows}
+use Rattle.file_form.specs.Job.{Job}
 use Rattle.matrix_file.specs.Walk.{behindRowsMost}
-use Rattle.matrix_file.specs.Branches.{branchCount, branchForm, askBranches, askTree}
-use Rattle.matrix_file.specs.Reading.{jobOf, nothingMore, askEnd, askAfter, askBehind, askFile, askLength, readAnswer}
-use Rattle.matrix_file.proofs.File.FileLength.{count-most}
+use Rattle.file_form.specs.Branches.{branchCount, branchForm, askBranches, askTree}
+use Rattle.file_form.specs.Reading.{jobOf, nothingMore, askEnd, askAfter, askBehind, askFile, askLength, readAnswer}
+use Rattle.file_form.proofs.File.FileLength.{count-most}
 use Rattle.listing.proofs.Totals.{Limits, limits}
 
 -- the highest line that a refusal gives

@@ -4,13 +4,13 @@ use mathlib.Core.List.{List, [], _∷_}
 use Prim.Native.Nat.{ℕ, _≤_}
 use native.Mathlib.Omega.{arith}
 use lib.ListN.{length}
-use Rattle.matrix_file.specs.Decimal.{digitsOf}
+use Rattle.file_form.specs.Decimal.{digitsOf}
 use Rattle.matrix.specs.Outcomes.{Outcome, value, refused}
-use Rattle.matrix_file.specs.Job.{Job}
-use Rattle.matrix_file.specs.Reading.{readAnswer}
-use Rattle.matrix_file.proofs.File.Numbered.{highestNumber, refused-bounds}
-use Rattle.matrix_file.specs.Text.{bytes}
-use Rattle.matrix_file.proofs.File.Accepted.{accepted-exactly}
+use Rattle.file_form.specs.Job.{Job}
+use Rattle.file_form.specs.Reading.{readAnswer}
+use Rattle.file_form.proofs.File.Numbered.{highestNumber, refused-bounds}
+use Rattle.file_form.specs.Text.{bytes}
+use Rattle.file_form.proofs.File.Accepted.{accepted-exactly}
 use Rattle.lines.specs.Lines.{joined}
 use Rattle.lines.specs.Kinds.{refusalLine}
 use Rattle.listing.specs.Listing.{printed, listingOf, output}

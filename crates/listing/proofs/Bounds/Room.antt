@@ -12,12 +12,12 @@ use Rattle.lists.specs.Numbers.{numbers}
 use Rattle.lists.proofs.Numbers.{numbers-within, length-numbers}
 use Rattle.lists.proofs.Sums.{sum-most}
 use Rattle.matrix.specs.NodeRows.{rowOf}
-use Rattle.matrix_file.specs.Decimal.{digitsOf, decimal}
-use Rattle.matrix_file.specs.Job.{Job, JobWithinLimits}
-use Rattle.matrix_file.specs.Text.{bytes}
-use Rattle.matrix_file.specs.Branches.{branched}
-use Rattle.matrix_file.specs.declared.answer.Kind.{Kind}
-use Rattle.matrix_file.specs.declared.answer.Kind.the-variants.{Wagner, Own}
+use Rattle.file_form.specs.Decimal.{digitsOf, decimal}
+use Rattle.file_form.specs.Job.{Job, JobWithinLimits}
+use Rattle.file_form.specs.Text.{bytes}
+use Rattle.file_form.specs.Branches.{branched}
+use Rattle.file_form.specs.declared.header.Kind.{Kind}
+use Rattle.file_form.specs.declared.header.Kind.the-variants.{Wagner, Own}
 use Rattle.difference.specs.Rows.{mostDifference, nodeDifference}
 use Rattle.prim.specs.Network.{Link, networkLength}
 use Rattle.prim.proofs.Connected.{network-between, network-total-le}

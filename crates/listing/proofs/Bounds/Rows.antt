@@ -15,7 +15,7 @@ use Rattle.lists.proofs.Every.{every-head, every-tail, every-at}
 use Rattle.matrix.specs.Shape.{inRange, isWeight, weightOf}
 use Rattle.matrix.specs.NodeRows.{rowOf}
 use Rattle.matrix.specs.Questions.{allInRange, areWeights}
-use Rattle.matrix_file.specs.Job.{Job, JobWithinLimits, hasCodes}
+use Rattle.file_form.specs.Job.{Job, JobWithinLimits, hasCodes}
 use Rattle.difference.specs.Rows.{difference, mostDifference, medians, intervalBy, nodeDifference}
 use Rattle.difference.proofs.Laws.Order.{median-keeps}
 use Rattle.difference.proofs.Laws.Rows.{difference-limit}

@@ -8,13 +8,13 @@ use lib.Seq.{take-all}
 use Rattle.lists.specs.Filled.{filled}
 use Rattle.branching.specs.Ancestors.{treeWith}
 use Rattle.branching.proofs.Lending.{places-next}
-use Rattle.matrix_file.specs.Bytes.{lineFeed, partsAt, firstPart}
-use Rattle.matrix_file.specs.Decimal.{numberFrom, numberOf}
-use Rattle.matrix_file.specs.Lines.{linesOf, fieldsOf}
-use Rattle.matrix_file.specs.Branches.{branchForm, ancestorIn}
-use Rattle.matrix_file.specs.Walk.{BranchesFormed}
+use Rattle.file_form.specs.Bytes.{lineFeed, partsAt, firstPart}
+use Rattle.file_form.specs.Decimal.{numberFrom, numberOf}
+use Rattle.file_form.specs.Lines.{linesOf, fieldsOf}
+use Rattle.file_form.specs.Branches.{branchForm, ancestorIn}
+use Rattle.file_form.specs.Formed.{BranchesFormed}
 use Rattle.matrix_file.proofs.Lists.LinesWalk.{LinesLeft, lines-start, line-here, lines-next, line-says}
-use Rattle.matrix_file.proofs.BranchLines.Form.{BranchFormed, form-tells}
+use Rattle.file_form.proofs.BranchLines.Form.{BranchFormed, form-tells}
 
 -- the ancestors that the first `count` lines of a text say
 abbrev pub saidIn : List ℕ → ℕ → List ℕ

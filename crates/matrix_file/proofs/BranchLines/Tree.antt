@@ -16,10 +16,10 @@ use Rattle.branching.specs.Growing.{branching}
 use Rattle.branching.specs.Within.{branchingWithin}
 use Rattle.branching.proofs.Within.{branching-plain}
 use Rattle.branching.proofs.Lending.{branching-same}
-use Rattle.matrix_file.specs.declared.answer.Kind.{Kind}
-use Rattle.matrix_file.specs.declared.answer.Kind.the-variants.{Wagner, Own}
-use Rattle.matrix_file.specs.Branches.{branchCount, branched, askTree}
-use Rattle.matrix_file.specs.Walk.{BranchesFormed}
+use Rattle.file_form.specs.declared.header.Kind.{Kind}
+use Rattle.file_form.specs.declared.header.Kind.the-variants.{Wagner, Own}
+use Rattle.file_form.specs.Branches.{branchCount, branched, askTree}
+use Rattle.file_form.specs.Formed.{BranchesFormed}
 use Rattle.matrix_file.proofs.BranchLines.Said.{saidIn}
 
 -- in a `W` file nothing is asked

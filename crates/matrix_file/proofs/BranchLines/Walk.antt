@@ -13,13 +13,13 @@ use Rattle.matrix.specs.Outcomes.{ask, Outcome, refused, onLine}
 use Rattle.matrix.specs.declared.refusal.Refusal.the-variants.{BranchForm}
 use Rattle.matrix.specs.declared.refusal.Asked.the-variants as Asked
 use Rattle.matrix_file.specs.declared.answer.LinesAnswer.the-variants.{Ended, Refused}
-use Rattle.matrix_file.specs.Job.{Job}
-use Rattle.matrix_file.specs.Bytes.{lineFeed, partsAt, firstPart}
-use Rattle.matrix_file.specs.Lines.{linesOf, fieldsOf}
-use Rattle.matrix_file.specs.Branches.{branchForm, askBranches}
-use Rattle.matrix_file.specs.Walk.{LinesPassed, BranchesAsked, BranchesFormed}
-use Rattle.matrix_file.proofs.Text.Parts.{parts-some}
-use Rattle.matrix_file.proofs.Text.PartsFrom.{partsFrom, from-within, from-past, from-start, from-next, next-within}
+use Rattle.file_form.specs.Job.{Job}
+use Rattle.file_form.specs.Bytes.{lineFeed, partsAt, firstPart}
+use Rattle.file_form.specs.Lines.{linesOf, fieldsOf}
+use Rattle.file_form.specs.Branches.{branchForm, askBranches}
+use Rattle.matrix_file.specs.Walk.{LinesPassed, BranchesAsked}
+use Rattle.file_form.proofs.Text.Parts.{parts-some}
+use Rattle.file_form.proofs.Text.PartsFrom.{partsFrom, from-within, from-past, from-start, from-next, next-within}
 use Rattle.matrix_file.proofs.Lists.LinesWalk.{LinesLeft, lines-start, line-here, walk-on}
 use Rattle.matrix_file.proofs.Lists.LinesEnd.{refused-not-ended, lines-passed}
 

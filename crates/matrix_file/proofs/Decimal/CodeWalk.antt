@@ -8,9 +8,9 @@ use borrow.Author.Tests.{not-true, not-false}
 use borrow.Author.Needs.{sfits-of}
 use lib.Dec.{leb}
 use lib.ListN.{length, getD, drop}
-use Rattle.matrix_file.specs.Decimal.{numberForm, numberOf, codeForm}
-use Rattle.matrix_file.proofs.Decimal.Codes.{code-form-plain, code-form-minus, code-form-some}
-use Rattle.matrix_file.specs.Bytes.{minus}
+use Rattle.file_form.specs.Decimal.{numberForm, numberOf, codeForm}
+use Rattle.file_form.proofs.Decimal.Codes.{code-form-plain, code-form-minus, code-form-some}
+use Rattle.file_form.specs.Bytes.{minus}
 use lib.IntN.{pos, negℤ, _-ℤ_, +ℤ-idl}
 use mir.Facts.{toZ-pos}
 use Rattle.lists.proofs.Both.{and-left}

@@ -5,11 +5,11 @@ use mathlib.Core.List.{List}
 use Prim.Native.Nat.{ℕ, _+_, _-_, _*_, _^_, _≤_, _<_}
 use native.Mathlib.Omega.{arith}
 use lib.ListN.{length, getD, drop, drop-of-length-le}
-use Rattle.matrix_file.specs.Decimal.{numberForm, numberOf, numberFrom, zeroDigit, NumberSaid}
-use Rattle.matrix_file.proofs.Decimal.Digits.{form-short, form-digits, digit-low}
-use Rattle.matrix_file.proofs.Decimal.Digits.{digit-high, number-more-small, number-small, number-at}
+use Rattle.file_form.specs.Decimal.{numberForm, numberOf, numberFrom, zeroDigit, NumberSaid}
+use Rattle.file_form.proofs.Decimal.Digits.{form-short, form-digits, digit-low}
+use Rattle.file_form.proofs.Decimal.Digits.{digit-high, number-more-small, number-small, number-at}
 use Rattle.lists.proofs.Every.{every-at}
-use Rattle.matrix_file.specs.Bytes.{isDigit}
+use Rattle.file_form.specs.Bytes.{isDigit}
 
 -- what a loop over digits knows at place i: the digits passed say `number`
 abbrev pub DigitsPassed : List ℕ → ℕ → ℕ → Type 0

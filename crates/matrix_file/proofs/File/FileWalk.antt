@@ -15,26 +15,27 @@ use Rattle.matrix.specs.declared.refusal.Asked.the-variants as Asked
 use Rattle.matrix.specs.Outcomes.{ask, Outcome, value, refused, onLine, thenWith}
 use Rattle.matrix.specs.Questions.{withinLimits, oneTo}
 use Rattle.matrix.proofs.Passing.{oneTo-true}
-use Rattle.matrix_file.specs.declared.answer.Header.{Header}
+use Rattle.file_form.specs.declared.header.Header.{Header}
 use Rattle.matrix_file.specs.declared.answer.Read.{Read}
 use Rattle.matrix_file.specs.declared.answer.Read.the-variants.{Accepted, Refused}
 use Rattle.matrix_file.specs.declared.answer.LinesAnswer.{LinesAnswer}
 use Rattle.matrix_file.specs.declared.answer.LinesAnswer.the-variants as LinesAnswer
-use Rattle.matrix_file.specs.Bytes.{lineFeed, beforeFirst, partsAt, partLength, firstPart, behindPart}
-use Rattle.matrix_file.specs.Lines.{linesOf, fieldsOf}
-use Rattle.matrix_file.specs.Header.{headerLines, headerFrom, headerIn, headerOf}
-use Rattle.matrix_file.specs.Header.{firstForm, firstLineForm, orderKnown, askFirstLine, askWeights, askHeader}
-use Rattle.matrix_file.specs.Rows.{askRows}
-use Rattle.matrix_file.specs.Job.{Job}
-use Rattle.matrix_file.specs.Branches.{branchCount, ancestorIn, askBranches, askTree}
-use Rattle.matrix_file.specs.Reading.{mostBytes, behindRows, jobOf, nothingMore, askEnd, askAfter, askBehind, askFile, askLength}
-use Rattle.matrix_file.specs.Reading.{readAnswer}
+use Rattle.file_form.specs.Bytes.{lineFeed, beforeFirst, partsAt, partLength, firstPart, behindPart}
+use Rattle.file_form.specs.Lines.{linesOf, fieldsOf}
+use Rattle.file_form.specs.Header.{headerLines, headerFrom, headerIn, headerOf}
+use Rattle.file_form.specs.Header.{firstForm, firstLineForm, orderKnown, askFirstLine, askWeights, askHeader}
+use Rattle.file_form.specs.Rows.{askRows}
+use Rattle.file_form.specs.Job.{Job}
+use Rattle.file_form.specs.Branches.{branchCount, ancestorIn, askBranches, askTree}
+use Rattle.file_form.specs.Reading.{mostBytes, behindRows, jobOf, nothingMore, askEnd, askAfter, askBehind, askFile, askLength}
+use Rattle.file_form.specs.Reading.{readAnswer}
 use Rattle.matrix_file.specs.Report.{readSays, withHeader}
-use Rattle.matrix_file.specs.Walk.{headerOn, behindRowsMost, linesSay, RowsAsked, BranchesFormed, BranchesAsked, RestAsked}
+use Rattle.file_form.specs.Formed.{BranchesFormed}
+use Rattle.matrix_file.specs.Walk.{headerOn, behindRowsMost, linesSay, RowsAsked, BranchesAsked, RestAsked}
 use Rattle.matrix_file.proofs.File.OptionalWalk.{taken-most}
-use Rattle.matrix_file.proofs.File.HeaderRead.{HeaderPassed, header-passed, several-lines, header-behind}
-use Rattle.matrix_file.proofs.Text.Parts.{parts-some, parts-at, parts-other}
-use Rattle.matrix_file.proofs.Text.FirstPart.{first-length, part-within, parts-one, parts-more}
+use Rattle.file_form.proofs.File.HeaderRead.{HeaderPassed, header-passed, several-lines, header-behind}
+use Rattle.file_form.proofs.Text.Parts.{parts-some, parts-at, parts-other}
+use Rattle.file_form.proofs.Text.FirstPart.{first-length, part-within, parts-one, parts-more}
 
 -- what the questions put to a header bring, by the fields of line 1 and the lines behind it
 abbrev fieldsAsked : List (List ℕ) → List (List ℕ) → Outcome Header

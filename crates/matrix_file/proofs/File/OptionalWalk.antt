@@ -10,11 +10,11 @@ use Rattle.lists.specs.Tests.{sameNumbers as sameText}
 use Rattle.matrix.specs.Outcomes.{ask}
 use Rattle.matrix.specs.declared.refusal.Refusal.{Refusal}
 use Rattle.matrix.specs.declared.refusal.Asked.the-variants.{Passed, Refused}
-use Rattle.matrix_file.specs.Bytes.{tab, lineFeed, partsAt, partLength, firstPart, behindPart}
-use Rattle.matrix_file.specs.Lines.{linesOf, fieldsOf}
-use Rattle.matrix_file.specs.Optional.{optionalThere, optionalFields, askOptional, linesTaken}
-use Rattle.matrix_file.proofs.Text.Parts.{parts-some}
-use Rattle.matrix_file.proofs.Text.FirstPart.{part-within, parts-one, parts-more, first-of-parts}
+use Rattle.file_form.specs.Bytes.{tab, lineFeed, partsAt, partLength, firstPart, behindPart}
+use Rattle.file_form.specs.Lines.{linesOf, fieldsOf}
+use Rattle.file_form.specs.Optional.{optionalThere, optionalFields, askOptional, linesTaken}
+use Rattle.file_form.proofs.Text.Parts.{parts-some}
+use Rattle.file_form.proofs.Text.FirstPart.{part-within, parts-one, parts-more, first-of-parts}
 
 -- the first line of a text is its first part at a line feed
 pub first-line : (text line : List ℕ) → line ≡ firstPart lineFeed text → getD (linesOf text) 0 [] ≡ line

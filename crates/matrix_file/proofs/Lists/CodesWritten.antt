@@ -7,10 +7,10 @@ use native.Mathlib.Omega.{arith}
 use lib.IntN.{ℤ}
 use lib.ListN.{length, take, drop, set, length-set, length-drop, length-map, List·getD-map}
 use Rattle.matrix_file.proofs.Lists.LinesWalk.{rest-below, rest-at, rest-next}
-use Rattle.matrix_file.proofs.Text.PartsFrom.{partsFrom, from-start, from-past, from-next, next-within}
-use Rattle.matrix_file.specs.Bytes.{tab, firstPart}
-use Rattle.matrix_file.specs.Decimal.{codeForm, codeOf}
-use Rattle.matrix_file.specs.Lines.{fieldsOf}
+use Rattle.file_form.proofs.Text.PartsFrom.{partsFrom, from-start, from-past, from-next, next-within}
+use Rattle.file_form.specs.Bytes.{tab, firstPart}
+use Rattle.file_form.specs.Decimal.{codeForm, codeOf}
+use Rattle.file_form.specs.Lines.{fieldsOf}
 use Rattle.lists.specs.Over.{over}
 use Rattle.lists.proofs.Over.{over-nothing}
 use Rattle.matrix_file.proofs.Lists.WrittenLines.{over-next, over-all}

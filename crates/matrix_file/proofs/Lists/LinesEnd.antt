@@ -7,7 +7,7 @@ use lib.ListN.{drop}
 use Rattle.matrix.specs.declared.refusal.Refusal.{Refusal}
 use Rattle.matrix_file.specs.declared.answer.LinesAnswer.{LinesAnswer}
 use Rattle.matrix_file.specs.declared.answer.LinesAnswer.the-variants.{Ended, Refused}
-use Rattle.matrix_file.specs.Lines.{linesOf}
+use Rattle.file_form.specs.Lines.{linesOf}
 use Rattle.matrix_file.specs.Walk.{LinesPassed}
 use Rattle.matrix_file.proofs.Lists.LinesWalk.{LinesLeft, lines-behind}
 

@@ -10,16 +10,16 @@ use lib.Dec.{leb}
 use lib.ListN.{length, getD, take, drop, length-take, length-drop, length-map, List·getD-map}
 use lib.Seq.{drop-cons, take-suc, getD-take}
 use Rattle.lists.specs.Tests.{every}
-use Rattle.matrix_file.specs.Bytes.{lineFeed, partsAt, partLength, firstPart}
-use Rattle.matrix_file.specs.Decimal.{codeForm}
-use Rattle.matrix_file.specs.Job.{nameForm}
-use Rattle.matrix_file.specs.Lines.{linesOf, fieldsOf}
-use Rattle.matrix_file.specs.Rows.{nameIn}
-use Rattle.matrix_file.specs.Walk.{rowForm, RowsFormed}
+use Rattle.file_form.specs.Bytes.{lineFeed, partsAt, partLength, firstPart}
+use Rattle.file_form.specs.Decimal.{codeForm}
+use Rattle.file_form.specs.Job.{nameForm}
+use Rattle.file_form.specs.Lines.{linesOf, fieldsOf}
+use Rattle.file_form.specs.Rows.{nameIn}
+use Rattle.file_form.specs.Formed.{rowForm, RowsFormed}
 use Rattle.lists.proofs.Both.{and-left, and-right}
 use Rattle.lists.proofs.Every.{every-at}
-use Rattle.matrix_file.proofs.Text.PartsFrom.{partsFrom, from-within, from-past, from-start, from-next}
-use Rattle.matrix_file.proofs.Text.FirstPart.{first-length}
+use Rattle.file_form.proofs.Text.PartsFrom.{partsFrom, from-within, from-past, from-start, from-next}
+use Rattle.file_form.proofs.Text.FirstPart.{first-length}
 
 -- a list whose rest from j on begins with x: x stands at j, and the others behind it
 module _ {A : Type 0} (xs : List A) (j : ℕ) (x : A) (others : List A) (e : drop j xs ≡ x ∷ others) where

@@ -6,8 +6,8 @@ use native.Mathlib.Omega.{arith}
 use lib.ListN.{length, getD, take, set, length-set}
 use Rattle.lists.specs.Over.{over}
 use Rattle.lists.proofs.Filled.{filled-at, length-filled}
-use Rattle.matrix_file.specs.Written.{padded}
-use Rattle.matrix_file.specs.Job.{nameSize}
+use Rattle.file_form.specs.Written.{padded}
+use Rattle.file_form.specs.Job.{nameSize}
 use Rattle.matrix_file.proofs.Lists.WrittenLines.{over-next, over-all}
 
 -- what a loop that writes a name knows at place i: the first i bytes are those of the padded name

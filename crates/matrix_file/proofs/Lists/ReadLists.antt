@@ -18,23 +18,23 @@ use Rattle.matrix.specs.declared.refusal.Refusal.the-variants.{ListSize}
 use Rattle.matrix.specs.declared.refusal.Asked.the-variants.{Passed}
 use Rattle.matrix.specs.Outcomes.{value, afterwards}
 use Rattle.branching.specs.LentNumbers.{lentNumbers}
-use Rattle.matrix_file.specs.declared.answer.Header.{Header}
+use Rattle.file_form.specs.declared.header.Header.{Header}
 use Rattle.matrix.specs.Shape.{columns, matrixSize, row, isWeight}
 use Rattle.lists.specs.Tests.{every}
 use Rattle.matrix.specs.Questions.{allInRange, areWeights, LentMatrix, LentWeights, oneTo, withinLimits}
 use Rattle.matrix_file.specs.declared.answer.Read.{Read}
 use Rattle.matrix_file.specs.declared.answer.Read.the-variants.{Accepted}
-use Rattle.matrix_file.specs.Job.{Job, JobWithinLimits, hasCodes, nameForm, nameSize}
-use Rattle.matrix_file.specs.Reading.{readAnswer}
+use Rattle.file_form.specs.Job.{Job, JobWithinLimits, hasCodes, nameForm, nameSize}
+use Rattle.file_form.specs.Reading.{readAnswer}
 use Rattle.matrix_file.specs.Report.{readSays, askSize, readOutcome, ReadDone}
-use Rattle.matrix_file.specs.Header.{headerOf}
-use Rattle.matrix_file.specs.Written.{namesSize, padded, matrixWritten, weightsWritten, namesWritten, LentLists, jobWritten}
+use Rattle.file_form.specs.Header.{headerOf}
+use Rattle.file_form.specs.Written.{namesSize, padded, matrixWritten, weightsWritten, namesWritten, LentLists, jobWritten}
 use Rattle.matrix.proofs.Passing.{ask-passed, oneTo-true}
-use Rattle.matrix_file.proofs.File.FileLength.{name-length}
-use Rattle.matrix_file.proofs.File.FileOfRead.{file-of-read}
-use Rattle.matrix_file.proofs.File.AcceptedRows.{accepted-job}
+use Rattle.file_form.proofs.File.FileLength.{name-length}
+use Rattle.file_form.proofs.File.FileOfRead.{file-of-read}
+use Rattle.file_form.proofs.File.AcceptedRows.{accepted-job}
 use Rattle.matrix_file.proofs.Lists.ReadWalk.{lists-full, sized}
-use Rattle.matrix_file.proofs.File.Outcomes.{line-passed, then-passed}
+use Rattle.file_form.proofs.File.Outcomes.{line-passed, then-passed}
 
 -- items of which none is too wide, by their places
 items-narrow : {A : Type 0} (width : ℕ) (items : List (List A)) → ((k : ℕ) → k < length items → length (getD items k []) ≤ width)

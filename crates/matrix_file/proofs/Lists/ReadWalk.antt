@@ -14,27 +14,28 @@ use Rattle.matrix.specs.Refusals.{refusalNumber}
 use Rattle.matrix.specs.Outcomes.{value, refused, afterwards}
 use Rattle.matrix.specs.declared.refusal.Refusal.{Refusal}
 use Rattle.matrix.specs.declared.refusal.Refusal.the-variants.{ListSize}
-use Rattle.matrix_file.specs.declared.answer.Header.{Header}
+use Rattle.file_form.specs.declared.header.Header.{Header}
 use Rattle.matrix_file.specs.declared.answer.Read.{Read}
 use Rattle.matrix_file.specs.declared.answer.Read.the-variants.{Accepted, Refused}
-use Rattle.matrix_file.specs.Bytes.{lineFeed, behindPart}
-use Rattle.matrix_file.specs.Job.{Job}
-use Rattle.matrix_file.specs.Lines.{linesOf}
-use Rattle.matrix_file.specs.Optional.{optionalFields}
-use Rattle.matrix_file.specs.Weights.{weightsForm, weightsSaid}
-use Rattle.matrix_file.specs.Header.{headerIn, headerOf, headerLines, behindHeader}
-use Rattle.matrix_file.specs.Rows.{nameIn, codesIn}
+use Rattle.file_form.specs.Bytes.{lineFeed, behindPart}
+use Rattle.file_form.specs.Job.{Job}
+use Rattle.file_form.specs.Lines.{linesOf}
+use Rattle.file_form.specs.Optional.{optionalFields}
+use Rattle.file_form.specs.Weights.{weightsForm, weightsSaid}
+use Rattle.file_form.specs.Header.{headerIn, headerOf, headerLines, behindHeader}
+use Rattle.file_form.specs.Rows.{nameIn, codesIn}
 use Rattle.branching.specs.LentNumbers.{lentNumbers, recordsFor}
-use Rattle.matrix_file.specs.Branches.{branchCount}
-use Rattle.matrix_file.specs.Reading.{readAnswer, jobIn}
+use Rattle.file_form.specs.Branches.{branchCount}
+use Rattle.file_form.specs.Reading.{readAnswer, jobIn}
 use Rattle.matrix_file.specs.Report.{readSays, withHeader, fullSize, askSize, readOutcome, ReadDone}
-use Rattle.matrix_file.specs.Walk.{RowsFormed, BranchesFormed, paddedIn, recordIn}
-use Rattle.matrix_file.specs.Written.{namesSize, padded, LentLists, jobWritten}
-use Rattle.matrix_file.proofs.File.Outcomes.{then-passed, then-refused}
-use Rattle.matrix_file.proofs.File.AcceptedRows.{accepted-job, accepted-most, accepted-behind, accepted-header, accepted-weights}
-use Rattle.matrix_file.proofs.File.AcceptedRows.{accepted-text, accepted-fields, accepted-formed, accepted-codes, accepted-names}
-use Rattle.matrix_file.proofs.File.AcceptedRows.{accepted-branches, accepted-records}
-use Rattle.matrix_file.proofs.File.FileLength.{count-most}
+use Rattle.file_form.specs.Formed.{RowsFormed, BranchesFormed, recordIn}
+use Rattle.matrix_file.specs.Walk.{paddedIn}
+use Rattle.file_form.specs.Written.{namesSize, padded, LentLists, jobWritten}
+use Rattle.file_form.proofs.File.Outcomes.{then-passed, then-refused}
+use Rattle.file_form.proofs.File.AcceptedRows.{accepted-job, accepted-most, accepted-behind, accepted-header, accepted-weights}
+use Rattle.file_form.proofs.File.AcceptedRows.{accepted-text, accepted-fields, accepted-formed, accepted-codes, accepted-names}
+use Rattle.file_form.proofs.File.AcceptedRows.{accepted-branches, accepted-records}
+use Rattle.file_form.proofs.File.FileLength.{count-most}
 
 -- lent lists of full size, by their lengths
 module _ (matrix weights names branches : ℕ) where

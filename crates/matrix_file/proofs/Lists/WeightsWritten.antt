@@ -13,13 +13,13 @@ use Rattle.lists.specs.Over.{over}
 use Rattle.lists.specs.Tests.{every}
 use Rattle.lists.proofs.Both.{and-left, and-right, implies-iff}
 use Rattle.lists.proofs.Every.{every-at}
-use Rattle.matrix_file.specs.Bytes.{tab, lineFeed, partsAt, firstPart}
-use Rattle.matrix_file.specs.Lines.{linesOf, fieldsOf}
-use Rattle.matrix_file.specs.Optional.{optionalFields}
-use Rattle.matrix_file.specs.Weights.{weightForm, weightIn, weightsForm, weightsSaid}
-use Rattle.matrix_file.proofs.File.FirstForm.{fields-count}
+use Rattle.file_form.specs.Bytes.{tab, lineFeed, partsAt, firstPart}
+use Rattle.file_form.specs.Lines.{linesOf, fieldsOf}
+use Rattle.file_form.specs.Optional.{optionalFields}
+use Rattle.file_form.specs.Weights.{weightForm, weightIn, weightsForm, weightsSaid}
+use Rattle.file_form.proofs.File.FirstForm.{fields-count}
 use Rattle.matrix_file.proofs.File.OptionalWalk.{line-fields}
-use Rattle.matrix_file.proofs.File.WeightFields.{said-count}
+use Rattle.file_form.proofs.File.WeightFields.{said-count}
 use Rattle.matrix_file.proofs.Lists.WrittenLines.{over-next, over-all}
 
 -- a field of another length than 1 is no weight

@@ -14,13 +14,13 @@ use Rattle.lists.specs.Tests.{every}
 use Rattle.lists.proofs.Over.{over-lent, over-more}
 use Rattle.lists.proofs.Stripes.{length-stripes, stripes-snoc}
 use Rattle.matrix.specs.Shape.{columns}
-use Rattle.matrix_file.specs.Bytes.{tab, lineFeed, firstPart, behindPart}
-use Rattle.matrix_file.specs.Decimal.{codeForm, codeOf}
-use Rattle.matrix_file.specs.Lines.{linesOf, fieldsOf}
-use Rattle.matrix_file.specs.Rows.{nameIn, codesIn}
-use Rattle.matrix_file.specs.Job.{nameSize}
-use Rattle.matrix_file.proofs.File.FileLength.{name-length}
-use Rattle.matrix_file.proofs.Text.Fields.{name-first, codes-behind}
+use Rattle.file_form.specs.Bytes.{tab, lineFeed, firstPart, behindPart}
+use Rattle.file_form.specs.Decimal.{codeForm, codeOf}
+use Rattle.file_form.specs.Lines.{linesOf, fieldsOf}
+use Rattle.file_form.specs.Rows.{nameIn, codesIn}
+use Rattle.file_form.specs.Job.{nameSize}
+use Rattle.file_form.proofs.File.FileLength.{name-length}
+use Rattle.file_form.proofs.Text.Fields.{name-first, codes-behind}
 use Rattle.matrix_file.proofs.Lists.LinesWalk.{RowFormed, LinesLeft, lines-start, line-more, lines-next}
 
 -- a list that is written over from its front, element by element

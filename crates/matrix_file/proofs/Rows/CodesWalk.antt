@@ -5,11 +5,11 @@ use mathlib.Core.List.{List}
 use Prim.Native.Nat.{ℕ, _+_, _-_, _≤_, _<_}
 use borrow.Author.Tests.{not-true, not-false}
 use lib.ListN.{length, drop}
-use Rattle.matrix_file.specs.Bytes.{tab, firstPart}
-use Rattle.matrix_file.specs.Decimal.{codeForm, codeOf}
-use Rattle.matrix_file.specs.Lines.{fieldsOf}
-use Rattle.matrix_file.specs.Rows.{askCodes}
-use Rattle.matrix_file.proofs.Text.PartsFrom.{partsFrom, from-start, from-past, from-next}
+use Rattle.file_form.specs.Bytes.{tab, firstPart}
+use Rattle.file_form.specs.Decimal.{codeForm, codeOf}
+use Rattle.file_form.specs.Lines.{fieldsOf}
+use Rattle.file_form.specs.Rows.{askCodes}
+use Rattle.file_form.proofs.Text.PartsFrom.{partsFrom, from-start, from-past, from-next}
 use Rattle.matrix.specs.declared.refusal.Asked.{Asked}
 use Rattle.matrix.specs.declared.refusal.Asked.the-variants.{Passed, Refused}
 use Rattle.matrix.specs.declared.refusal.Refusal.the-variants.{CodeForm, CodeRange}

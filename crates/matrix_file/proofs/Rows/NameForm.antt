@@ -7,8 +7,8 @@ use native.Mathlib.Omega.{arith}
 use borrow.Author.Tests.{le-leb, lt-leb}
 use lib.Dec.{leb}
 use lib.ListN.{length, getD, drop}
-use Rattle.matrix_file.specs.Bytes.{isLetter}
-use Rattle.matrix_file.specs.Job.{nameForm, inName}
+use Rattle.file_form.specs.Bytes.{isLetter}
+use Rattle.file_form.specs.Job.{nameForm, inName}
 use Rattle.lists.specs.Tests.{every}
 
 -- an empty name is not well formed

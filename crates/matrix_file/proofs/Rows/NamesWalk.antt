@@ -6,8 +6,8 @@ use Prim.Native.Nat.{ℕ, zero, suc, _-_, _≤_, _<_}
 use native.Mathlib.Omega.{arith}
 use lib.ListN.{getD, drop}
 use Rattle.lists.specs.Tests.{sameNumbers as sameText}
-use Rattle.matrix_file.specs.Bytes.{tab, firstPart}
-use Rattle.matrix_file.specs.Job.{differsFromAll}
+use Rattle.file_form.specs.Bytes.{tab, firstPart}
+use Rattle.file_form.specs.Job.{differsFromAll}
 use Rattle.matrix_file.specs.Walk.{namesPassed}
 
 -- the names of some rows are that of the last of them and those before it

@@ -7,16 +7,16 @@ use native.Mathlib.Omega.{arith}
 use borrow.Author.Tests.{eqb-true, eqb-false, not-true, not-false, eq-eqb, ne-eqb}
 use lib.Dec.{eqb}
 use lib.ListN.{length, drop}
-use Rattle.matrix_file.specs.Bytes.{tab, partsAt, firstPart, behindPart}
-use Rattle.matrix_file.specs.Lines.{fieldsOf}
-use Rattle.matrix_file.specs.Rows.{askCodes, askRow}
-use Rattle.matrix_file.proofs.Text.Fields.{name-first, codes-behind}
-use Rattle.matrix_file.specs.Job.{nameForm, differsFromAll}
+use Rattle.file_form.specs.Bytes.{tab, partsAt, firstPart, behindPart}
+use Rattle.file_form.specs.Lines.{fieldsOf}
+use Rattle.file_form.specs.Rows.{askCodes, askRow}
+use Rattle.file_form.proofs.Text.Fields.{name-first, codes-behind}
+use Rattle.file_form.specs.Job.{nameForm, differsFromAll}
 use Rattle.matrix.specs.declared.refusal.Asked.{Asked}
 use Rattle.matrix.specs.declared.refusal.Asked.the-variants.{Refused}
 use Rattle.matrix.specs.declared.refusal.Refusal.the-variants.{FieldCount, NameForm, NameTaken}
 use Rattle.matrix.specs.Outcomes.{ask}
-use Rattle.matrix_file.specs.declared.answer.Header.{Header}
+use Rattle.file_form.specs.declared.header.Header.{Header}
 
 -- one more than a number is one more than another exactly if the two are equal
 eqb-next : (a b c : ℕ) → a + 1 ≡ c → eqb a b ≡ eqb c (suc b)

@@ -14,18 +14,18 @@ use Rattle.matrix.specs.declared.refusal.Refusal.the-variants.{LineMissing, Fie
 use Rattle.matrix.specs.declared.refusal.Asked.{Asked}
 use Rattle.matrix.specs.declared.refusal.Asked.the-variants as Asked
 use Rattle.matrix.specs.Outcomes.{Outcome, refused, onLine}
-use Rattle.matrix_file.specs.declared.answer.Header.{Header}
+use Rattle.file_form.specs.declared.header.Header.{Header}
 use Rattle.matrix_file.specs.declared.answer.LinesAnswer.the-variants.{Ended, Refused}
-use Rattle.matrix_file.specs.Job.{Job}
-use Rattle.matrix_file.specs.Bytes.{tab, lineFeed, partsAt, partLength, firstPart}
-use Rattle.matrix_file.specs.Lines.{linesOf, fieldsOf}
-use Rattle.matrix_file.specs.Rows.{nameIn, askRow, askRows}
+use Rattle.file_form.specs.Job.{Job}
+use Rattle.file_form.specs.Bytes.{tab, lineFeed, partsAt, partLength, firstPart}
+use Rattle.file_form.specs.Lines.{linesOf, fieldsOf}
+use Rattle.file_form.specs.Rows.{nameIn, askRow, askRows}
 use Rattle.matrix_file.specs.Walk.{namesPassed, RowsAsked}
 use Rattle.matrix.proofs.Passing.{ask-passed}
-use Rattle.matrix_file.proofs.Text.Parts.{parts-some}
-use Rattle.matrix_file.proofs.Text.FirstPart.{Parted, whole, shorter, parted, parts-one, first-of-front}
-use Rattle.matrix_file.proofs.Text.PartsFrom.{partsFrom, from-within, from-past, from-start, from-next, next-within}
-use Rattle.matrix_file.proofs.Text.Fields.{name-first}
+use Rattle.file_form.proofs.Text.Parts.{parts-some}
+use Rattle.file_form.proofs.Text.FirstPart.{Parted, whole, shorter, parted, parts-one, first-of-front}
+use Rattle.file_form.proofs.Text.PartsFrom.{partsFrom, from-within, from-past, from-start, from-next, next-within}
+use Rattle.file_form.proofs.Text.Fields.{name-first}
 use Rattle.matrix_file.proofs.Lists.LinesWalk.{LinesLeft, lines-start, walk-on}
 use Rattle.matrix_file.proofs.Lists.LinesEnd.{refused-not-ended, lines-passed}
 

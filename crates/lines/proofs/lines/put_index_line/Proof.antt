@@ -1,6 +1,6 @@
 -- `lines::lines::put_index_line` meets its contract, with an index and without. Assumes nothing.
 use mathlib.Core.Path.{sym, ap, _∙_}
-use Rattle.matrix_file.specs.Text.{bytes}
+use Rattle.file_form.specs.Text.{bytes}
 use Rattle.lines.specs.Kinds.{indexLine}
 use Rattle.lines.proofs.Puts.{put-then, put-same}
 use Rattle.lines.proofs.LineFields.{behind, line-fields}

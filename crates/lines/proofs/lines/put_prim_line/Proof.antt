@@ -1,6 +1,6 @@
 -- `lines::lines::put_prim_line` meets its contract. Assumes nothing.
 use mathlib.Core.Path.{sym}
-use Rattle.matrix_file.specs.Text.{bytes}
+use Rattle.file_form.specs.Text.{bytes}
 use Rattle.lines.specs.Kinds.{primLine}
 use Rattle.lines.proofs.Puts.{put-then, put-same}
 use Rattle.lines.proofs.LineFields.{behind, line-fields}

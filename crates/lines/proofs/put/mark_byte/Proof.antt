@@ -1,6 +1,6 @@
 -- `lines::put::mark_byte` meets its contract. Assumes nothing.
 use mathlib.Core.Path.{sym, ap}
-use Rattle.matrix_file.specs.Text.{bytes}
+use Rattle.file_form.specs.Text.{bytes}
 use Rattle.lines.specs.Kinds.{mark}
 use Rattle.lines.proofs.put.mark_byte.Statement.{statement}
 use Rattle.lines.proofs.put.mark_byte.Tie as tie

@@ -2,8 +2,8 @@
 use mathlib.Core.Path.{ap, _∙_}
 use mathlib.Core.List.{_∷_}
 use mir.Facts.{toZ-ofZ}
-use Rattle.matrix_file.specs.Bytes.{minus}
-use Rattle.matrix_file.specs.Decimal.{digitsOf, decimal}
+use Rattle.file_form.specs.Bytes.{minus}
+use Rattle.file_form.specs.Decimal.{digitsOf, decimal}
 use Rattle.lines.proofs.Puts.{put-then, put-same}
 use Rattle.lines.proofs.Fields.{code-below, code-above}
 use borrow.Author.Needs.{needs}

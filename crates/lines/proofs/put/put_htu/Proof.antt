@@ -1,5 +1,5 @@
 -- `lines::put::put_htu` meets its contract. Assumes nothing.
-use Rattle.matrix_file.specs.Text.{bytes}
+use Rattle.file_form.specs.Text.{bytes}
 use Rattle.lines.specs.Lines.{htuName}
 use Rattle.lines.proofs.Puts.{put-then}
 use borrow.Author.Needs.{needs}

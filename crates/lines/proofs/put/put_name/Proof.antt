@@ -5,7 +5,7 @@ use mathlib.Core.Path.{_≡_, refl, _∙_}
 use Prim.Native.Nat.{_-_, _≤_}
 use native.Mathlib.Omega.{arith}
 use lib.ListN.{length, drop}
-use Rattle.matrix_file.specs.Bytes.{firstPart}
+use Rattle.file_form.specs.Bytes.{firstPart}
 use Rattle.lines.proofs.Puts.{Left, left-start, left-end, left-put, left-same}
 use Rattle.lines.proofs.Fields.{first-here, first-on, first-past}
 use Rattle.lines.proofs.put.put_name.Statement.{statement}

@@ -1,6 +1,6 @@
 -- `lines::put::put_node` meets its contract, by the three kinds of field. Assumes nothing.
 use mathlib.Core.Path.{sym, ap, _∙_}
-use Rattle.matrix_file.specs.Bytes.{firstPart}
+use Rattle.file_form.specs.Bytes.{firstPart}
 use Rattle.lines.proofs.Puts.{put-same}
 use Rattle.lines.proofs.Fields.{node-none, node-lent, node-htu}
 use borrow.Author.Needs.{needs}

@@ -1,5 +1,5 @@
 -- `listing::blocks::put_fitted_total` meets its contract. Assumes nothing.
-use Rattle.matrix_file.specs.Text.{bytes}
+use Rattle.file_form.specs.Text.{bytes}
 use Rattle.lines.specs.Kinds.{totalLine, totalText}
 use borrow.Author.Needs.{needs}
 use Rattle.listing.proofs.blocks.put_fitted_total.Statement.{statement}

@@ -3,8 +3,8 @@ use Prim.Native.Nat.{_+_, _-_, _≤_, _<_}
 use native.Mathlib.Omega.{arith}
 use borrow.Author.Needs.{needs}
 use lib.ListN.{length}
-use Rattle.matrix_file.specs.Bytes.{lineFeed}
-use Rattle.matrix_file.proofs.Text.PartsFrom.{next-within}
+use Rattle.file_form.specs.Bytes.{lineFeed}
+use Rattle.file_form.proofs.Text.PartsFrom.{next-within}
 use Rattle.matrix_file.proofs.BranchLines.Walk.{BranchesLeft, branches-start, branch-missing, branch-refused, branch-passed, branches-ended}
 use Rattle.matrix_file.proofs.branches.ask_branches.Statement.{statement}
 use Rattle.matrix_file.proofs.branches.ask_branches.Tie as tie

@@ -3,7 +3,7 @@ use mathlib.Core.Path.{sym, ap, _∙_}
 use native.Mathlib.Nat.{min-eq-left}
 use native.Mathlib.Omega.{arith}
 use borrow.Author.Needs.{needs}
-use Rattle.matrix_file.specs.Branches.{branchCount}
+use Rattle.file_form.specs.Branches.{branchCount}
 use Rattle.matrix_file.proofs.branches.branch_count.Statement.{statement}
 use Rattle.matrix_file.proofs.branches.branch_count.Tie as tie
 

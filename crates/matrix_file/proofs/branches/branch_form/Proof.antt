@@ -1,7 +1,7 @@
 -- `matrix_file::branches::branch_form` meets its contract: each answer follows from the tests that led to it. Assumes nothing.
 use mathlib.Core.Path.{sym, _∙_}
 use borrow.Author.Needs.{needs}
-use Rattle.matrix_file.proofs.BranchLines.Form.{other-count, bad-word, bad-third, bad-second, node-said}
+use Rattle.file_form.proofs.BranchLines.Form.{other-count, bad-word, bad-third, bad-second, node-said}
 use Rattle.matrix_file.proofs.branches.branch_form.Statement.{statement}
 use Rattle.matrix_file.proofs.branches.branch_form.Tie as tie
 

@@ -1,7 +1,7 @@
 -- `matrix_file::branches::number_in` meets its contract: the number of the field. Assumes nothing.
 use mathlib.Core.Path.{ap, _∙_}
 use borrow.Author.Needs.{needs}
-use Rattle.matrix_file.specs.Decimal.{numberForm, numberOf}
+use Rattle.file_form.specs.Decimal.{numberForm, numberOf}
 use Rattle.matrix_file.proofs.branches.number_in.Statement.{statement}
 use Rattle.matrix_file.proofs.branches.number_in.Tie as tie
 

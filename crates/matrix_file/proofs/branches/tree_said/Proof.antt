@@ -5,7 +5,7 @@ use native.Mathlib.Omega.{arith}
 use borrow.Author.Needs.{needs}
 use lib.ListN.{length}
 use Rattle.lists.specs.Filled.{filled}
-use Rattle.matrix_file.specs.Branches.{ancestorIn}
+use Rattle.file_form.specs.Branches.{ancestorIn}
 use Rattle.matrix_file.proofs.Lists.LinesWalk.{line-ended}
 use Rattle.matrix_file.proofs.BranchLines.Said.{PlacesFilled, places-start, line-told, places-more, places-all}
 use Rattle.matrix_file.proofs.branches.tree_said.Statement.{statement}

@@ -6,13 +6,13 @@ use native.Mathlib.Omega.{arith}
 use borrow.Author.Needs.{needs}
 use lib.ListN.{length}
 use Rattle.branching.specs.LentNumbers.{recordSize, recordNumbers}
-use Rattle.matrix_file.specs.Branches.{ancestorIn}
-use Rattle.matrix_file.specs.Walk.{recordIn}
+use Rattle.file_form.specs.Branches.{ancestorIn}
+use Rattle.file_form.specs.Formed.{recordIn}
 use Rattle.matrix_file.proofs.Lists.LinesWalk.{line-ended}
 use Rattle.matrix_file.proofs.Lists.WrittenLines.{part-room, ItemsWritten, items-start, items-next, items-all}
-use Rattle.matrix_file.proofs.BranchLines.Form.{BranchFormed}
+use Rattle.file_form.proofs.BranchLines.Form.{BranchFormed}
 use Rattle.matrix_file.proofs.BranchLines.Said.{line-told}
-use Rattle.matrix_file.specs.Lines.{fieldsOf}
+use Rattle.file_form.specs.Lines.{fieldsOf}
 use Rattle.matrix_file.proofs.branches.write_branches.Statement.{statement}
 use Rattle.matrix_file.proofs.branches.write_branches.Tie as tie
 

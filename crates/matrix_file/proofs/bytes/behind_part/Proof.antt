@@ -1,8 +1,8 @@
 -- `matrix_file::bytes::behind_part` meets its contract: the rest from the place behind the first separator on. Assumes nothing.
 use native.Mathlib.Omega.{arith}
 use borrow.Author.Needs.{needs}
-use Rattle.matrix_file.proofs.Text.FirstPart.{part-within}
-use Rattle.matrix_file.proofs.Text.PartWalk.{behind}
+use Rattle.file_form.proofs.Text.FirstPart.{part-within}
+use Rattle.file_form.proofs.Text.PartWalk.{behind}
 use Rattle.matrix_file.proofs.bytes.behind_part.Statement.{statement}
 use Rattle.matrix_file.proofs.bytes.behind_part.Tie as tie
 

@@ -3,7 +3,7 @@
 use Prim.Native.Nat.{_-_}
 use native.Mathlib.Omega.{arith}
 use borrow.Author.Needs.{needs}
-use Rattle.matrix_file.proofs.Text.Fields.{FieldLeft, field-start, field-next, field-found}
+use Rattle.file_form.proofs.Text.Fields.{FieldLeft, field-start, field-next, field-found}
 use Rattle.matrix_file.proofs.bytes.field.Statement.{statement}
 use Rattle.matrix_file.proofs.bytes.field.Tie as tie
 

@@ -1,6 +1,6 @@
 -- `matrix_file::bytes::first_part` meets its contract: the part lent ends at the first separator. Assumes nothing.
 use borrow.Author.Needs.{needs}
-use Rattle.matrix_file.proofs.Text.PartWalk.{counts, first}
+use Rattle.file_form.proofs.Text.PartWalk.{counts, first}
 use Rattle.matrix_file.proofs.bytes.first_part.Statement.{statement}
 use Rattle.matrix_file.proofs.bytes.first_part.Tie as tie
 

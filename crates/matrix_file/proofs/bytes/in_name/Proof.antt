@@ -1,7 +1,7 @@
 -- `matrix_file::bytes::in_name` meets its contract: its tests are the definition's, in the same order. Assumes nothing.
 use mathlib.Core.Path.{refl}
 use borrow.Author.Needs.{needs}
-use Rattle.matrix_file.specs.Job.{inName}
+use Rattle.file_form.specs.Job.{inName}
 use Rattle.lists.proofs.Both.{or-first, or-second}
 use Rattle.matrix_file.proofs.bytes.in_name.Statement.{statement}
 use Rattle.matrix_file.proofs.bytes.in_name.Tie as tie

@@ -1,6 +1,6 @@
 -- `matrix_file::bytes::is_digit` meets its contract: one range of bytes. Assumes nothing.
 use borrow.Author.Needs.{needs}
-use Rattle.matrix_file.specs.Bytes.{isDigit}
+use Rattle.file_form.specs.Bytes.{isDigit}
 use Rattle.matrix_file.proofs.bytes.is_digit.Statement.{statement}
 use Rattle.matrix_file.proofs.bytes.is_digit.Tie as tie
 

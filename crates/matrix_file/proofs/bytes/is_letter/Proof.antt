@@ -1,6 +1,6 @@
 -- `matrix_file::bytes::is_letter` meets its contract: two ranges of bytes, in the definition's order. Assumes nothing.
 use borrow.Author.Needs.{needs}
-use Rattle.matrix_file.specs.Bytes.{isLetter}
+use Rattle.file_form.specs.Bytes.{isLetter}
 use Rattle.lists.proofs.Both.{or-first, or-second}
 use Rattle.matrix_file.proofs.bytes.is_letter.Statement.{statement}
 use Rattle.matrix_file.proofs.bytes.is_letter.Tie as tie

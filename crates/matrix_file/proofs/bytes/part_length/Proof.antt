@@ -5,8 +5,8 @@ use Prim.Native.Nat.{_+_, _-_, _≤_}
 use native.Mathlib.Omega.{arith}
 use borrow.Author.Needs.{needs}
 use lib.ListN.{length, drop}
-use Rattle.matrix_file.specs.Bytes.{partLength}
-use Rattle.matrix_file.proofs.Text.PartWalk.{found, goes-on, at-end}
+use Rattle.file_form.specs.Bytes.{partLength}
+use Rattle.file_form.proofs.Text.PartWalk.{found, goes-on, at-end}
 use Rattle.matrix_file.proofs.bytes.part_length.Statement.{statement}
 use Rattle.matrix_file.proofs.bytes.part_length.Tie as tie
 

@@ -1,8 +1,8 @@
 -- `matrix_file::bytes::rest_from` meets its contract: the part lent is what `drop` leaves. Assumes nothing.
 use Prim.Native.Nat.{_-_}
 use borrow.Author.Needs.{needs}
-use Rattle.matrix_file.proofs.Text.FirstPart.{part-to-end}
-use Rattle.matrix_file.proofs.Text.PartWalk.{nothing-left}
+use Rattle.file_form.proofs.Text.FirstPart.{part-to-end}
+use Rattle.file_form.proofs.Text.PartWalk.{nothing-left}
 use Rattle.matrix_file.proofs.bytes.rest_from.Statement.{statement}
 use Rattle.matrix_file.proofs.bytes.rest_from.Tie as tie
 

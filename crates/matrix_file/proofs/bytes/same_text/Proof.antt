@@ -5,7 +5,7 @@ use native.Mathlib.Omega.{arith}
 use borrow.Author.Needs.{needs}
 use lib.ListN.{length, drop}
 use Rattle.lists.specs.Tests.{sameNumbers as sameText}
-use Rattle.matrix_file.proofs.Text.SameText.{lengths-differ, differ-at, same-at, same-to-end}
+use Rattle.file_form.proofs.Text.SameText.{lengths-differ, differ-at, same-at, same-to-end}
 use Rattle.matrix_file.proofs.bytes.same_text.Statement.{statement}
 use Rattle.matrix_file.proofs.bytes.same_text.Tie as tie
 

@@ -4,7 +4,7 @@ use mathlib.Core.Logic.{⊎-elim}
 use Prim.Native.Nat.{_-_}
 use borrow.Author.Needs.{needs}
 use lib.ListN.{length}
-use Rattle.matrix_file.proofs.Text.Separators.{Counted, counted, passed, all-counted}
+use Rattle.file_form.proofs.Text.Separators.{Counted, counted, passed, all-counted}
 use Rattle.matrix_file.proofs.bytes.separators.Statement.{statement}
 use Rattle.matrix_file.proofs.bytes.separators.Tie as tie
 

@@ -1,6 +1,6 @@
 -- `matrix_file::header::first_form` meets its contract: each answer follows from the tests that led to it. Assumes nothing.
 use borrow.Author.Needs.{needs}
-use Rattle.matrix_file.proofs.File.FirstForm.{too-few, too-many, bad-word, bad-number, second-number}
+use Rattle.file_form.proofs.File.FirstForm.{too-few, too-many, bad-word, bad-number, second-number}
 use Rattle.matrix_file.proofs.header.first_form.Statement.{statement}
 use Rattle.matrix_file.proofs.header.first_form.Tie as tie
 

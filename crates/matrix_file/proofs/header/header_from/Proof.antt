@@ -2,9 +2,9 @@
 -- the order; the text behind decides whether there is a `V` line. Assumes nothing.
 use mathlib.Core.Path.{ap, _∙_}
 use borrow.Author.Needs.{needs}
-use Rattle.matrix_file.specs.Decimal.{numberForm, numberOf}
-use Rattle.matrix_file.specs.Header.{kindSaid}
-use Rattle.matrix_file.proofs.File.FirstForm.{form-tells}
+use Rattle.file_form.specs.Decimal.{numberForm, numberOf}
+use Rattle.file_form.specs.Header.{kindSaid}
+use Rattle.file_form.proofs.File.FirstForm.{form-tells}
 use Rattle.matrix_file.proofs.header.header_from.Statement.{statement}
 use Rattle.matrix_file.proofs.header.header_from.Tie as tie
 

@@ -1,7 +1,7 @@
 -- `matrix_file::header::is_kind` meets its contract: one of the two words. Assumes nothing.
 use mathlib.Core.Path.{sym, _∙_}
 use borrow.Author.Needs.{needs}
-use Rattle.matrix_file.specs.Header.{isKind}
+use Rattle.file_form.specs.Header.{isKind}
 use Rattle.matrix_file.proofs.header.is_kind.Statement.{statement}
 use Rattle.matrix_file.proofs.header.is_kind.Tie as tie
 

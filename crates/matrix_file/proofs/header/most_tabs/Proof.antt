@@ -1,7 +1,7 @@
 -- `matrix_file::header::most_tabs` meets its contract: one less than the fields of the kind. Assumes nothing.
 use mathlib.Core.Path.{sym, ap}
 use borrow.Author.Needs.{needs}
-use Rattle.matrix_file.specs.Header.{mostFields}
+use Rattle.file_form.specs.Header.{mostFields}
 use Rattle.matrix_file.proofs.header.most_tabs.Statement.{statement}
 use Rattle.matrix_file.proofs.header.most_tabs.Tie as tie
 

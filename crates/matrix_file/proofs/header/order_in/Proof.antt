@@ -2,8 +2,8 @@
 -- Assumes nothing.
 use mathlib.Core.Path.{sym, _∙_}
 use borrow.Author.Needs.{needs}
-use Rattle.matrix_file.proofs.File.FirstForm.{fields-count}
-use Rattle.matrix_file.proofs.File.Order.{none-said, advance-said, closest-said, neither-said}
+use Rattle.file_form.proofs.File.FirstForm.{fields-count}
+use Rattle.file_form.proofs.File.Order.{none-said, advance-said, closest-said, neither-said}
 use Rattle.matrix_file.proofs.header.order_in.Statement.{statement}
 use Rattle.matrix_file.proofs.header.order_in.Tie as tie
 

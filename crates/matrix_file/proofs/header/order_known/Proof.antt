@@ -3,8 +3,8 @@
 use mathlib.Core.Path.{sym, _∙_}
 use borrow.Author.Needs.{needs}
 use Rattle.lists.proofs.Both.{or-first, or-second}
-use Rattle.matrix_file.proofs.File.FirstForm.{fields-count, form-tells}
-use Rattle.matrix_file.proofs.File.Order.{none-known, fourth-known}
+use Rattle.file_form.proofs.File.FirstForm.{fields-count, form-tells}
+use Rattle.file_form.proofs.File.Order.{none-known, fourth-known}
 use Rattle.matrix_file.proofs.header.order_known.Statement.{statement}
 use Rattle.matrix_file.proofs.header.order_known.Tie as tie
 

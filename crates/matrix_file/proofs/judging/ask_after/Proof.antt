@@ -3,7 +3,7 @@
 use native.Mathlib.Omega.{arith}
 use borrow.Author.Needs.{needs}
 use Rattle.matrix_file.proofs.File.FileWalk.{branches-refused, end-refused, branches-formed, tree-decides}
-use Rattle.matrix_file.proofs.File.FileLength.{count-most}
+use Rattle.file_form.proofs.File.FileLength.{count-most}
 use Rattle.matrix_file.proofs.judging.ask_after.Statement.{statement}
 use Rattle.matrix_file.proofs.judging.ask_after.Tie as tie
 

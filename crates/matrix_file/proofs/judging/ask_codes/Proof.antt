@@ -6,9 +6,9 @@ use borrow.Author.Tests.{not-false}
 use borrow.Author.Needs.{sfits-of, needs}
 use lib.ListN.{length}
 use mir.Facts.{toZ-ofZ}
-use Rattle.matrix_file.specs.Bytes.{tab}
-use Rattle.matrix_file.specs.Decimal.{codeOf}
-use Rattle.matrix_file.proofs.Text.PartsFrom.{next-within}
+use Rattle.file_form.specs.Bytes.{tab}
+use Rattle.file_form.specs.Decimal.{codeOf}
+use Rattle.file_form.proofs.Text.PartsFrom.{next-within}
 use Rattle.matrix.specs.Shape.{inRange}
 use Rattle.matrix_file.proofs.Rows.CodesWalk.{Decide, all-codes, bad-form, out-of-range, next-decides, none-left}
 use Rattle.matrix_file.proofs.judging.ask_codes.Statement.{statement}

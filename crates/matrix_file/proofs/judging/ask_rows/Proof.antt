@@ -5,9 +5,9 @@ use Prim.Native.Nat.{_+_, _-_, _≤_, _<_}
 use native.Mathlib.Omega.{arith}
 use borrow.Author.Needs.{needs}
 use lib.ListN.{length}
-use Rattle.matrix_file.specs.Bytes.{lineFeed}
+use Rattle.file_form.specs.Bytes.{lineFeed}
 use Rattle.matrix_file.proofs.Rows.RowsWalk.{RowsLeft, walk-start, line-missing, row-refused, row-passed, walk-ended}
-use Rattle.matrix_file.proofs.Text.PartsFrom.{next-within}
+use Rattle.file_form.proofs.Text.PartsFrom.{next-within}
 use Rattle.matrix_file.proofs.judging.ask_rows.Statement.{statement}
 use Rattle.matrix_file.proofs.judging.ask_rows.Tie as tie
 

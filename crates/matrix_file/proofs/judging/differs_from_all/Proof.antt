@@ -3,7 +3,7 @@ use mathlib.Core.Path.{_≡_, refl}
 use Prim.Native.Nat.{_-_, _≤_}
 use native.Mathlib.Omega.{arith}
 use borrow.Author.Needs.{needs}
-use Rattle.matrix_file.specs.Job.{differsFromAll}
+use Rattle.file_form.specs.Job.{differsFromAll}
 use Rattle.matrix_file.specs.Walk.{namesPassed}
 use Rattle.matrix_file.proofs.Rows.NamesWalk.{taken, differs, all-differ}
 use Rattle.matrix_file.proofs.judging.differs_from_all.Statement.{statement}

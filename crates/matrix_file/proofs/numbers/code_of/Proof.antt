@@ -3,8 +3,8 @@ use mathlib.Core.Path.{sym, ap, _∙_}
 use borrow.Author.Needs.{sfits-of, needs}
 use lib.IntN.{pos, negℤ}
 use mir.Facts.{toZ-ofZ}
-use Rattle.matrix_file.specs.Decimal.{numberOf}
-use Rattle.matrix_file.proofs.Decimal.Codes.{code-form-plain, code-plain, code-minus, code-form-some}
+use Rattle.file_form.specs.Decimal.{numberOf}
+use Rattle.file_form.proofs.Decimal.Codes.{code-form-plain, code-plain, code-minus, code-form-some}
 use Rattle.matrix_file.proofs.Decimal.CodeWalk.{digits-behind}
 use Rattle.matrix_file.proofs.numbers.code_of.Statement.{statement}
 use Rattle.matrix_file.proofs.numbers.code_of.Tie as tie

@@ -2,8 +2,8 @@
 use mathlib.Core.Path.{sym, _∙_}
 use borrow.Author.Tests.{not-true, not-false, le-leb, lt-leb, eq-eqb}
 use borrow.Author.Needs.{needs}
-use Rattle.matrix_file.specs.Decimal.{numberForm}
-use Rattle.matrix_file.proofs.Decimal.Digits.{leading-one, leading-more}
+use Rattle.file_form.specs.Decimal.{numberForm}
+use Rattle.file_form.proofs.Decimal.Digits.{leading-one, leading-more}
 use Rattle.matrix_file.proofs.numbers.number_form.Statement.{statement}
 use Rattle.matrix_file.proofs.numbers.number_form.Tie as tie
 

@@ -5,7 +5,7 @@ use lib.Dec.{eqb}
 use borrow.Author.Tests.{eq-eqb, ne-eqb}
 use borrow.Author.Needs.{needs}
 use Rattle.matrix.specs.Shape.{columns}
-use Rattle.matrix_file.specs.Written.{namesSize}
+use Rattle.file_form.specs.Written.{namesSize}
 use Rattle.matrix_file.specs.Report.{fullSize}
 use Rattle.matrix_file.proofs.reading.full_size.Statement.{statement}
 use Rattle.matrix_file.proofs.reading.full_size.Tie as tie

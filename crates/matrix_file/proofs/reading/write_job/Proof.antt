@@ -6,7 +6,7 @@ use borrow.Author.Needs.{needs}
 use Rattle.lists.specs.Over.{over, stripes}
 use Rattle.matrix.specs.Shape.{columns}
 use Rattle.branching.specs.LentNumbers.{recordSize}
-use Rattle.matrix_file.specs.Job.{nameSize}
+use Rattle.file_form.specs.Job.{nameSize}
 use Rattle.matrix_file.proofs.Lists.ReadWalk.{lists-full, taxa-most, read-behind, rows-given, codes-said, names-said, weights-given, weights-said}
 use Rattle.matrix_file.proofs.Lists.ReadWalk.{branches-given, branches-few, records-said}
 use Rattle.matrix_file.proofs.reading.write_job.Statement.{statement}

@@ -2,10 +2,10 @@
 use mathlib.Core.Path.{sym, ap, _∙_}
 use borrow.Author.Needs.{needs}
 use Rattle.matrix.specs.declared.refusal.Refusal.the-variants.{WeightForm}
-use Rattle.matrix_file.specs.Lines.{linesOf}
-use Rattle.matrix_file.specs.Optional.{askOptional}
-use Rattle.matrix_file.specs.Weights.{weightsForm}
-use Rattle.matrix_file.specs.Header.{askWeights}
+use Rattle.file_form.specs.Lines.{linesOf}
+use Rattle.file_form.specs.Optional.{askOptional}
+use Rattle.file_form.specs.Weights.{weightsForm}
+use Rattle.file_form.specs.Header.{askWeights}
 use Rattle.matrix_file.proofs.File.OptionalWalk.{line-fields}
 use Rattle.matrix_file.proofs.weights.ask_weights.Statement.{statement}
 use Rattle.matrix_file.proofs.weights.ask_weights.Tie as tie

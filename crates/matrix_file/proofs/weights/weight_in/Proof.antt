@@ -1,7 +1,7 @@
 -- `matrix_file::weights::weight_in` meets its contract: a field of the right form is one digit. Assumes nothing.
 use mathlib.Core.Path.{refl}
-use Rattle.matrix_file.specs.Weights.{weightIn}
-use Rattle.matrix_file.proofs.File.WeightFields.{weight-first}
+use Rattle.file_form.specs.Weights.{weightIn}
+use Rattle.file_form.proofs.File.WeightFields.{weight-first}
 use Rattle.matrix_file.proofs.weights.weight_in.Statement.{statement}
 use Rattle.matrix_file.proofs.weights.weight_in.Tie as tie
 

@@ -3,7 +3,7 @@
 use mathlib.Core.Path.{ap, _∙_}
 use borrow.Author.Needs.{needs}
 use borrow.Author.Tests.{not-true, not-false}
-use Rattle.matrix_file.specs.Weights.{weightForm, weightIn}
+use Rattle.file_form.specs.Weights.{weightForm, weightIn}
 use Rattle.matrix_file.proofs.Lists.WeightsWritten.{required}
 use Rattle.matrix_file.proofs.weights.weight_said.Statement.{statement}
 use Rattle.matrix_file.proofs.weights.weight_said.Tie as tie

@@ -7,8 +7,8 @@ use borrow.Author.Needs.{needs}
 use lib.ListN.{drop}
 use Rattle.lists.specs.Tests.{every}
 use Rattle.lists.proofs.Every.{every-fails, every-goes-on, every-passes}
-use Rattle.matrix_file.specs.Lines.{fieldsOf}
-use Rattle.matrix_file.specs.Weights.{weightForm}
+use Rattle.file_form.specs.Lines.{fieldsOf}
+use Rattle.file_form.specs.Weights.{weightForm}
 use Rattle.matrix_file.proofs.Lists.WeightsWritten.{field-at, fields-behind, other-count, fields-decide}
 use Rattle.matrix_file.proofs.weights.weights_form.Statement.{statement}
 use Rattle.matrix_file.proofs.weights.weights_form.Tie as tie

@@ -6,8 +6,8 @@ use native.Mathlib.Omega.{arith}
 use borrow.Author.Needs.{sfits-of, needs}
 use lib.ListN.{length}
 use mir.Facts.{toZ-ofZ}
-use Rattle.matrix_file.proofs.Text.PartsFrom.{next-within}
-use Rattle.matrix_file.specs.Bytes.{tab}
+use Rattle.file_form.proofs.Text.PartsFrom.{next-within}
+use Rattle.file_form.specs.Bytes.{tab}
 use Rattle.matrix_file.proofs.Lists.CodesWritten.{none-written, below, formed, one-more, all-written, CodesWritten}
 use Rattle.matrix_file.proofs.writing.write_codes.Statement.{statement}
 use Rattle.matrix_file.proofs.writing.write_codes.Tie as tie

@@ -7,7 +7,7 @@ use lib.ListN.{length}
 use Rattle.matrix_file.proofs.Lists.LinesWalk.{RowFormed, line-formed, line-ended}
 use Rattle.matrix_file.proofs.Lists.WrittenLines.{codes-formed, codes-few, codes-said, part-room}
 use Rattle.matrix_file.proofs.Lists.WrittenLines.{ItemsWritten, items-start, items-next, items-all}
-use Rattle.matrix_file.specs.Rows.{codesIn}
+use Rattle.file_form.specs.Rows.{codesIn}
 use Rattle.matrix.specs.Shape.{columns}
 use Rattle.matrix_file.proofs.writing.write_matrix.Statement.{statement}
 use Rattle.matrix_file.proofs.writing.write_matrix.Tie as tie

@@ -5,7 +5,7 @@ use Prim.Native.Nat.{_-_}
 use native.Mathlib.Omega.{arith}
 use borrow.Author.Needs.{needs}
 use Rattle.lists.proofs.Over.{over-nothing}
-use Rattle.matrix_file.specs.Job.{nameSize}
+use Rattle.file_form.specs.Job.{nameSize}
 use Rattle.matrix_file.proofs.Lists.NameWritten.{Padded, one-more, all-written}
 use Rattle.matrix_file.proofs.writing.write_name.Statement.{statement}
 use Rattle.matrix_file.proofs.writing.write_name.Tie as tie

@@ -6,8 +6,8 @@ use native.Mathlib.Omega.{arith}
 use borrow.Author.Needs.{needs}
 use lib.ListN.{length}
 use Rattle.matrix_file.proofs.Lists.WrittenLines.{name-said, name-short, part-room, ItemsWritten, items-start, items-next, items-all}
-use Rattle.matrix_file.specs.Written.{padded}
-use Rattle.matrix_file.specs.Job.{nameSize}
+use Rattle.file_form.specs.Written.{padded}
+use Rattle.file_form.specs.Job.{nameSize}
 use Rattle.matrix_file.proofs.Lists.LinesWalk.{RowFormed, line-formed, line-ended}
 use Rattle.matrix_file.specs.Walk.{paddedIn}
 use Rattle.matrix_file.proofs.writing.write_names.Statement.{statement}

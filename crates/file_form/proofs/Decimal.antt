@@ -1,0 +1,3 @@
+-- Whole numbers in decimal.
+pub mod Digits
+pub mod Codes

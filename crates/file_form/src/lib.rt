@@ -1,0 +1,4 @@
+// The form of a matrix file.
+
+// What the header of a file says.
+pub mod header;
