@@ -1,17 +1,14 @@
 -- The branching that a read of an `F` file hands back can be lent as it is: its index is that of the file's own branching.
 use mathlib.Core.Path.{_≡_, sym, ap, _∙_, subst}
-use mathlib.Core.Bool.{true}
 use mathlib.Core.List.{List}
 use Prim.Native.Nat.{ℕ}
 use borrow.Author.Tests.{eq-eqb}
 use lib.ListN.{length}
-use Rattle.matrix.specs.NodeRows.{rowsOf}
 use Rattle.matrix.specs.Outcomes.{value}
 use Rattle.matrix.specs.Questions.{askMatrix}
 use Rattle.matrix.specs.declared.refusal.Asked.the-variants.{Passed}
 use Rattle.matrix.proofs.Passing.{matrix-passes}
 use Rattle.file_form.specs.Job.{Job}
-use Rattle.file_form.specs.Header.{headerOf}
 use Rattle.file_form.specs.Reading.{readAnswer}
 use Rattle.matrix_file.specs.Report.{ReadDone}
 use Rattle.file_form.specs.Written.{LentLists, jobWritten}

@@ -14,9 +14,8 @@ use Rattle.matrix.specs.declared.refusal.Refusal.the-variants.{ListSize}
 use Rattle.matrix.specs.declared.refusal.Asked.{Asked}
 use Rattle.matrix.specs.declared.refusal.Asked.the-variants.{Passed, Refused}
 use Rattle.difference.specs.Rows.{difference, nodeDifference, weighing}
-use Rattle.file_form.specs.Reading.{jobIn}
-use Rattle.file_form.specs.Written.{LentLists, jobWritten}
-use Rattle.matrix_file.specs.Report.{withHeader, readOutcome}
+use Rattle.file_form.specs.Written.{LentLists}
+use Rattle.matrix_file.specs.Report.{withHeader, readOutcome, listsAfter}
 use Rattle.prim.specs.Network.{network, networkLength}
 use Rattle.branching.specs.LentNumbers.{lentNumbers, recordsIn}
 use Rattle.wagner.specs.declared.order.Order.{Order}
@@ -51,7 +50,7 @@ pub record ListExported (file old new : List ℕ) (r : ℕ) : Type 0 where
 -- a read answers what the file brings; what an accepted file says is then written into the lent lists, and on a refusal they are as before
 pub record ReadExported (file : List ℕ) (old new : LentLists) (r : FileRead) : Type 0 where
   pub answers : r ≡ fileRead (withHeader (readOutcome file old))
-  pub lists : new ≡ afterwards (readOutcome file old) (jobWritten (jobIn file) old) old
+  pub lists : new ≡ listsAfter file old
 
 -- the length of the Prim Network by the weighted difference, or the refusal
 unfoldable pub networkExported : List ℤ → List ℕ → ℕ → ℕ → Measured

@@ -215,7 +215,7 @@ counted =
     ∷ ("W\t1\t1\nV\t1\nA\t0\n\n", refused 11 4)
     ∷ []
 
--- two characters of three taxa `A`, `B` and `C`, with the branching in which `C` is nearest to row 1
+-- one character of three taxa `A`, `B` and `C`, with their only branching
 ownJob : Job
 ownJob =
     record {
@@ -285,7 +285,7 @@ ownLines =
     ∷ []
 
 -- files that begin with `F`: three fields, and a fourth is 3 even if it is a word for the order; one taxon has no `C` line; a `V` line is
--- allowed, and counted; two taxa have one; a `W` file has none
+-- allowed, and counted; two taxa have one; a ring with the right number of descendants everywhere is 14; a `W` file has none
 ownFiles : List (String × Outcome Job)
 ownFiles =
     ("F\t1\t1\nA\t0\n", own-taxon false 1)
@@ -299,6 +299,7 @@ ownFiles =
     ∷ ("F\t1\t1\nV\t0\nA\t0\n", refused 16 2)
     ∷ ("F\t1\t1\nA\t0\nC\t2\t1\n", refused 11 3)
     ∷ ("F\t2\t1\nA\t0\nB\t1\nC\t2\t2\n", refused 14 0)
+    ∷ ("F\t4\t1\nA\t0\nB\t0\nC\t0\nD\t0\nC\t2\t1\nC\t3\t5\nC\t4\t6\nC\t5\t6\nC\t6\t5\n", refused 14 0)
     ∷ ("F\t2\t1\nV\t1\nA\t0\nB\t1\nC\t3\t1\n", refused 17 5)
     ∷ ("F\t2\t1\nA\t0\nB\tx\nC\t2\t2\n", refused 9 3)
     ∷ ("W\t2\t1\nA\t0\nB\t1\nC\t2\t1\n", refused 11 4)

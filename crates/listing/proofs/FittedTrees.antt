@@ -1,5 +1,5 @@
 -- What is found of a tree by a lent matrix, by the promises of the calls, and that the text put for it is that of its blocks.
-use mathlib.Core.Path.{_≡_, refl, sym, ap, ap₂, _∙_}
+use mathlib.Core.Path.{_≡_, ap, ap₂, _∙_}
 use mathlib.Core.Bool.{true, false}
 use mathlib.Core.List.{List, _++_, append-assoc}
 use Prim.Native.Nat.{ℕ}
@@ -29,7 +29,7 @@ use Rattle.lines.specs.Names.{namesIn}
 use Rattle.lines.specs.Kinds.{totalLine, indexLine, branchLine}
 use Rattle.listing.specs.declared.job.FittedTree.{FittedTree}
 use Rattle.lines.specs.Lines.{joined}
-use Rattle.listing.specs.Handed.{HoldsNames, HoldsStates, branchTextAt, branchTexts, fittedTexts, stateTexts}
+use Rattle.listing.specs.Handed.{HoldsNames, branchTextAt, branchTexts, fittedTexts}
 use Rattle.listing.specs.Found.{StateLists, FittedOf, treeTexts}
 use Rattle.listing.proofs.Joined.{flatMap-same}
 use Rattle.listing.proofs.Parts.{treeLines, htuLines, treeTotal, treeIndex, treeText}

@@ -1,10 +1,9 @@
 -- The claim about the three rivals, for the numbers that are printed: one theorem to hold beside the output of the program.
 use mathlib.Core.Path.{_≡_, refl, sym, ap, _∙_}
 use mathlib.Core.Bool.{true}
-use mathlib.Core.List.{List, [], _∷_, _++_, map, flatMap, append-nil, append-assoc}
-use Prim.Native.Nat.{ℕ, _+_, _*_, _-_, _≤_, _<_}
+use mathlib.Core.List.{List, [], _∷_, _++_, flatMap, append-nil, append-assoc}
+use Prim.Native.Nat.{ℕ, _+_, _≤_}
 use native.Mathlib.Omega.{arith}
-use lib.IntN.{ℤ}
 use Rattle.matrix.specs.Shape.{lastNode}
 use Rattle.matrix.specs.Outcomes.{value}
 use Rattle.file_form.specs.Job.{Job}
@@ -27,7 +26,7 @@ use Rattle.listing.specs.Meant.{orderMeant, measureMeant}
 use Rattle.listing.specs.Blocks.{fittedLine, fittedLines, rangeLine, rangeLines}
 use Rattle.listing.specs.Listing.{primBlock, wagnerBlock, fittedBlock, indexBlock, rangeBlock, treeBlocks, blocksFor, blocks, listing}
 use Rattle.listing.specs.Listing.{printed, output}
-use Rattle.listing.specs.InPrint.{PrintedBuild, PrintedTree, buildLines, treeLines, BuildLeast, TreeLeast, NoRivalInPrint, OwnInPrint}
+use Rattle.listing.specs.InPrint.{PrintedBuild, PrintedTree, linesOfBuild, linesOfTree, BuildLeast, TreeLeast, NoRivalInPrint, OwnInPrint}
 use Rattle.listing.proofs.Parts.{linksOf, builtOf, primLines, wagnerLines, primTotal, wagnerTotal, indexOf}
 use Rattle.listing.proofs.Parts as Parts
 use Rattle.listing.proofs.Totals.{wagner-total}
@@ -67,8 +66,8 @@ unfolding flatMap
 block-lines a x others = append-assoc a (x ∷ []) (linesOf others)
 
 -- the lines of a tree print its numbers
-tree-listed : (job : Job) (tree : List ℕ) → linesOf (treeBlocks (measureMeant job) job tree) ≡ treeLines job (treeNumbers job tree)
-unfolding treeBlocks fittedBlock indexBlock rangeBlock fittedLines rangeLines fittedLine rangeLine treeLines flatMap
+tree-listed : (job : Job) (tree : List ℕ) → linesOf (treeBlocks (measureMeant job) job tree) ≡ linesOfTree job (treeNumbers job tree)
+unfolding treeBlocks fittedBlock indexBlock rangeBlock fittedLines rangeLines fittedLine rangeLine linesOfTree flatMap
 tree-listed job tree =
     block-lines (Parts.treeLines (measureMeant job) job tree) (Parts.treeTotal (measureMeant job) job tree)
     (indexBlock (measureMeant job) job tree ∷ rangeBlock job tree ∷ [])
@@ -80,11 +79,11 @@ tree-listed job tree =
 
 -- the listing of a `W` job prints its network, its build, and the tree built
 built-listed : (job : Job) → job .kind ≡ Wagner
-    → listing (measureMeant job) job ≡ buildLines job (buildNumbers job) ++ treeLines job (treeNumbers job (builtOf (measureMeant job) job .tree))
-unfolding listing blocks blocksFor primBlock wagnerBlock buildLines
+    → listing (measureMeant job) job ≡ linesOfBuild job (buildNumbers job) ++ linesOfTree job (treeNumbers job (builtOf (measureMeant job) job .tree))
+unfolding listing blocks blocksFor primBlock wagnerBlock linesOfBuild
 built-listed job kind =
     let measure = measureMeant job in
-    let rest = treeLines job (treeNumbers job (builtOf measure job .tree)) in
+    let rest = linesOfTree job (treeNumbers job (builtOf measure job .tree)) in
     ap (λ k. linesOf (blocksFor k measure job)) kind
     ∙ block-lines (primLines measure job) (primTotal measure job) _
     ∙ ap (λ others. primLines measure job ++ (primTotal measure job ∷ others))
@@ -97,7 +96,7 @@ built-listed job kind =
     two-blocks a b x y rest = simp append-assoc
 
 -- the listing of an `F` job prints its own branching
-own-listed : (job : Job) → job .kind ≡ Own → listing (measureMeant job) job ≡ treeLines job (treeNumbers job (treeWith (job .ancestors)))
+own-listed : (job : Job) → job .kind ≡ Own → listing (measureMeant job) job ≡ linesOfTree job (treeNumbers job (treeWith (job .ancestors)))
 unfolding listing blocks blocksFor
 own-listed job kind = ap (λ k. linesOf (blocksFor k (measureMeant job) job)) kind ∙ tree-listed job (treeWith (job .ancestors))
 

@@ -24,7 +24,7 @@ use Rattle.listing.specs.Meant.{orderMeant}
 use Rattle.listing.specs.declared.job.FittedTree.{FittedTree}
 use Rattle.listing.specs.declared.job.Results.{Results}
 use Rattle.listing.specs.Listing.{listing}
-use Rattle.listing.specs.Found.{FittedOf, ResultsOf, treeTexts, resultTexts, heldJob, HoldsJob, ListsJob}
+use Rattle.listing.specs.Found.{FittedOf, ResultsOf, treeTexts, resultTexts, heldJob, ListsJob}
 use Rattle.listing.proofs.Parts.{own-text}
 use Rattle.listing.proofs.FittedTrees.{tree-put}
 use Rattle.listing.proofs.FoundResults.{results-listed}

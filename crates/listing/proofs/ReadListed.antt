@@ -1,5 +1,5 @@
 -- What a read into lists of full size tells of what is printed: the listing of the job that the lists then hold, or the line of the refusal.
-use mathlib.Core.Path.{_≡_, refl, sym, ap, _∙_, subst, subst⁻¹}
+use mathlib.Core.Path.{_≡_, sym, ap, _∙_, subst, subst⁻¹}
 use mathlib.Core.Bool.{true}
 use mathlib.Core.List.{List}
 use Prim.Native.Nat.{ℕ}
@@ -12,7 +12,6 @@ use Rattle.matrix.specs.Questions.{LentMatrix, LentWeights}
 use Rattle.matrix.specs.Refusals.{refusalNumber}
 use Rattle.matrix.specs.Outcomes.{value, refused}
 use Rattle.matrix.specs.declared.refusal.Refusal.{Refusal}
-use Rattle.file_form.specs.Job.{Job}
 use Rattle.file_form.specs.Header.{headerOf}
 use Rattle.file_form.specs.Reading.{readAnswer}
 use Rattle.matrix_file.specs.Report.{readSays, readOutcome, ReadDone}

@@ -55,14 +55,14 @@ pub record PrintedTree : Type 0 where
   pub chosen : ℕ → ℕ → ℤ
 
 -- the lines that print the numbers of network and build for a job
-unfoldable pub buildLines : Job → PrintedBuild → List (List ℕ)
-buildLines job x =
+unfoldable pub linesOfBuild : Job → PrintedBuild → List (List ℕ)
+linesOfBuild job x =
     map (primLine (job .n) (job .names)) (x .links)
     ++ (totalLine "p" (x .p) ∷ map (wagnerLine (job .n) (job .names)) (x .built .placements) ++ (totalLine "w" (x .w) ∷ []))
 
 -- the lines that print the numbers of a fitted tree
-unfoldable pub treeLines : Job → PrintedTree → List (List ℕ)
-treeLines job x =
+unfoldable pub linesOfTree : Job → PrintedTree → List (List ℕ)
+linesOfTree job x =
     map (λ v. branchLine (job .n) (job .names) v (ancestor (x .tree) v) (x .lengths v) (x .marks v)) (otherNodes (job .n))
     ++ (totalLine "t" (x .t)
     ∷ indexLine (x .c)
@@ -104,7 +104,7 @@ pub record TreeLeast (job : Job) (printed : PrintedTree) : Type 0 where
 pub record NoRivalInPrint (file : List ℕ) (job : Job) : Type 0 where
   pub built : PrintedBuild
   pub tree : PrintedTree
-  pub lines : output file ≡ joined (buildLines job built ++ treeLines job tree)
+  pub lines : output file ≡ joined (linesOfBuild job built ++ linesOfTree job tree)
   pub same : tree .tree ≡ built .built .tree
   pub build-least : BuildLeast job built
   pub tree-least : TreeLeast job tree
@@ -112,6 +112,6 @@ pub record NoRivalInPrint (file : List ℕ) (job : Job) : Type 0 where
 -- that of an `F` file prints the numbers of the file's own branching, and nothing else: rivals over inner states are measured on it
 pub record OwnInPrint (file : List ℕ) (job : Job) : Type 0 where
   pub tree : PrintedTree
-  pub lines : output file ≡ joined (treeLines job tree)
+  pub lines : output file ≡ joined (linesOfTree job tree)
   pub own : tree .tree ≡ treeWith (job .ancestors)
   pub tree-least : TreeLeast job tree

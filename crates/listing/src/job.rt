@@ -105,7 +105,9 @@ fn put_tree(
     chosen: &[i32],
 ) -> usize
     requires { ⌜ SizesWithin n m × StateLists (now low) (now high) (now chosen) ⌝ }
-    ensures { λ r. ⌜ Put (treeTexts n (namesIn n (now (names .entry))) m tree fitted (now (low .entry)) (now (high .entry)) (now (chosen .entry))) (now (out .entry)) at (now (out .exit)) r ⌝ }
+    ensures { λ r. ⌜ Put
+        (treeTexts n (namesIn n (now (names .entry))) m tree fitted (now (low .entry)) (now (high .entry)) (now (chosen .entry)))
+        (now (out .entry)) at (now (out .exit)) r ⌝ }
 {
     let fit = fitted.fit;
     let index = fitted.index;
@@ -126,7 +128,9 @@ fn put_results(
     chosen: &[i32],
 ) -> usize
     requires { ⌜ Listable n m results × StateLists (now low) (now high) (now chosen) ⌝ }
-    ensures { λ r. ⌜ Put (resultTexts n (namesIn n (now (names .entry))) m results (now (low .entry)) (now (high .entry)) (now (chosen .entry))) (now (out .entry)) 0 (now (out .exit)) r ⌝ }
+    ensures { λ r. ⌜ Put
+        (resultTexts n (namesIn n (now (names .entry))) m results (now (low .entry)) (now (high .entry)) (now (chosen .entry)))
+        (now (out .entry)) 0 (now (out .exit)) r ⌝ }
 {
     let network = results.network;
     let built = results.built;
@@ -150,7 +154,8 @@ fn fitted_of(
 ) -> FittedTree
     requires { ⌜ LentMatrix (now matrix) n m × LentWeights (now weights) m × (branchingWithin n (ancestors tree) ≡ true) ⌝ }
     requires { ⌜ StateLists (now low) (now high) (now chosen) ⌝ }
-    ensures { λ r. ⌜ FittedOf (weighing (now (weights .entry))) (rowsOf (now (matrix .entry)) m n) n m (ancestors tree) (now (low .exit)) (now (high .exit)) (now (chosen .exit)) r ⌝ }
+    ensures { λ r. ⌜ FittedOf (weighing (now (weights .entry))) (rowsOf (now (matrix .entry)) m n) n m (ancestors tree)
+        (now (low .exit)) (now (high .exit)) (now (chosen .exit)) r ⌝ }
 {
     let floor = floor_of(matrix, weights, n, m);
     let fit = fit_tree(matrix, weights, n, m, tree, low, high, chosen);
@@ -201,7 +206,8 @@ fn put_built(
 ) -> usize
     requires { ⌜ LentMatrix (now matrix) (header .n) (header .m) × LentWeights (now weights) (header .m) ⌝ }
     requires { ⌜ (header .kind ≡ Kind.Wagner) × StateLists (now low) (now high) (now chosen) ⌝ }
-    ensures { λ r. ⌜ ListsJob header (lent (now (matrix .entry)) (now (weights .entry)) (now (names .entry)) []) (now (out .entry)) (now (out .exit)) r ⌝ }
+    ensures { λ r. ⌜ ListsJob header (lent (now (matrix .entry)) (now (weights .entry)) (now (names .entry)) [])
+        (now (out .entry)) (now (out .exit)) r ⌝ }
 {
     let n = header.n;
     let m = header.m;
@@ -225,7 +231,8 @@ fn put_own(
 ) -> usize
     requires { ⌜ LentMatrix (now matrix) (header .n) (header .m) × LentWeights (now weights) (header .m) ⌝ }
     requires { ⌜ (header .kind ≡ Kind.Own) × BranchingLent header (now branches) × StateLists (now low) (now high) (now chosen) ⌝ }
-    ensures { λ r. ⌜ ListsJob header (lent (now (matrix .entry)) (now (weights .entry)) (now (names .entry)) (now (branches .entry))) (now (out .entry)) (now (out .exit)) r ⌝ }
+    ensures { λ r. ⌜ ListsJob header (lent (now (matrix .entry)) (now (weights .entry)) (now (names .entry)) (now (branches .entry)))
+        (now (out .entry)) (now (out .exit)) r ⌝ }
 {
     let n = header.n;
     let m = header.m;
@@ -248,7 +255,8 @@ pub(crate) fn put_job(
 ) -> usize
     requires { ⌜ LentMatrix (now matrix) (header .n) (header .m) × LentWeights (now weights) (header .m) ⌝ }
     requires { ⌜ BranchingLent header (now branches) × StateLists (now low) (now high) (now chosen) ⌝ }
-    ensures { λ r. ⌜ ListsJob header (lent (now (matrix .entry)) (now (weights .entry)) (now (names .entry)) (now (branches .entry))) (now (out .entry)) (now (out .exit)) r ⌝ }
+    ensures { λ r. ⌜ ListsJob header (lent (now (matrix .entry)) (now (weights .entry)) (now (names .entry)) (now (branches .entry)))
+        (now (out .entry)) (now (out .exit)) r ⌝ }
 {
     let kind = header.kind;
     match kind {

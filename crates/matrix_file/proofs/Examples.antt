@@ -1,19 +1,24 @@
--- What an answer says; and reads into lent lists.
+-- What an answer says; and reads into lent lists, with what these then hold.
 use mathlib.Core.Path.{_≡_, refl}
 use mathlib.Core.Bool.{true}
-use mathlib.Core.List.{List, [], _∷_, map}
+use mathlib.Core.List.{List, [], _∷_, map, zipWith}
 use Prim.Native.Nat.{ℕ}
+use Prim.Native.String.{String}
 use lib.IntN.{pos}
 use lib.ListN.{replicate}
+use Rattle.lists.specs.Numbers.{numbers}
+use Rattle.lists.specs.Over.{over, stripes}
 use Rattle.matrix.specs.Outcomes.{Outcome, value, refused}
 use Rattle.matrix.specs.declared.refusal.Refusal.the-variants.{NameTaken}
 use Rattle.file_form.specs.declared.header.Header.{Header}
 use Rattle.file_form.specs.declared.header.Kind.the-variants.{Wagner}
 use Rattle.file_form.specs.declared.header.OrderWord.the-variants.{Unsaid, Closest}
+use Rattle.branching.specs.LentNumbers.{recordsFor}
 use Rattle.file_form.specs.Text.{bytes}
-use Rattle.file_form.specs.Written.{lent}
+use Rattle.file_form.specs.Reading.{jobIn}
+use Rattle.file_form.specs.Written.{LentLists, lent}
 use Rattle.file_form.proofs.Examples.{read}
-use Rattle.matrix_file.specs.Report.{readSays, withHeader, fullSize, askSize, readOutcome}
+use Rattle.matrix_file.specs.Report.{readSays, withHeader, fullSize, askSize, readOutcome, listsAfter}
 use Rattle.matrix_file.specs.declared.answer.Read.the-variants.{Accepted, Refused}
 
 -- what an answer says: a header, and a refusal with its line
@@ -51,3 +56,28 @@ wrong-sizes : (file : List ℕ)
     ≡ replicate 8 (refused 12 0)
 unfolding readInto
 wrong-sizes file = refl
+
+-- lent lists of full size that hold sevens
+sevens : LentLists
+sevens = lent (replicate 16128 (pos 7)) (replicate 128 7) (replicate 1024 7) (replicate 375 7)
+
+-- what they hold after a read of this text
+after : String → LentLists
+unfolding read readOutcome askSize fullSize listsAfter jobIn recordsFor stripes over
+after text = listsAfter (bytes text) sevens
+
+-- the records of an `F` file: node, ancestor and 0, and behind them all as before
+records-handed : after "F\t3\t1\nA\t0\nB\t2\nC\t5\nC\t2\t4\nC\t3\t4\nC\t4\t1\n" .branches
+    ≡ 2 ∷ 4 ∷ 0 ∷ 3 ∷ 4 ∷ 0 ∷ 4 ∷ 1 ∷ 0 ∷ replicate 366 7
+unfolding after sevens bytes zipWith numbers
+records-handed = refl
+
+-- a `W` file hands none
+none-handed : after "W\t2\t1\nA\t0\nB\t2\n" .branches ≡ replicate 375 7
+unfolding after sevens bytes zipWith numbers
+none-handed = refl
+
+-- and a file that is refused by 14 leaves all lists as they were
+kept-by-fourteen : after "F\t2\t1\nA\t0\nB\t1\nC\t2\t2\n" ≡ sevens
+unfolding after sevens bytes
+kept-by-fourteen = refl

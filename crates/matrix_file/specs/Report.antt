@@ -43,7 +43,11 @@ askSize lists =
 unfoldable pub readOutcome : List ℕ → LentLists → Outcome Job
 readOutcome file lists = onLine 0 (askSize lists) (readAnswer file)
 
--- a read says its outcome; what an accepted file says is then written into the lent lists, and a refusal leaves them as before
+-- what the lent lists then hold: what an accepted file says is written over them, and a refusal leaves them as before
+unfoldable pub listsAfter : List ℕ → LentLists → LentLists
+listsAfter file old = afterwards (readOutcome file old) (jobWritten (jobIn file) old) old
+
+-- a read says its outcome, and leaves the lists so
 pub record ReadDone (file : List ℕ) (old new : LentLists) (r : Read) : Type 0 where
   pub says : readSays r ≡ withHeader (readOutcome file old)
-  pub lists : new ≡ afterwards (readOutcome file old) (jobWritten (jobIn file) old) old
+  pub lists : new ≡ listsAfter file old

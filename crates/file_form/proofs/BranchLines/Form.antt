@@ -51,7 +51,11 @@ module _ (line : List ℕ) (v count : ℕ) (e : count + 1 ≡ length (partsAt ta
 
       -- the third is no number
       pub bad-third : not fine ≡ true → false ≡ branchForm v (fieldsOf line)
-      bad-third u = sym (numbers-decide ∙ ap (λ b. (numberForm (getD (fieldsOf line) 1 []) && eqb (numberOf (getD (fieldsOf line) 1 [])) v) && b) (not-true fine u) ∙ and-false (numberForm (getD (fieldsOf line) 1 []) && eqb (numberOf (getD (fieldsOf line) 1 [])) v))
+      bad-third u =
+          sym
+          (numbers-decide
+          ∙ ap (λ b. (numberForm (getD (fieldsOf line) 1 []) && eqb (numberOf (getD (fieldsOf line) 1 [])) v) && b) (not-true fine u)
+          ∙ and-false (numberForm (getD (fieldsOf line) 1 []) && eqb (numberOf (getD (fieldsOf line) 1 [])) v))
 
       -- it is: the second field
       module _ (u : not fine ≡ false) (second : List ℕ) (k : second ≡ getD (fieldsOf line) 1 []) (good : Bool) (q : good ≡ numberForm second) where

@@ -11,7 +11,7 @@ use Rattle.matrix.specs.Outcomes.{ask, Outcome, value}
 use Rattle.matrix.specs.declared.refusal.Refusal.the-variants.{BranchForm}
 use Rattle.matrix.specs.declared.refusal.Asked.the-variants.{Passed}
 use Rattle.matrix.proofs.Passing.{ask-passed}
-use Rattle.file_form.specs.Bytes.{tab, wordC, joinedBy}
+use Rattle.file_form.specs.Bytes.{tab, joinedBy}
 use Rattle.file_form.specs.Decimal.{digitsOf}
 use Rattle.file_form.specs.Lines.{fieldsOf}
 use Rattle.file_form.specs.Branches.{branchForm, ancestorIn, branchText, askBranches}

@@ -2,7 +2,7 @@
 use mathlib.Core.Path.{_≡_, refl, sym, ap, ap₂, _∙_}
 use mathlib.Core.List.{List, [], _∷_, _++_, map, zipWith, append-assoc}
 use mathlib.Core.Bool.{Bool, true, false, false≢true}
-use Prim.Native.Nat.{ℕ, suc, _+_, _≤_}
+use Prim.Native.Nat.{ℕ, _+_, _≤_}
 use native.Mathlib.Omega.{arith}
 use lib.IntN.{ℤ}
 use lib.ListN.{length, length-append, take, drop, replicate}
@@ -196,7 +196,8 @@ module _ (job : Job) (within : JobWithinLimits job) where
   rest-passes line =
       let follow = askEnd (onLine 0 (askTree (job .kind) (job .n) (job .ancestors)) (value job)) in
       ap (λ count. askBranches line 2 count rest follow) (sym (within .branch-count))
-      ∙ branches-pass line 2 (job .ancestors) [] [] follow (omega (arith, within .branch-count, count-most (job .kind) (job .n), limits-high (job .n) (job .m) (within .limits) .0)) nodes
+      ∙ branches-pass line 2 (job .ancestors) [] [] follow
+      (omega (arith, within .branch-count, count-most (job .kind) (job .n), limits-high (job .n) (job .m) (within .limits) .0)) nodes
       ∙ rw (within .branching-said)
 
   -- what stands behind the header passes its questions

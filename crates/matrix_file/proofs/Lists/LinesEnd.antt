@@ -5,7 +5,6 @@ use Prim.Native.Nat.{ℕ, _+_, _≤_}
 use native.Mathlib.Omega.{arith}
 use lib.ListN.{drop}
 use Rattle.matrix.specs.declared.refusal.Refusal.{Refusal}
-use Rattle.matrix_file.specs.declared.answer.LinesAnswer.{LinesAnswer}
 use Rattle.matrix_file.specs.declared.answer.LinesAnswer.the-variants.{Ended, Refused}
 use Rattle.file_form.specs.Lines.{linesOf}
 use Rattle.matrix_file.specs.Walk.{LinesPassed}

@@ -1,12 +1,12 @@
 -- What the lent lists hold once a job has been written into them: its rows, its weights and its names, and every other code and byte as
 -- before. Such a matrix with such weights passes the questions that are put to lent ones.
 use mathlib.Core.Path.{_≡_, refl, sym, ap, ap₂, _∙_}
-use mathlib.Core.List.{List, [], _∷_, map}
+use mathlib.Core.List.{List, [], _∷_, map, zipWith}
 use mathlib.Core.Bool.{Bool, true, false}
 use Prim.Native.Nat.{ℕ, zero, suc, _+_, _-_, _*_, _≤_, _<_}
 use native.Mathlib.Omega.{arith}
 use borrow.Author.Tests.{eqb-true, ltb-true, ltb-false}
-use lib.Dec.{eqb, ltb}
+use lib.Dec.{ltb}
 use lib.IntN.{ℤ, pos}
 use lib.ListN.{length, getD, take, drop, length-map, List·getD-eq-default}
 use Rattle.lists.proofs.Both.{and-left, and-right}
@@ -17,7 +17,11 @@ use Rattle.lists.proofs.Stripes.{Narrow, length-stripes, stripes-item, stripes-
 use Rattle.matrix.specs.declared.refusal.Refusal.the-variants.{ListSize}
 use Rattle.matrix.specs.declared.refusal.Asked.the-variants.{Passed}
 use Rattle.matrix.specs.Outcomes.{value, afterwards}
-use Rattle.branching.specs.LentNumbers.{lentNumbers}
+use Rattle.branching.specs.LentNumbers.{lentNumbers, recordsFor, recordsWritten}
+use Rattle.lists.specs.Over.{stripes}
+use Rattle.lists.specs.Numbers.{numbers}
+use Rattle.file_form.specs.Branches.{branchCount}
+use Rattle.file_form.specs.declared.header.Kind.the-variants.{Wagner}
 use Rattle.file_form.specs.declared.header.Header.{Header}
 use Rattle.matrix.specs.Shape.{columns, matrixSize, row, isWeight}
 use Rattle.lists.specs.Tests.{every}
@@ -26,7 +30,7 @@ use Rattle.matrix_file.specs.declared.answer.Read.{Read}
 use Rattle.matrix_file.specs.declared.answer.Read.the-variants.{Accepted}
 use Rattle.file_form.specs.Job.{Job, JobWithinLimits, hasCodes, nameForm, nameSize}
 use Rattle.file_form.specs.Reading.{readAnswer}
-use Rattle.matrix_file.specs.Report.{readSays, askSize, readOutcome, ReadDone}
+use Rattle.matrix_file.specs.Report.{readSays, askSize, readOutcome, listsAfter, ReadDone}
 use Rattle.file_form.specs.Header.{headerOf}
 use Rattle.file_form.specs.Written.{namesSize, padded, matrixWritten, weightsWritten, namesWritten, LentLists, jobWritten}
 use Rattle.matrix.proofs.Passing.{ask-passed, oneTo-true}
@@ -192,7 +196,7 @@ pub record Accepting (file : List ℕ) (old new : LentLists) (header : Header) :
 -- an accepted read tells so
 pub read-accepting : (file : List ℕ) (old new : LentLists) (r : Read) (header : Header) → ReadDone file old new r → r ≡ Accepted header
     → Accepting file old new header
-unfolding readOutcome askSize
+unfolding readOutcome askSize listsAfter
 read-accepting file old new r header done e =
     let found = then-passed (readOutcome file old) (λ job. value (headerOf job)) header (sym (done .says) ∙ ap readSays e) in
     let size = line-passed 0 (askSize old) (readAnswer file) (found .0) (found .1) in
@@ -206,3 +210,18 @@ read-accepting file old new r header done e =
       written =
           done .lists ∙ ap₂ (λ x job. afterwards x (jobWritten job old) old) (found .1) (accepted-job file (found .0) (size .1));
     }
+
+-- a `W` file leaves the lent records as they were
+pub wagner-keeps : (file : List ℕ) (old new : LentLists) (r : Read) (header : Header) → ReadDone file old new r → r ≡ Accepted header
+    → header .kind ≡ Wagner → new .branches ≡ old .branches
+unfolding recordsFor stripes zipWith numbers
+wagner-keeps file old new r header done e kind =
+    let told = read-accepting file old new r header done e in
+    let none : length (told .job .ancestors) ≡ 0 =
+    told .within .branch-count ∙ ap (λ said. branchCount (said .kind) (said .n)) (told .says) ∙ ap (λ k. branchCount k (header .n)) kind in
+    ap (λ (lists : LentLists). lists .branches) (told .written) ∙ by (told .job .ancestors) none
+  where
+    -- of no ancestors nothing is written
+    by : (above : List ℕ) → length above ≡ 0 → recordsWritten above (old .branches) ≡ old .branches
+    by [] e = refl
+    by (a ∷ above) e = absurd (omega arith)

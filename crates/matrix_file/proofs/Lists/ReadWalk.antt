@@ -27,7 +27,7 @@ use Rattle.file_form.specs.Rows.{nameIn, codesIn}
 use Rattle.branching.specs.LentNumbers.{lentNumbers, recordsFor}
 use Rattle.file_form.specs.Branches.{branchCount}
 use Rattle.file_form.specs.Reading.{readAnswer, jobIn}
-use Rattle.matrix_file.specs.Report.{readSays, withHeader, fullSize, askSize, readOutcome, ReadDone}
+use Rattle.matrix_file.specs.Report.{readSays, withHeader, fullSize, askSize, readOutcome, listsAfter, ReadDone}
 use Rattle.file_form.specs.Formed.{RowsFormed, BranchesFormed, recordIn}
 use Rattle.matrix_file.specs.Walk.{paddedIn}
 use Rattle.file_form.specs.Written.{namesSize, padded, LentLists, jobWritten}
@@ -73,6 +73,7 @@ module _ (file : List ℕ) (lists : LentLists) where
   -- a refusal, with lists as they were
   done : (answer : Read) (number line : ℕ) → readSays answer ≡ refused number line → readOutcome file lists ≡ refused number line
       → ReadDone file lists lists answer
+  unfolding listsAfter
   done answer number line a e =
       record {
         says = a ∙ sym (ap withHeader e);
@@ -101,6 +102,7 @@ module _ (file : List ℕ) (lists : LentLists) where
     -- it is accepted, and what it says is written
     pub read-written : (header : Header) → answer ≡ Accepted header → (new : LentLists) → new ≡ jobWritten (jobIn file) lists
         → ReadDone file lists new (Accepted header)
+    unfolding listsAfter
     read-written header e new w =
         let found = then-passed (readAnswer file) (λ job. value (headerOf job)) header (sym a ∙ ap readSays e) in
         let outcome : readOutcome file lists ≡ value (found .0) = full h ∙ found .1 in

@@ -1,5 +1,5 @@
 -- `listing::job::put_own` meets its contract: what is put for the file's own branching is the listing of an `F` file. Assumes nothing.
-use mathlib.Core.Path.{_∙_, ap, sym}
+use mathlib.Core.Path.{_∙_, ap}
 use borrow.Author.Needs.{needs}
 use Rattle.branching.specs.Branches.{lentBranching}
 use Rattle.branching.specs.Within.{branchingWithin}

@@ -1,5 +1,5 @@
 -- `matrix_file::branches::ask_branches` meets its contract. The loop's invariant: the lines that are left decide. Assumes nothing.
-use Prim.Native.Nat.{_+_, _-_, _≤_, _<_}
+use Prim.Native.Nat.{_+_, _-_, _≤_}
 use native.Mathlib.Omega.{arith}
 use borrow.Author.Needs.{needs}
 use lib.ListN.{length}

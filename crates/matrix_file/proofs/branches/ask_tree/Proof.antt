@@ -1,7 +1,4 @@
 -- `matrix_file::branches::ask_tree` meets its contract: the tree of the lines is tested. Assumes nothing.
-use mathlib.Core.Path.{ap, _∙_, sym}
-use native.Mathlib.Nat.{min-eq-left}
-use native.Mathlib.Omega.{arith}
 use borrow.Author.Needs.{needs}
 use Rattle.matrix_file.proofs.BranchLines.Tree.{count-own, tree-refused, tree-none, tree-passed}
 use Rattle.matrix_file.proofs.branches.ask_tree.Statement.{statement}

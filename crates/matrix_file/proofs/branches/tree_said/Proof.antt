@@ -1,5 +1,4 @@
 -- `matrix_file::branches::tree_said` meets its contract. The loop's invariant: the places of the lines passed are filled. Assumes nothing.
-use mathlib.Core.Path.{ap, _∙_}
 use Prim.Native.Nat.{_+_, _-_, _≤_}
 use native.Mathlib.Omega.{arith}
 use borrow.Author.Needs.{needs}

@@ -1,5 +1,5 @@
 -- `matrix_file::header::is_kind` meets its contract: one of the two words. Assumes nothing.
-use mathlib.Core.Path.{sym, _∙_}
+use mathlib.Core.Path.{sym}
 use borrow.Author.Needs.{needs}
 use Rattle.file_form.specs.Header.{isKind}
 use Rattle.matrix_file.proofs.header.is_kind.Statement.{statement}

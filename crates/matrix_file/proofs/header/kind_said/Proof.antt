@@ -1,5 +1,5 @@
 -- `matrix_file::header::kind_said` meets its contract: `F` says the one kind, any other word the other. Assumes nothing.
-use mathlib.Core.Path.{sym, _∙_}
+use mathlib.Core.Path.{sym}
 use borrow.Author.Needs.{needs}
 use Rattle.file_form.specs.Header.{kindSaid}
 use Rattle.matrix_file.proofs.header.kind_said.Statement.{statement}

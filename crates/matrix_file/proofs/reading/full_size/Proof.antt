@@ -1,11 +1,6 @@
 -- `matrix_file::reading::full_size` meets its contract: its tests are the definition's. Assumes nothing.
-use mathlib.Core.Path.{_≡_}
-use mathlib.Core.Bool.{false}
-use lib.Dec.{eqb}
 use borrow.Author.Tests.{eq-eqb, ne-eqb}
 use borrow.Author.Needs.{needs}
-use Rattle.matrix.specs.Shape.{columns}
-use Rattle.file_form.specs.Written.{namesSize}
 use Rattle.matrix_file.specs.Report.{fullSize}
 use Rattle.matrix_file.proofs.reading.full_size.Statement.{statement}
 use Rattle.matrix_file.proofs.reading.full_size.Tie as tie
