@@ -1,12 +1,10 @@
 -- Texts put one after another into a lent list.
 use mathlib.Core.Path.{_≡_, refl, sym, ap, _∙_}
-use mathlib.Core.Bool.{Bool, true, false}
 use mathlib.Core.List.{List, [], _∷_, _++_}
 use Prim.Native.Nat.{ℕ, _+_, _≤_, _<_}
 use native.Mathlib.Numerals.{add-one}
 use borrow.Author.Tests.{lt-ltb, le-ltb}
-use lib.Dec.{ltb}
-use lib.ListN.{length, set, length-set}
+use lib.ListN.{length, set}
 use Rattle.lines.specs.Put.{putByte, putText, Put}
 
 -- a text and one behind it
@@ -14,11 +12,6 @@ pub put-append : (xs ys : List ℕ) (state : List ℕ × ℕ) → putText (xs ++
 unfolding putText
 put-append [] ys state = refl
 put-append (x ∷ xs) ys state = put-append xs ys (putByte x state)
-
--- nothing
-pub put-nothing : (old : List ℕ) (at : ℕ) → Put [] old at old at
-unfolding putText
-put-nothing old at = record { is = refl }
 
 -- one text, and another behind it
 pub put-then : {xs ys old mid new : List ℕ} {at next last : ℕ} → Put xs old at mid next → Put ys mid next new last → Put (xs ++ ys) old at new last
@@ -60,22 +53,3 @@ left-put {text = text} {rest} {out} {next = next} l p =
 -- what is left, said in other words
 pub left-same : {whole old rest said out : List ℕ} {at next : ℕ} → rest ≡ said → Left whole old at rest out next → Left whole old at said out next
 left-same {out = out} {next = next} e l = record { is = ap (λ text. putText text (out, next)) (sym e) ∙ l .is }
-
--- the list keeps its length: a byte
-byte-size : (byte : ℕ) (state : List ℕ × ℕ) → length (putByte byte state .0) ≡ length (state .0)
-unfolding putByte
-byte-size byte (out, at) = by (ltb at (length out)) refl
-  where
-    by : (t : Bool) → ltb at (length out) ≡ t → length (putByte byte (out, at) .0) ≡ length out
-    by true e = rw (e, putByte) (length-set out at byte)
-    by false e = rw (e, putByte)
-
--- and a text
-text-size : (text : List ℕ) (state : List ℕ × ℕ) → length (putText text state .0) ≡ length (state .0)
-unfolding putText
-text-size [] state = refl
-text-size (byte ∷ bytes) state = text-size bytes (putByte byte state) ∙ byte-size byte state
-
--- whatever is put, the list keeps its length
-pub put-size : {text old new : List ℕ} {at next : ℕ} → Put text old at new next → length new ≡ length old
-put-size {text} {old} {at = at} p = ap (λ state. length (state .0)) (p .is) ∙ text-size text (old, at)

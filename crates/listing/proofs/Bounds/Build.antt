@@ -1,5 +1,5 @@
--- A build by the difference of rows: the nodes that its placements and its tree name are at most 2n, and each length added is at most
--- the largest difference of two rows.
+-- A build by the difference of rows: the nodes that its placements name are at most 2n, and each length added is at most the largest
+-- difference of two rows.
 use mathlib.Core.Path.{_≡_}
 use mathlib.Core.Logic.{⊎-elim}
 use mathlib.Core.Bool.{true}
@@ -117,21 +117,19 @@ module _ (weights : List ℕ) (weighed : every isWeight weights ≡ true) (n : �
 
   -- what comes out of a build is within these bounds
   pub record SmallBuilt (built : Built) : Type 0 where
-    pub ancestors : AncestorsWithin (2 * n) (built .tree)
     pub placements : (p : Placement) → List·Memᴰ p (built .placements) → Small n p
 
   -- so many placements in turn
   build-small : (order : Order) (count : ℕ) (tree : List ℕ) (rows : List (List ℤ)) → AncestorsWithin (2 * n) tree → AllNear rows
       → SmallBuilt (buildOn (difference weights) (nextBy (difference weights) order) n count tree rows)
   unfolding buildOn
-  build-small order zero tree rows inside near = record { ancestors = inside; placements = λ p m. absurd (List·Memᴰ·not-nil m) }
+  build-small order zero tree rows inside near = record { placements = λ p m. absurd (List·Memᴰ·not-nil m) }
   build-small order (suc count) tree rows inside near =
       let b = nextBy (difference weights) order n tree rows in
       let now = place-small tree rows inside near b (taxon-within (difference weights) order tree rows) in
       let rest = build-small order count (place (difference weights) n tree rows b .tree) (place (difference weights) n tree rows b .rows)
       (now .ancestors) (now .rows) in
       record {
-        ancestors = rest .ancestors;
         placements = λ p m. ⊎-elim (λ e. rw e (now .placement)) (rest .placements p) (List·Memᴰ·cases-cons m);
       }
 

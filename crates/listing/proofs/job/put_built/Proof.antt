@@ -9,10 +9,12 @@ order-meant-requires : tie.Need-order-meant-requires
 order-meant-requires c κs = search needs
 
 results-of-requires : tie.Need-results-of-requires
-results-of-requires c κs = (c .before .before .before .before .before .before .before .before .pre .0, c .before .before .before .before .before .before .before .before .pre .1 .1)
+results-of-requires c κs = let start = c .before .before .before .before .before .before .before .before in (start .pre .0, start .pre .1 .1)
 
 put-results-requires : tie.Need-put-results-requires
-put-results-requires c κs = (c .before .before .before .before .before .before .before .before .results-of .ensures .listable, c .before .before .before .before .before .before .before .before .results-of .ensures .fitted .full)
+put-results-requires c κs =
+    let found = c .before .before .before .before .before .before .before .before in
+    (found .results-of .ensures .listable, found .results-of .ensures .fitted .full)
 
 same-length : tie.Need-same-length
 same-length c = search needs

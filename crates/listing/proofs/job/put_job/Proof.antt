@@ -8,13 +8,19 @@ enum-told : tie.Need-enum-told
 enum-told c = search needs
 
 put-built-requires : tie.Need-put-built-requires
-put-built-requires c κs = (c .before .before .before .before .before .before .before .before .before .before .before .pre .0, (c .before .before .before .before .before .enum-told .given .1, c .before .before .before .before .before .before .before .before .before .before .before .pre .1 .1))
+put-built-requires c κs =
+    let told = c .before .before .before .before .before in
+    let start = told .before .before .before .before .before .before in
+    (start .pre .0, (told .enum-told .given .1, start .pre .1 .1))
 
 enum-told-2 : tie.Need-enum-told-2
 enum-told-2 c = search needs
 
 put-own-requires : tie.Need-put-own-requires
-put-own-requires c κs = (c .before .before .before .before .before .before .before .before .before .before .before .pre .0, (c .before .before .before .before .before .enum-told2 .given .1, c .before .before .before .before .before .before .before .before .before .before .before .pre .1 .0, c .before .before .before .before .before .before .before .before .before .before .before .pre .1 .1))
+put-own-requires c κs =
+    let told = c .before .before .before .before .before in
+    let start = told .before .before .before .before .before .before in
+    (start .pre .0, (told .enum-told2 .given .1, start .pre .1 .0, start .pre .1 .1))
 
 same-length : tie.Need-same-length
 same-length c = search needs
@@ -34,7 +40,8 @@ same-length-5 c = search needs
 returns : tie.Need-returns
 returns c =
     let put = c .before .before .before .before .before .before in
-    built-lists _ (c .before .before .before .before .before .before .before .before .before .before .before .before .enum-told .given .1) _ _ _ _ (put .put-built .ensures)
+    built-lists _ (c .before .before .before .before .before .before .before .before .before .before .before .before .enum-told .given .1) _
+    _ _ _ (put .put-built .ensures)
 
 same-length-6 : tie.Need-same-length-6
 same-length-6 c = search needs

@@ -24,13 +24,17 @@ fitted-of-requires c κs =
       (
         start .pre .0 .0,
         start .pre .0 .1,
-        ap (branchingWithin (start .args .header .n)) (c .before .before .before .tree-of .ensures) ∙ places-branching _ _ _ _ (start .pre .0 .0) one,
+        ap (branchingWithin (start .args .header .n)) (c .before .before .before .tree-of .ensures)
+            ∙ places-branching _ _ _ _ (start .pre .0 .0) one,
       ),
       start .pre .1 .2,
     )
 
 put-tree-requires : tie.Need-put-tree-requires
-put-tree-requires c κs = (lent-sizes _ _ _ (c .before .before .before .before .before .before .before .before .before .before .before .before .before .before .before .before .before .pre .0 .0), c .before .before .before .before .before .before .before .fitted-of .ensures .full)
+put-tree-requires c κs =
+    let found = c .before .before .before .before .before .before .before in
+    let start = found .before .before .before .before .before .before .before .before .before .before in
+    (lent-sizes _ _ _ (start .pre .0 .0), found .fitted-of .ensures .full)
 
 same-length : tie.Need-same-length
 same-length c = search needs

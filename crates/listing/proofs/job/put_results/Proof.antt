@@ -12,7 +12,7 @@ put-wagner-block-requires : tie.Need-put-wagner-block-requires
 put-wagner-block-requires c κs = c .before .before .before .before .before .before .before .before .before .before .before .pre .0 .placements
 
 put-tree-requires : tie.Need-put-tree-requires
-put-tree-requires c κs = (c .before .before .before .before .before .before .before .before .before .before .before .before .before .before .before .pre .0 .sizes, c .before .before .before .before .before .before .before .before .before .before .before .before .before .before .before .pre .1)
+put-tree-requires c κs = let start = c .before .before .before .before .before .before .before .before .before .before .before .before .before .before .before in (start .pre .0 .sizes, start .pre .1)
 
 same-length : tie.Need-same-length
 same-length c = search needs

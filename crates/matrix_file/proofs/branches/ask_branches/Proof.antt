@@ -39,7 +39,9 @@ add-t12 : tie.Need-add-t12 Inv-loop μ-loop
 add-t12 c = search needs
 
 returns : tie.Need-returns Inv-loop μ-loop
-returns c = branch-missing _ _ _ _ _ _ _ (c .before .before .before .before .loop .inv) (c .before .before .before .loop-test .taken) (c .before .before .rest-from .ensures) (c .before .first-part .ensures) (c .if1 .taken)
+returns c =
+    branch-missing _ _ _ _ _ _ _ (c .before .before .before .before .loop .inv) (c .before .before .before .loop-test .taken)
+    (c .before .before .rest-from .ensures) (c .before .first-part .ensures) (c .if1 .taken)
 
 add-branch-form : tie.Need-add-branch-form Inv-loop μ-loop
 add-branch-form c = search needs
@@ -53,7 +55,8 @@ add-t15 c = search needs
 returns-2 : tie.Need-returns-2 Inv-loop μ-loop
 returns-2 c =
     let found = c .before .before .before in
-    branch-refused _ _ _ _ _ _ _ (found .before .before .before .loop .inv) (found .before .before .loop-test .taken) (found .before .rest-from .ensures) (found .first-part .ensures)
+    branch-refused _ _ _ _ _ _ _ (found .before .before .before .loop .inv) (found .before .before .loop-test .taken)
+    (found .before .rest-from .ensures) (found .first-part .ensures)
     (c .before .before .if1 .left) _ (c .before .branch-form .ensures) (c .if2 .taken)
 
 add-at : tie.Need-add-at Inv-loop μ-loop
@@ -68,7 +71,8 @@ loop-less c = omega (arith, c .before .before .before .before .before .loop-test
 loop-again : tie.Need-loop-again Inv-loop μ-loop
 loop-again c =
     let found = c .before .before .before in
-    branch-passed _ _ _ _ _ _ _ (found .before .before .before .loop .inv) (found .before .before .loop-test .taken) (found .before .rest-from .ensures) (found .first-part .ensures)
+    branch-passed _ _ _ _ _ _ _ (found .before .before .before .loop .inv) (found .before .before .loop-test .taken)
+    (found .before .rest-from .ensures) (found .first-part .ensures)
     (c .before .before .if1 .left) _ (c .before .branch-form .ensures) (c .if2 .left)
 
 add-t16 : tie.Need-add-t16 Inv-loop μ-loop

@@ -24,7 +24,8 @@ is-branching-requires c κs = search needs
 returns : tie.Need-returns
 returns c =
     let own = c .before .before .before .before in
-    tree-refused _ _ _ _ (own .before .before .before .pre) (own .enum-told2 .given .1) (c .before .before .before .record-count .ensures) _ (c .before .before .tree-said .ensures) _ (c .before .is-branching .ensures)
+    tree-refused _ _ _ _ (own .before .before .before .pre) (own .enum-told2 .given .1) (c .before .before .before .record-count .ensures) _
+    (c .before .before .tree-said .ensures) _ (c .before .is-branching .ensures)
     (c .if1 .taken)
 
 returns-2 : tie.Need-returns-2
@@ -33,7 +34,8 @@ returns-2 c = tree-none _ _ _ (c .enum-told .given .1)
 returns-3 : tie.Need-returns-3
 returns-3 c =
     let own = c .before .before .before .before in
-    tree-passed _ _ _ _ (own .before .before .before .pre) (own .enum-told2 .given .1) (c .before .before .before .record-count .ensures) _ (c .before .before .tree-said .ensures) _ (c .before .is-branching .ensures)
+    tree-passed _ _ _ _ (own .before .before .before .pre) (own .enum-told2 .given .1) (c .before .before .before .record-count .ensures) _
+    (c .before .before .tree-said .ensures) _ (c .before .is-branching .ensures)
     (c .if1 .left)
 
 pub ask-tree-spec : {M : Type 1} → statement M

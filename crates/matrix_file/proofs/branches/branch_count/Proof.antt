@@ -20,7 +20,10 @@ returns : tie.Need-returns
 returns c = sym (ap (λ kind. branchCount kind (c .before .before .args .n)) (c .enum-told .given .1))
 
 returns-2 : tie.Need-returns-2
-returns-2 c = c .record-count .ensures ∙ min-eq-left (omega (arith, c .before .before .before .pre)) ∙ sym (ap (λ kind. branchCount kind (c .before .before .before .args .n)) (c .before .enum-told2 .given .1))
+returns-2 c =
+    c .record-count .ensures
+    ∙ min-eq-left (omega (arith, c .before .before .before .pre))
+    ∙ sym (ap (λ kind. branchCount kind (c .before .before .before .args .n)) (c .before .enum-told2 .given .1))
 
 pub branch-count-spec : {M : Type 1} → statement M
 branch-count-spec =

@@ -23,7 +23,8 @@ same-text-requires c κs = search needs
 returns-2 : tie.Need-returns-2
 returns-2 c =
     let word = c .before .before .before in
-    bad-word _ _ _ (word .before .before .separators .ensures) (word .before .if1 .left) _ (word .field .ensures) _ (c .before .same-text .ensures) (c .if2 .taken)
+    bad-word _ _ _ (word .before .before .separators .ensures) (word .before .if1 .left) _ (word .field .ensures) _
+    (c .before .same-text .ensures) (c .if2 .taken)
 
 field-requires-2 : tie.Need-field-requires-2
 field-requires-2 c κs = search needs
@@ -35,7 +36,8 @@ returns-3 : tie.Need-returns-3
 returns-3 c =
     let third = c .before .before in
     let word = third .before .before .before .before in
-    bad-third _ _ _ (word .before .before .separators .ensures) (word .before .if1 .left) _ (word .field .ensures) _ (third .before .before .same-text .ensures)
+    bad-third _ _ _ (word .before .before .separators .ensures) (word .before .if1 .left) _ (word .field .ensures) _
+    (third .before .before .same-text .ensures)
     (third .before .if2 .left) _ (third .field2 .ensures) _ (c .before .number-form .ensures) (c .if3 .taken)
 
 field-requires-3 : tie.Need-field-requires-3
@@ -52,8 +54,10 @@ returns-4 c =
     let second = c .before .before .before in
     let third = second .before .before .before in
     let word = third .before .before .before .before in
-    node-said _ _ _ (word .before .before .separators .ensures) (word .before .if1 .left) _ (word .field .ensures) _ (third .before .before .same-text .ensures)
-    (third .before .if2 .left) _ (third .field2 .ensures) _ (second .before .before .number-form .ensures) (second .before .if3 .left) _ (second .field3 .ensures) _
+    node-said _ _ _ (word .before .before .separators .ensures) (word .before .if1 .left) _ (word .field .ensures) _
+    (third .before .before .same-text .ensures)
+    (third .before .if2 .left) _ (third .field2 .ensures) _ (second .before .before .number-form .ensures) (second .before .if3 .left) _
+    (second .field3 .ensures) _
     (c .before .before .number-form2 .ensures) (c .before .if4 .taken) _ (c .number-of .ensures .is)
 
 returns-5 : tie.Need-returns-5
@@ -61,8 +65,10 @@ returns-5 c =
     let second = c .before .before in
     let third = second .before .before .before in
     let word = third .before .before .before .before in
-    bad-second _ _ _ (word .before .before .separators .ensures) (word .before .if1 .left) _ (word .field .ensures) _ (third .before .before .same-text .ensures)
-    (third .before .if2 .left) _ (third .field2 .ensures) _ (second .before .before .number-form .ensures) (second .before .if3 .left) _ (second .field3 .ensures) _
+    bad-second _ _ _ (word .before .before .separators .ensures) (word .before .if1 .left) _ (word .field .ensures) _
+    (third .before .before .same-text .ensures)
+    (third .before .if2 .left) _ (third .field2 .ensures) _ (second .before .before .number-form .ensures) (second .before .if3 .left) _
+    (second .field3 .ensures) _
     (c .before .number-form2 .ensures) (c .if4 .left)
 
 pub branch-form-spec : {M : Type 1} → statement M

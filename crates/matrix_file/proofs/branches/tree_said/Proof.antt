@@ -40,7 +40,8 @@ first-part-requires c κs = search needs
 number-in-requires : tie.Need-number-in-requires Inv-loop μ-loop
 number-in-requires c κs =
     let walk = c .before .before .before in
-    line-told _ _ _ _ _ _ (walk .before .before .pre .1) (walk .loop .inv .walk) (c .before .before .loop-test .taken) (c .before .rest-from .ensures) (c .first-part .ensures) .above
+    line-told _ _ _ _ _ _ (walk .before .before .pre .1) (walk .loop .inv .walk) (c .before .before .loop-test .taken)
+    (c .before .rest-from .ensures) (c .first-part .ensures) .above
 
 add-ancestors : tie.Need-add-ancestors Inv-loop μ-loop
 add-ancestors c = search needs
@@ -49,7 +50,13 @@ mul-ancestors : tie.Need-mul-ancestors Inv-loop μ-loop
 mul-ancestors c = search needs
 
 array-write-ancestors : tie.Need-array-write-ancestors Inv-loop μ-loop
-array-write-ancestors c = omega (arith, c .before .before .before .before .loop .inv .size, c .before .before .before .before .before .before .pre .0, c .before .before .before .loop-test .taken)
+array-write-ancestors c =
+    omega (
+      arith,
+      c .before .before .before .before .loop .inv .size,
+      c .before .before .before .before .before .before .pre .0,
+      c .before .before .before .loop-test .taken,
+    )
 
 add-at : tie.Need-add-at Inv-loop μ-loop
 add-at c = omega (arith, found-ended (c .before))
@@ -68,7 +75,8 @@ unfolding ancestorIn
 loop-again c =
     let found = c .before in
     let walk = found .before .before .before in
-    places-more _ _ _ _ _ _ _ (walk .before .before .pre .1) (walk .before .before .pre .0) (walk .loop .inv) (found .before .before .loop-test .taken) (found .before .rest-from .ensures)
+    places-more _ _ _ _ _ _ _ (walk .before .before .pre .1) (walk .before .before .pre .0) (walk .loop .inv)
+    (found .before .before .loop-test .taken) (found .before .rest-from .ensures)
     (found .first-part .ensures) _ (c .number-in .ensures)
 
 returns : tie.Need-returns Inv-loop μ-loop

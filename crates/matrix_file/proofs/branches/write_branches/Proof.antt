@@ -59,10 +59,22 @@ mul-write-record : tie.Need-mul-write-record Inv-loop μ-loop
 mul-write-record c = search needs
 
 sub-write-record : tie.Need-sub-write-record Inv-loop μ-loop
-sub-write-record c = omega (arith, c .before .before .before .before .before .before .pre .0, c .before .before .loop-test .taken, c .before .before .before .loop .inv .full)
+sub-write-record c =
+    omega (
+      arith,
+      c .before .before .before .before .before .before .pre .0,
+      c .before .before .loop-test .taken,
+      c .before .before .before .loop .inv .full,
+    )
 
 part-write-record-start : tie.Need-part-write-record-start Inv-loop μ-loop
-part-write-record-start c = omega (arith, c .before .before .before .before .before .before .pre .0, c .before .before .loop-test .taken, c .before .before .before .loop .inv .full)
+part-write-record-start c =
+    omega (
+      arith,
+      c .before .before .before .before .before .before .pre .0,
+      c .before .before .loop-test .taken,
+      c .before .before .before .loop .inv .full,
+    )
 
 part-write-record-end : tie.Need-part-write-record-end Inv-loop μ-loop
 part-write-record-end c = search needs
@@ -97,8 +109,10 @@ unfolding ancestorIn
 loop-again c =
     let found = c .before .before .before .before .before .before in
     let walk = found .before .before .before in
-    items-next recordSize recordIn _ _ _ _ _ _ _ _ _ (walk .before .before .before .pre .1 .more) (walk .before .before .before .pre .0) (walk .loop .inv) (found .before .before .loop-test .taken)
-    (found .before .rest-from .ensures) (found .first-part .ensures) _ (ap₂ recordNumbers (c .before .before .before .before .number-in .ensures) (c .before .before .before .number-in2 .ensures))
+    items-next recordSize recordIn _ _ _ _ _ _ _ _ _ (walk .before .before .before .pre .1 .more) (walk .before .before .before .pre .0)
+    (walk .loop .inv) (found .before .before .loop-test .taken)
+    (found .before .rest-from .ensures) (found .first-part .ensures) _
+    (ap₂ recordNumbers (c .before .before .before .before .number-in .ensures) (c .before .before .before .number-in2 .ensures))
     (c .before .before .write-record .ensures)
 
 same-length : tie.Need-same-length Inv-loop μ-loop

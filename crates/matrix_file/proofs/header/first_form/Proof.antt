@@ -53,7 +53,8 @@ returns-4 c =
     let first = c .before .before .before .before in
     let most = first .before .before .before in
     let word = most .before .before .before in
-    second-number _ _ (word .before .before .separators .ensures) (word .before .if1 .left) _ (word .field .ensures) _ (most .before .before .kind-said .ensures) _
+    second-number _ _ (word .before .before .separators .ensures) (word .before .if1 .left) _ (word .field .ensures) _
+    (most .before .before .kind-said .ensures) _
     (most .before .most-tabs .ensures) (most .if2 .left) _ (first .before .before .is-kind .ensures) (first .before .if3 .left) _ _
     (first .field2 .ensures) (c .before .before .before .number-form .ensures) (c .before .before .if4 .taken) _ _ (c .before .field3 .ensures)
     (c .number-form2 .ensures)
@@ -63,7 +64,8 @@ returns-5 c =
     let first = c .before .before in
     let most = first .before .before .before in
     let word = most .before .before .before in
-    bad-number _ _ (word .before .before .separators .ensures) (word .before .if1 .left) _ (word .field .ensures) _ (most .before .before .kind-said .ensures) _
+    bad-number _ _ (word .before .before .separators .ensures) (word .before .if1 .left) _ (word .field .ensures) _
+    (most .before .before .kind-said .ensures) _
     (most .before .most-tabs .ensures) (most .if2 .left) _ (first .before .before .is-kind .ensures) (first .before .if3 .left) _ _
     (first .field2 .ensures) (c .before .number-form .ensures) (c .if4 .left)
 

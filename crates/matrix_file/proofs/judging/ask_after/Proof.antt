@@ -45,7 +45,8 @@ ask-tree-requires c κs =
     let branches = end .before .before .before .before .before in
     let start = branches .before .before .before in (
       start .pre .0,
-      branches-formed _ _ (start .args .header) _ (branches .before .branch-count .ensures) _ (branches .ask-branches .ensures) _ _ (end .before .before .before .at .given .1) _
+      branches-formed _ _ (start .args .header) _ (branches .before .branch-count .ensures) _ (branches .ask-branches .ensures) _ _
+          (end .before .before .before .at .given .1) _
           (end .before .rest-from .ensures) _ (end .ask-end .ensures),
     )
 
@@ -55,22 +56,26 @@ on-line-requires c κs = search needs
 returns : tie.Need-returns
 returns c =
     let branches = c .before .before .before .before in
-    branches-refused _ _ _ _ (branches .before .branch-count .ensures) _ (branches .ask-branches .ensures) _ _ (c .before .before .refusal .given .1) _
+    branches-refused _ _ _ _ (branches .before .branch-count .ensures) _ (branches .ask-branches .ensures) _ _
+    (c .before .before .refusal .given .1) _
     (c .refused .ensures)
 
 returns-2 : tie.Need-returns-2
 returns-2 c =
     let end = c .before .before .before .before in
     let branches = end .before .before .before .before .before in
-    end-refused _ _ _ _ (branches .before .branch-count .ensures) _ (branches .ask-branches .ensures) _ _ (end .before .before .before .at .given .1) _
+    end-refused _ _ _ _ (branches .before .branch-count .ensures) _ (branches .ask-branches .ensures) _ _
+    (end .before .before .before .at .given .1) _
     (end .before .rest-from .ensures) _ (end .ask-end .ensures) _ (c .before .before .refusal2 .given .1) _ (c .refused2 .ensures)
 
 returns-3 : tie.Need-returns-3
 returns-3 c =
     let end = c .before .before .before .before in
     let branches = end .before .before .before .before .before in
-    tree-decides _ _ _ _ (branches .before .branch-count .ensures) _ (branches .ask-branches .ensures) _ _ (end .before .before .before .at .given .1) _
-    (end .before .rest-from .ensures) _ (end .ask-end .ensures) (c .before .before .enum-told .given .1) _ (c .before .ask-tree .ensures) _ (c .on-line .ensures)
+    tree-decides _ _ _ _ (branches .before .branch-count .ensures) _ (branches .ask-branches .ensures) _ _
+    (end .before .before .before .at .given .1) _
+    (end .before .rest-from .ensures) _ (end .ask-end .ensures) (c .before .before .enum-told .given .1) _ (c .before .ask-tree .ensures) _
+    (c .on-line .ensures)
 
 pub ask-after-spec : {M : Type 1} → statement M
 ask-after-spec =

@@ -43,7 +43,8 @@ ask-after-requires c κs =
     let behind = asked .before in
     let start = behind .before .before .before in (
       start .pre .0 .0,
-      next-low _ _ _ (behind .before .header-lines .ensures) _ (behind .behind-lines .ensures) _ (asked .ask-rows .ensures) _ _ (c .before .before .at .given .1)
+      next-low _ _ _ (behind .before .header-lines .ensures) _ (behind .behind-lines .ensures) _ (asked .ask-rows .ensures) _ _
+          (c .before .before .at .given .1)
           (start .pre .0 .0),
     )
 

@@ -7,7 +7,8 @@ use Rattle.lists.specs.Over.{over, stripes}
 use Rattle.matrix.specs.Shape.{columns}
 use Rattle.branching.specs.LentNumbers.{recordSize}
 use Rattle.file_form.specs.Job.{nameSize}
-use Rattle.matrix_file.proofs.Lists.ReadWalk.{lists-full, taxa-most, read-behind, rows-given, codes-said, names-said, weights-given, weights-said}
+use Rattle.matrix_file.proofs.Lists.ReadWalk.{lists-full, taxa-most, read-behind, rows-given, codes-said, names-said}
+use Rattle.matrix_file.proofs.Lists.ReadWalk.{weights-given, weights-said}
 use Rattle.matrix_file.proofs.Lists.ReadWalk.{branches-given, branches-few, records-said}
 use Rattle.matrix_file.proofs.reading.write_job.Statement.{statement}
 use Rattle.matrix_file.proofs.reading.write_job.Tie as tie
@@ -45,10 +46,14 @@ write-names-requires c κs =
 behind-lines-requires-2 : tie.Need-behind-lines-requires-2
 behind-lines-requires-2 c κs =
     let behind = c .before .before .before .before .before .before .before .before .before .before .before .before .before in
-    rows-given _ _ (behind .before .before .before .before .before .before .pre .0) _ (behind .before .header-lines .ensures) _ (behind .behind-lines .ensures) .count
+    rows-given _ _ (behind .before .before .before .before .before .before .pre .0) _ (behind .before .header-lines .ensures) _
+    (behind .behind-lines .ensures) .count
 
 branch-count-requires : tie.Need-branch-count-requires
-branch-count-requires c κs = taxa-most _ _ (c .before .before .before .before .before .before .before .before .before .before .before .before .before .before .before .before .before .before .before .before .pre .0)
+branch-count-requires c κs =
+    let behind = c .before .before .before .before .before .before .before .before .before .before .before .before .before .before in
+    let start = behind .before .before .before .before .before .before in
+    taxa-most _ _ (start .pre .0)
 
 write-branches-requires : tie.Need-write-branches-requires
 write-branches-requires c κs =
@@ -56,11 +61,13 @@ write-branches-requires c κs =
     let start = behind .before .before .before .before .before .before in (
       omega (
         arith,
-        branches-few _ _ (start .pre .0) _ (behind .before .header-lines .ensures) _ (behind .behind-lines .ensures) _ (c .before .behind-lines2 .ensures) _
+        branches-few _ _ (start .pre .0) _ (behind .before .header-lines .ensures) _ (behind .behind-lines .ensures) _
+            (c .before .behind-lines2 .ensures) _
             (c .branch-count .ensures),
         lists-full _ _ _ _ (start .pre .1) .3,
       ),
-      branches-given _ _ (start .pre .0) _ (behind .before .header-lines .ensures) _ (behind .behind-lines .ensures) _ (c .before .behind-lines2 .ensures) _
+      branches-given _ _ (start .pre .0) _ (behind .before .header-lines .ensures) _ (behind .behind-lines .ensures) _
+          (c .before .behind-lines2 .ensures) _
           (c .branch-count .ensures),
     )
 
@@ -84,10 +91,13 @@ returns c =
     let start = behind .before .before .before .before .before .before in λ i.
     record {
       matrix =
-          (c .before .before .before .before .before .before .before .before .before .before .before .before .before .before .before .before .write-matrix .ensures
+          (weights .before .before .before .before .write-matrix .ensures
           ∙ ap (λ items. stripes columns 0 items (start .args .matrix .now))
           (sym (codes-said _ _ (start .pre .0) _ (behind .before .header-lines .ensures) _ (behind .behind-lines .ensures)))) i;
-      weights = (weights .write-weights .ensures ∙ ap (λ items. over 0 items (start .args .weights .now)) (sym (weights-said _ _ (start .pre .0) _ (weights .before .behind-part .ensures)))) i;
+      weights =
+          (weights .write-weights .ensures
+          ∙ ap (λ items. over 0 items (start .args .weights .now))
+          (sym (weights-said _ _ (start .pre .0) _ (weights .before .behind-part .ensures)))) i;
       names =
           (c .before .before .before .before .before .before .before .before .write-names .ensures
           ∙ ap (λ items. stripes nameSize 0 items (start .args .names .now))
