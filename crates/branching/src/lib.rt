@@ -1,4 +1,6 @@
 // Trees as lists of immediate ancestors; growing trees and branchings; placements; branch records.
+#![tactic(auto)]
+
 pub mod branch;
 pub mod lent;
 pub mod numbers;

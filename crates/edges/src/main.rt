@@ -3,6 +3,8 @@
 // Before them stand calls that are lent bytes of another number than the full size.
 // A case is the length of the file and the number of bytes that are kept of it, each in three bytes, the highest first, and then these
 // bytes; the file goes on with `x` up to its length.
+#![tactic(auto)]
+
 ghost use Rattle.std.specs.Prelude.{◌≤◌, ◌<◌};
 
 use exports::calls::wagner_list;

@@ -1,4 +1,6 @@
 // The shapes of the lent lists, the refusals and their numbers, and the questions put to a lent matrix.
+#![tactic(auto)]
+
 pub mod questions;
 pub mod refusal;
 pub mod rows;

@@ -1,4 +1,6 @@
 // Reading a matrix file.
+#![tactic(auto)]
+
 pub mod answer;
 mod branches;
 mod bytes;

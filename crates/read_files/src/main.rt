@@ -3,6 +3,8 @@
 // Before them stand four reads into lists that have not their full size. The weights of an accepted file stand behind `V`, or behind `-`
 // where the file has no `V` line. The branch records of an `F` file stand behind its rows, as they were written: `C`, node, ancestor,
 // length. Behind each case stands how many codes, weights, name bytes and numbers of branch records are as they were lent.
+#![tactic(auto)]
+
 ghost use Rattle.std.specs.Prelude.{◌≡◌, true, ◌≤◌};
 ghost use Rattle.matrix.specs.Shape.{in_range};
 

@@ -1,1 +1,3 @@
 // Demand 3: one claim about a whole accepted matrix. It has no function.
+#![tactic(auto)]
+

@@ -1,4 +1,6 @@
 // The Wagner tree: the whole build, and the finished tree as branch records.
+#![tactic(auto)]
+
 pub mod build;
 pub mod closeness;
 pub mod order;

@@ -1,4 +1,6 @@
 // The program: a matrix file on standard input, its listing or the line of its refusal on standard output, and nothing else.
+#![tactic(auto)]
+
 use exports::calls::wagner_list;
 use libc::{STDIN_FILENO, STDOUT_FILENO};
 

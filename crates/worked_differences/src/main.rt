@@ -1,4 +1,6 @@
 // Differences, interval differences and medians of worked cases, a line each.
+#![tactic(auto)]
+
 use difference::calls;
 use difference::calls::Length;
 use libc::STDOUT_FILENO;

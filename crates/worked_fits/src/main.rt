@@ -1,5 +1,7 @@
 // Fits of worked cases, nodes by number: T, t and H lines and digests of the three lent lists, or the R line of a refusal. The expected
 // lines are those that `make.py` has the reference print.
+#![tactic(auto)]
+
 mod branchings;
 mod refused;
 mod showing;

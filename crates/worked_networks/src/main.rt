@@ -1,5 +1,7 @@
 // Prim Networks of worked cases, in the form of the listing's P, p and R lines, with taxa by number. The expected lines are those that
 // `make.py` has the reference print.
+#![tactic(auto)]
+
 use libc::STDOUT_FILENO;
 use matrix::refusal::Asked;
 use matrix::rows::write_row;

@@ -1,5 +1,7 @@
 // The forms over references, run: placements on a tree that the caller keeps, the finished tree written into a lent list of branch records,
 // and the fit of that list. Nodes are printed by number. The expected lines are those that `make.py` has the reference print.
+#![tactic(auto)]
+
 ghost use Rattle.std.specs.Prelude.{◌≡◌, length};
 ghost use Rattle.matrix.specs.Outcomes.{afterwards};
 ghost use Rattle.branching.specs.Ancestors.{ancestors};

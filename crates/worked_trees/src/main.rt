@@ -1,4 +1,6 @@
 // Wagner trees and placements of worked cases, with nodes by number. The expected lines are those that `make.py` has the reference print.
+#![tactic(auto)]
+
 use branching::branch::Branch;
 use branching::placement::Placement;
 use branching::tree::Tree;

@@ -1,0 +1,27 @@
+-- `difference::codes::part` meets its contract: a weight of 8 bits times two codes of 32 bits apart fits 64. Assumes nothing.
+use mathlib.Core.Path.{◌≡◌, ap₂}
+use Prim.Native.Nat.{◌*◌}
+use native.Mathlib.Omega.{arith}
+use lib.Signed.{nat_abs-le}
+use mir.Facts.{to_z-of_z}
+use Rattle.difference.specs.Rows.{part}
+use Rattle.difference.proofs.Laws.Weights.{part-most}
+use Rattle.difference.proofs.codes.part.Goals as goal
+
+-- the product is the part of the character
+product : (c : goal.After-apart)
+    → c.times.result * c.apart.result ≡ part c.args.weight c.args.a c.args.b
+unfolding part
+product c =
+    ap₂ ◌*◌ c.times.ensures
+    (rw (to_z-of_z c.ranges.a, to_z-of_z c.ranges.b) at c.apart.ensures)
+
+pub overflow_mul-result : goal.overflow_mul-result
+overflow_mul-result c =
+    let given = c.ranges in
+    let most = part-most c.args.weight c.args.a c.args.b
+    (omega (arith, given.weight.fits)) (nat_abs-le c.args.a given.a.sfits) (nat_abs-le c.args.b given.b.sfits) in
+    record { fits = omega (arith, product c, most) }
+
+pub returns : goal.returns
+returns c = product c
