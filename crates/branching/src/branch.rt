@@ -4,7 +4,7 @@
 pub const BRANCHES: usize = 125;
 
 // A branch: a node, its immediate ancestor, and the branch's length.
-#[derive(Drop)]
+#[derive(Clone, Copy)]
 pub struct Branch {
     pub node: usize,
     pub ancestor: usize,

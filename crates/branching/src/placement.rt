@@ -19,7 +19,7 @@ use matrix::rows::{RowCopy, row, row_copy, row_start};
 use matrix::{MOST_CHARACTERS, MOST_TAXA};
 
 // The taxon, the lower end of its interval (0: none), the upper end, the new HTU (0: none), the length added.
-#[derive(Drop)]
+#[derive(Clone, Copy)]
 pub struct Placement {
     pub taxon: usize,
     pub lower: usize,
@@ -29,14 +29,14 @@ pub struct Placement {
 }
 
 // A tree, and the placement that it comes from.
-#[derive(Drop)]
+#[derive(Clone, Copy)]
 pub struct Unasked {
     pub tree: Tree,
     pub placement: Placement,
 }
 
 // What the questions answered, the tree, and the placement that it comes from, which is one of zeros if they refused.
-#[derive(Drop)]
+#[derive(Clone, Copy)]
 pub struct Placed {
     pub asked: Asked,
     pub tree: Tree,
@@ -44,7 +44,7 @@ pub struct Placed {
 }
 
 // An interval, by its lower end (0: none yet), and the interval difference of the taxon from it.
-#[derive(Drop)]
+#[derive(Clone, Copy)]
 struct Nearest {
     lower: usize,
     added: u64,

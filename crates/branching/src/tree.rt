@@ -14,7 +14,7 @@ use matrix::MOST_TAXA;
 pub const PLACES: usize = 127;
 
 // A tree: place v holds the immediate ancestor of node v, and 0 where it has none.
-#[derive(Drop)]
+#[derive(Clone, Copy)]
 pub struct Tree {
     pub ancestors: [usize; 127],
 }

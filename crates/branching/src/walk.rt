@@ -9,21 +9,21 @@ use crate::tree::{PLACES, Tree, place_of};
 use matrix::MOST_TAXA;
 
 // The descendants of a node, by rising number; 0 for none.
-#[derive(Drop)]
+#[derive(Clone, Copy)]
 pub struct Below {
     pub first: usize,
     pub second: usize,
 }
 
 // A walk: how many nodes it has, and the nodes in order, from node 1 down. Behind the last of them stand zeros.
-#[derive(Drop)]
+#[derive(Clone, Copy)]
 pub struct Walk {
     pub count: usize,
     pub nodes: [usize; 127],
 }
 
 // A walk, and the descendants of each node by node number.
-#[derive(Drop)]
+#[derive(Clone, Copy)]
 pub struct Descent {
     pub walk: Walk,
     pub below: [Below; 127],

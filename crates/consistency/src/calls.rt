@@ -24,7 +24,7 @@ pub fn floor(matrix: &[i32], weights: &[u8], n: usize, m: usize) -> Length
 }
 
 // The consistency index of a branching, or why there is none.
-#[derive(Drop)]
+#[derive(Clone, Copy)]
 pub enum Consistency {
     Is(Index),
     Refused(Refusal),

@@ -8,7 +8,7 @@ const THOUSAND: u64 = 1000;
 const MOST_FLOOR: u64 = 2301696;
 
 // Quotient and remainder of 1000 times the floor, divided by a total; there are none with a total of 0.
-#[derive(Drop)]
+#[derive(Clone, Copy)]
 pub enum Index {
     Divided { quotient: u64, remainder: u64 },
     NoTotal,

@@ -9,7 +9,7 @@ use matrix::refusal::{Asked, Refusal};
 use matrix::rows::row;
 
 // A length, or why there is none.
-#[derive(Drop)]
+#[derive(Clone, Copy)]
 pub enum Length {
     Is(u64),
     Refused(Refusal),

@@ -10,7 +10,7 @@ use matrix::refusal::{Refusal, number};
 // What a read answers: 0, the line 0, the number of the kind of file, the numbers of taxa and characters, and the number of the order of
 // placing that the file means; or the number of the refusal, its line, and zeros.
 #[repr(C)]
-#[derive(Drop)]
+#[derive(Clone, Copy)]
 pub struct FileRead {
     pub refusal: u64,
     pub line: usize,
@@ -22,7 +22,7 @@ pub struct FileRead {
 
 // What a call on a lent matrix answers: 0 and a length, or the floor; or the number of the refusal and 0.
 #[repr(C)]
-#[derive(Drop)]
+#[derive(Clone, Copy)]
 pub struct Measured {
     pub refusal: u64,
     pub length: u64,
@@ -31,7 +31,7 @@ pub struct Measured {
 // What the call for an index answers: refusal 0, divided 1, quotient and remainder; four zeros for a total of 0; or the number of the refusal
 // and zeros.
 #[repr(C)]
-#[derive(Drop)]
+#[derive(Clone, Copy)]
 pub struct Indexed {
     pub refusal: u64,
     pub divided: u64,

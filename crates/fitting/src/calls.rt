@@ -16,7 +16,7 @@ use matrix::questions::{ask_matrix, one_to};
 use matrix::refusal::{Asked, Refusal};
 
 // What the call for a fit hands back: the answer to its questions, and the fit, which after a refusal is none.
-#[derive(Drop)]
+#[derive(Clone, Copy)]
 pub struct Fitted {
     pub asked: Asked,
     pub fit: Fit,
@@ -64,7 +64,7 @@ pub fn fit(
 }
 
 // The states of one node in one character, or why there are none.
-#[derive(Drop)]
+#[derive(Clone, Copy)]
 pub enum NodeStates {
     Are(States),
     Refused(Refusal),

@@ -18,21 +18,21 @@ use std::num::wrapping_add_u64;
 const LONGEST: u64 = 4294967296;
 
 // What is found of a node from the tips up: its set, and the least cost of its clade.
-#[derive(Drop)]
+#[derive(Clone, Copy)]
 pub struct Part {
     pub set: Span,
     pub cost: u64,
 }
 
 // What is found of a node from row 1 down: its chosen state, and the set of all nodes that are not in its clade.
-#[derive(Drop)]
+#[derive(Clone, Copy)]
 pub struct Seen {
     pub state: i32,
     pub outside: Span,
 }
 
 // The states of a node in one character: the lowest and the highest of its range, and the chosen one.
-#[derive(Drop)]
+#[derive(Clone, Copy)]
 pub struct States {
     pub low: i32,
     pub high: i32,

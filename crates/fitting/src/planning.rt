@@ -7,7 +7,7 @@ use branching::tree::Tree;
 use branching::walk::{Below, Walk, descent_over};
 
 // A tree, its walk, and the descendants of each node by node number.
-#[derive(Drop)]
+#[derive(Clone, Copy)]
 pub struct Plan {
     pub tree: Tree,
     pub walk: Walk,

@@ -6,7 +6,7 @@ ghost use Rattle.fitting.specs.Steps.{carried, GapOf};
 use difference::codes::{apart, higher, lower};
 
 // The states from low to high.
-#[derive(Drop)]
+#[derive(Clone, Copy)]
 pub struct Span {
     pub low: i32,
     pub high: i32,

@@ -16,7 +16,7 @@ use matrix::weights::weight_at;
 use matrix::{COLUMNS, ROWS};
 
 // The fit of a tree, by node number: the fitted length of each node's branch, and its mark; and the total.
-#[derive(Drop)]
+#[derive(Clone, Copy)]
 pub struct Fit {
     pub lengths: [u64; 127],
     pub marks: [bool; 127],
@@ -24,14 +24,14 @@ pub struct Fit {
 }
 
 // A branch as far as characters are fitted: its length under the chosen states, and its mark.
-#[derive(Drop)]
+#[derive(Clone, Copy)]
 pub struct BranchFit {
     pub length: u64,
     pub mark: bool,
 }
 
 // Which of a node's states: the lowest or the highest of its range, or the chosen one.
-#[derive(Drop)]
+#[derive(Clone, Copy)]
 pub enum Which {
     Low,
     High,

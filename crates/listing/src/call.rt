@@ -21,7 +21,7 @@ use matrix_file::reading::read;
 pub const OUTPUT_SIZE: usize = 1048576;
 
 // How many bytes were written, or why none were.
-#[derive(Drop)]
+#[derive(Clone, Copy)]
 pub enum Listed {
     Written(usize),
     Refused(Refusal),

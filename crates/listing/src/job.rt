@@ -33,14 +33,14 @@ use wagner::build::{WagnerTree, build};
 use wagner::order::Order;
 
 // What is listed of a tree: its fit, and the index of the fit.
-#[derive(Drop)]
+#[derive(Clone, Copy)]
 struct FittedTree {
     fit: Fit,
     index: Index,
 }
 
 // What is listed of a matrix: its Prim Network, its Wagner tree, and what is listed of that tree.
-#[derive(Drop)]
+#[derive(Clone, Copy)]
 struct Results {
     network: Network,
     built: WagnerTree,

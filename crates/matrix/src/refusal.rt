@@ -3,7 +3,7 @@ ghost use Rattle.std.specs.Prelude.{◌≡◌};
 ghost use Rattle.matrix.specs.Refusals.{refusal_number};
 
 // Why an input is refused. `refusal_number` gives the number of each.
-#[derive(Drop)]
+#[derive(Clone, Copy)]
 pub enum Refusal {
     FileTooLong,
     FileEmpty,
@@ -25,7 +25,7 @@ pub enum Refusal {
 }
 
 // What the questions put to an input answer: nothing refuses it, or the first "no".
-#[derive(Drop)]
+#[derive(Clone, Copy)]
 pub enum Asked {
     Passed,
     Refused(Refusal),

@@ -6,7 +6,7 @@ ghost use Rattle.matrix.specs.NodeRows.{with_row, CopyOf};
 use crate::COLUMNS;
 
 // A row by value: its first `count` codes. Behind them stand zeros.
-#[derive(Drop)]
+#[derive(Clone, Copy)]
 pub struct RowCopy {
     pub count: usize,
     pub codes: [i32; 128],

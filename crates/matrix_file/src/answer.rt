@@ -6,14 +6,14 @@ use file_form::header::Header;
 use matrix::refusal::{Asked, Refusal};
 
 // The header of an accepted file, or why a file is refused and at which line.
-#[derive(Drop)]
+#[derive(Clone, Copy)]
 pub enum Read {
     Accepted(Header),
     Refused { refusal: Refusal, line: usize },
 }
 
 // Where some lines end and the number of the line behind them, or why they are refused and at which line.
-#[derive(Drop)]
+#[derive(Clone, Copy)]
 pub(crate) enum LinesAnswer {
     Ended { at: usize, line: usize },
     Refused { refusal: Refusal, line: usize },

@@ -41,7 +41,7 @@ fn in_name(byte: u8) -> bool
 }
 
 // The bytes that a text may be made of: digits, or those of a name.
-#[derive(Drop)]
+#[derive(Clone, Copy)]
 pub(crate) enum Alphabet {
     Digits,
     Name,

@@ -2,7 +2,7 @@
 use matrix::refusal::Asked;
 
 // A link: the taxon that it places, the placed taxon that this one joins, and their difference.
-#[derive(Drop)]
+#[derive(Clone, Copy)]
 pub struct Link {
     pub taxon: usize,
     pub joined: usize,
@@ -10,7 +10,7 @@ pub struct Link {
 }
 
 // A network: the first `count` links, in order of placing, and the sum of their lengths. The other links are 0 throughout.
-#[derive(Drop)]
+#[derive(Clone, Copy)]
 pub struct Network {
     pub count: usize,
     pub links: [Link; 63],
@@ -18,7 +18,7 @@ pub struct Network {
 }
 
 // The answer: what the questions answered, and the network, which has no link if they refused.
-#[derive(Drop)]
+#[derive(Clone, Copy)]
 pub struct Answer {
     pub asked: Asked,
     pub network: Network,

@@ -15,7 +15,7 @@ use matrix::refusal::Asked;
 use matrix::rows::row;
 
 // What is kept of a taxon: whether it is placed; while it is not, the placed taxon nearest to it and how far that is.
-#[derive(Drop)]
+#[derive(Clone, Copy)]
 struct Kept {
     placed: bool,
     nearest: usize,

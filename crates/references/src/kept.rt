@@ -6,7 +6,7 @@ use branching::tree::Tree;
 use matrix::refusal::Asked;
 
 // What the questions answered, and what was done: a placement of zeros if they refused.
-#[derive(Drop)]
+#[derive(Clone, Copy)]
 pub struct PlacedIn {
     pub asked: Asked,
     pub placement: Placement,

@@ -11,7 +11,7 @@ use matrix::refusal::Asked;
 use wagner::records::branches;
 
 // What the questions answered, how many records are to be written, which is none if they refused, and the records.
-#[derive(Drop)]
+#[derive(Clone, Copy)]
 struct BranchList {
     asked: Asked,
     count: usize,

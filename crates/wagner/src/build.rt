@@ -18,7 +18,7 @@ pub const MOST_PLACEMENTS: usize = 63;
 
 // What a build hands back: what the questions answered; the tree; the first `count` placements, in their order, and placements of zeros
 // behind them; the length of the tree under the median codes. On a refusal the tree is row 1 alone, without placements.
-#[derive(Drop)]
+#[derive(Clone, Copy)]
 pub struct WagnerTree {
     pub asked: Asked,
     pub tree: Tree,
@@ -28,7 +28,7 @@ pub struct WagnerTree {
 }
 
 // A build under way: what is placed, and the keys of the taxa by which the next one is chosen.
-#[derive(Drop)]
+#[derive(Clone, Copy)]
 struct Building {
     tree: Tree,
     count: usize,

@@ -14,7 +14,7 @@ use matrix::rows::row;
 pub const KEYS: usize = 65;
 
 // The order of placing: by rising advancement, or the taxon first that is closest to an interval of the tree as it stands.
-#[derive(Drop)]
+#[derive(Clone, Copy)]
 pub enum Order {
     Advance,
     Closest,

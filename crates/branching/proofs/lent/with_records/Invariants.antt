@@ -1,0 +1,23 @@
+-- `branching::lent::with_records` meets its contract. The loop's invariant: the first records are written, the others as before.
+-- Assumes nothing.
+use mathlib.Core.Path.{◌≡◌, refl, ◌∙◌}
+use Prim.Native.Nat.{◌*◌, ◌-◌, ◌≤◌, min}
+use native.Mathlib.Omega.{arith}
+use lib.ListN.{length, take, length-set}
+use Rattle.lists.specs.Over.{over}
+use Rattle.branching.specs.Ancestors.{ancestors}
+use Rattle.branching.specs.Branches.{lengths_by, branch_records}
+use Rattle.branching.proofs.Lending.{written_next, written_all}
+use borrow.Author.Rules.{rules}
+use Rattle.branching.proofs.lent.with_records.Given as goal
+
+abbrev pub invariant-loop-i : goal.invariant-loop-i
+invariant-loop-i l = (l.i ≤ l.count)
+    × (l.count ≤ 125)
+    × (length l.records ≡ 125)
+    × (length l.initial.records ≡ 125)
+    × (l.count ≡ min (2 * l.n - 3) 125)
+    × (l.records ≡ over 0 (take l.i (branch_records (lengths_by l.lengths) l.n (ancestors l.tree))) l.initial.records)
+
+abbrev pub decreases-loop-i : goal.decreases-loop-i
+decreases-loop-i l = l.count - l.i
