@@ -175,21 +175,21 @@ module _ (codes : List ℤ) (weights : List ℕ) (n m : ℕ) (most : n ≤ 64) (
 
   module _ (k : ℕ) (g : Grown n k tree) where
     -- the last row is that of node n+k-2
-    last_row : last_row n tree ≡ n + k - 2
+    the_last_row : last_row n tree ≡ n + k - 2
     unfolding last_row
-    last_row = omega (arith, g.placed, g.at_least_two)
+    the_last_row = omega (arith, g.placed, g.at_least_two)
 
     -- a node of the tree has a row
     lower-row : (c : ℕ) → 1 ≤ ancestor tree c → row_of rows c ≡ row codes m c
-    lower-row c inside = let w = g.nodes_only c inside in row_is c (omega arith) (omega (arith, last_row))
+    lower-row c inside = let w = g.nodes_only c inside in row_is c (omega arith) (omega (arith, the_last_row))
 
     -- so has its immediate ancestor
     upper-row : (c : ℕ) → 1 ≤ ancestor tree c → row_of rows (ancestor tree c) ≡ row codes m (ancestor tree c)
     upper-row c inside =
         row_is (ancestor tree c) inside
         (⊎_elim
-        (λ e. omega (arith, last_row, g.at_least_two))
-        (λ a. let w = g.nodes_only (ancestor tree c) a in omega (arith, last_row))
+        (λ e. omega (arith, the_last_row, g.at_least_two))
+        (λ a. let w = g.nodes_only (ancestor tree c) a in omega (arith, the_last_row))
         (g.ancestors_in c inside))
 
     -- the interval difference is the same by the rows
@@ -226,7 +226,7 @@ module _ (codes : List ℤ) (weights : List ℕ) (n m : ℕ) (most : n ≤ 64) (
         }
       where
         next_row : next_htu n tree ≡ suc (last_row n tree)
-        next_row = unfold next_htu in omega (arith, last_row, g.placed, g.at_least_two)
+        next_row = unfold next_htu in omega (arith, the_last_row, g.placed, g.at_least_two)
 
   -- on every growing tree
   pub unasked-placed : growing_tree n tree ≡ true → AsPlaced codes weights n m tree b (unasked codes weights n m tree b)

@@ -1,5 +1,5 @@
 -- The columns of a lent matrix are its characters, so their floors are the matrix's, and its floor stays small.
-use mathlib.Core.Path.{◌≡◌, refl, sym, ap}
+use mathlib.Core.Path.{◌≡◌, refl, sym, ap, ap₂, ◌∙◌}
 use mathlib.Core.Bool.{true}
 use mathlib.Core.List.{List, Memᴰ}
 use Prim.Native.Nat.{ℕ, suc, ◌+◌, ◌-◌, ◌≤◌}
@@ -28,15 +28,22 @@ pub ends-one : (matrix : List ℤ) (j v : ℕ) → ends_of (column matrix j v 1)
 unfolding column numbers lowest highest only
 ends-one matrix j v = refl
 
+-- the ends of the codes of two rows or more, from those of the rows behind the first
+ends_behind : (matrix : List ℤ) (j v count : ℕ)
+    → ends_of (column matrix j v (suc (suc count))) ≡ widened (state_at matrix v j) (ends_of (column matrix j (suc v) (suc count)))
+unfolding column numbers lowest highest
+ends_behind matrix j v count = refl
+
 -- the ends of the codes of rows v - 1 to n, from those of rows v to n
 pub ends_next : (matrix : List ℤ) (j n v : ℕ) → 2 ≤ v → v ≤ n
     → ends_of (column matrix j (v - 1) (n + 1 - (v - 1))) ≡ widened (state_at matrix (v - 1) j) (ends_of (column matrix j v (n + 1 - v)))
-unfolding column numbers lowest highest
 ends_next matrix j n v later last =
     let all : n + 1 - (v - 1) ≡ suc (suc (n - v)) = omega arith in
-    let others : n + 1 - v ≡ suc (n - v) = omega arith in
+    let others : suc (n - v) ≡ n + 1 - v = omega arith in
     let next : suc (v - 1) ≡ v = omega arith in
-    rw (all, others, next) refl
+    ap (λ count. ends_of (column matrix j (v - 1) count)) all
+    ∙ ends_behind matrix j (v - 1) (n - v)
+    ∙ ap₂ (λ first count. widened (state_at matrix (v - 1) j) (ends_of (column matrix j first count))) next others
 
 module _ (codes : List ℤ) (weights : List ℕ) (n m : ℕ) (lent : LentMatrix codes n m) where
   -- the rows of the taxa

@@ -38,15 +38,15 @@ read_into file codes weights names branches =
     with_header (read_outcome file (lent (replicate codes (pos 0)) (replicate weights 0) (replicate names 0) (replicate branches 0)))
 
 -- lists of full size: the file decides
-full_size : read_into (bytes "W\t1\t2\nV\t2\t3\nA\t0\t1\n") 16128 128 1024 375
+full_size_read : read_into (bytes "W\t1\t2\nV\t2\t3\nA\t0\t1\n") 16128 128 1024 375
     ≡ value (record { kind = Wagner; n = 1; m = 2; order = Unsaid; weighed = true })
 unfolding read_into bytes
-full_size = refl
+full_size_read = refl
 
 -- and refuses
-full_size-refused : read_into (bytes "W\t1\t2\nA\t0\n") 16128 128 1024 375 ≡ refused 8 2
+full_size_refused : read_into (bytes "W\t1\t2\nA\t0\n") 16128 128 1024 375 ≡ refused 8 2
 unfolding read_into bytes
-full_size-refused = refl
+full_size_refused = refl
 
 -- a list that is one too short or too long, the matrix, the weights, the names or the records: 12 with line 0, whatever the file holds
 wrong_sizes : (file : List ℕ)

@@ -67,10 +67,10 @@ module _ {d : ℕ → ℕ → ℕ} {n : ℕ} where
               (step (placed l.joined p.onto) (inr (part (l.taxon, l.joined) (Memᴰ.head refl))))
 
 -- the ends of a link are among the ends
-mem-ends : (links : List Link) (l : Link) → Memᴰ l links → Memᴰ (l.taxon, l.joined) (link_ends links)
+mem-ends : (l : Link) (links : List Link) → Memᴰ l links → Memᴰ (l.taxon, l.joined) (link_ends links)
 unfolding link_ends
-mem-ends links l (Memᴰ.head e) = Memᴰ.head (ap {B = ℕ × ℕ} (λ (k : Link). (k.taxon, k.joined)) e)
-mem-ends links l (Memᴰ.tail {xs = ls} m) = Memᴰ.tail (mem-ends ls l m)
+mem-ends l links (Memᴰ.head e) = Memᴰ.head (ap {B = ℕ × ℕ} (λ (k : Link). (k.taxon, k.joined)) e)
+mem-ends l links (Memᴰ.tail {xs = ls} m) = Memᴰ.tail (mem-ends l ls m)
 
 module _ (d : ℕ → ℕ → ℕ) (n : ℕ) where
   -- the Prim Network is a connected network
@@ -86,7 +86,7 @@ module _ (d : ℕ → ℕ → ℕ) (n : ℕ) where
 
   -- both ends of a link are taxa
   pub network-between : (l : Link) → Memᴰ l (network d n) → IsTaxon n l.taxon × IsTaxon n l.joined
-  network-between l m = network-connected.between l.taxon l.joined (mem-ends (network d n) l m)
+  network-between l m = network-connected.between l.taxon l.joined (mem-ends l (network d n) m)
 
   -- the total is at most n-1 times a bound of the differences of taxa
   pub network_total_le : (bound : ℕ) → ((x y : ℕ) → IsTaxon n x → IsTaxon n y → d x y ≤ bound)

@@ -20,7 +20,7 @@ use lib.IntN.{ℤ}
 use lib.ListN.{length, get_or, set, take}
 use lib.WfN.{lt-wf_rel}
 use seplogic.Ra.Ura.{Ura}
-use seplogic.Ra.TreeShare.{full_share}
+use base.Fraction.{full_share}
 use lib.Dec.{T as Holds}
 use mir.Syntax.{Ty, ty_array, ty_int, ty_ref, named, imm, w8, w32, w64, Body, Opd, skip, seq, cond, exit}
 use mir.Val.{Val, vbool, WT, has_ty}
@@ -37,6 +37,8 @@ use denote.Laws.{Is, Tells, Makes, shows}
 use denote.Memory.{cell_at, lone, part_at, part_of, shares}
 use denote.Ref.{Bor}
 use denote.Builtin.{i32, u8}
+use denote.Plain.{uint_row_laws}
+use denote.Signed.{sint_row_laws}
 use denote.Slice.{slice_ty, slice_val, ShrSlice, shr_slice_copy}
 use denote.Array.{Array, array_vals, Array-Tells, Array-Lawful}
 use denote.ArrayMemory.{Single, Array-apart, Array-whole}
@@ -164,9 +166,9 @@ module _ (κ κ' : Lft) (codes : Bor (List ℤ)) (weights : Bor (List ℕ)) wher
   weighed_twice 𝓛 =
       qed 𝓛 (‵ weighed ∷ []) ∵ fsplit ! $
       use1 𝓛 (‵ ((ShrSlice (named 0) κ i32).own_val codes (val codes ∷ [])) ⊛ ‵ ((ShrSlice (named 0) κ i32).own_val codes (val codes ∷ [])))
-      ((shr_slice_copy 𝓛 (named 0) κ i32).twice codes (val codes ∷ [])) $ split ! $ move ! (2 ∷ []) $
+      ((shr_slice_copy 𝓛 (named 0) κ i32 (sint_row_laws w32)).twice codes (val codes ∷ [])) $ split ! $ move ! (2 ∷ []) $
       use1 𝓛 (‵ ((ShrSlice (named 1) κ' u8).own_val weights (val weights ∷ [])) ⊛ ‵ ((ShrSlice (named 1) κ' u8).own_val weights
-      (val weights ∷ []))) ((shr_slice_copy 𝓛 (named 1) κ' u8).twice weights (val weights ∷ [])) $ split ! $
+      (val weights ∷ []))) ((shr_slice_copy 𝓛 (named 1) κ' u8 (uint_row_laws w8)).twice weights (val weights ∷ [])) $ split ! $
       move ! (2 ∷ 0 ∷ []) $ fjoin ! $ move ! (2 ∷ 1 ∷ []) $ fjoin ! $ done !
 
 -- ---- a loop that counts up to k

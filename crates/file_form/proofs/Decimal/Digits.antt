@@ -74,9 +74,9 @@ digits_more n x h k =
 module _ (P : ℕ → List ℕ → Type 0) (one : (n : ℕ) → n < 10 → P n (digit_for n ∷ []))
     (more : (n : ℕ) (digits : List ℕ) → 10 ≤ n → P (n / 10) digits → P n (digits ++ (digit_for (n % 10) ∷ []))) where
   -- of the digits that enough divisions give
-  digits_in : (steps n : ℕ) → n ≤ steps → P n (digits_in steps n)
-  digits_in zero n h = rw (digits_short zero n (omega arith)) (one n (omega arith))
-  digits_in (suc steps) n h = by (size n) (λ l. digits_in steps (n / 10) (omega arith))
+  digits_within : (steps n : ℕ) → n ≤ steps → P n (digits_in steps n)
+  digits_within zero n h = rw (digits_short zero n (omega arith)) (one n (omega arith))
+  digits_within (suc steps) n h = by (size n) (λ l. digits_within steps (n / 10) (omega arith))
     where
       by : Size n → (10 ≤ n → P (n / 10) (digits_in steps (n / 10))) → P n (digits_in (suc steps) n)
       by (short s) tenth = rw (digits_short (suc steps) n s) (one n s)
@@ -85,7 +85,7 @@ module _ (P : ℕ → List ℕ → Type 0) (one : (n : ℕ) → n < 10 → P n (
   -- and of the digits of every number
   pub digits_all : (n : ℕ) → P n (digits_of n)
   unfolding digits_of
-  digits_all n = digits_in n n (omega arith)
+  digits_all n = digits_within n n (omega arith)
 
 -- one more digit behind others
 number_more : (before : ℕ) (digits : List ℕ) (digit : ℕ)

@@ -50,11 +50,16 @@ module _ {X A : Type 0} (own : X → Clade → Clade → A) (to : Side → X →
       )
       (downward_outside (to left x a b) a w (value_at otherwise (downward (to right x a b) b) w) (parts.sides right w h))
 
-  -- the value of a part's top node
-  pub downward_part : (x : X) (v : ℕ) (a b t : Clade) (p : Part (fork v a b) t) → Distinct t → (otherwise : A) →
+  -- the value of a part's top node: the part's node and clades stand before what is handed
+  part_value : (v : ℕ) (a b : Clade) (x : X) (t : Clade) (p : Part (fork v a b) t) → Distinct t → (otherwise : A) →
       value_at otherwise (downward x t) v ≡ own (handed to x p) a b
   unfolding handed
-  downward_part x v a b t whole d otherwise = downward_top x v a b otherwise
-  downward_part x v a b t (below side u c e p) d otherwise =
+  part_value v a b x t whole d otherwise = downward_top x v a b otherwise
+  part_value v a b x t (below side u c e p) d otherwise =
       downward_on side x u c e d.0 v otherwise (part_has (fork v a b) (on side c e) p v (has_top v a b))
-      ∙ downward_part (to side x c e) v a b (on side c e) p (on_each Distinct side c e d.1 d.2) otherwise
+      ∙ part_value v a b (to side x c e) (on side c e) p (on_each Distinct side c e d.1 d.2) otherwise
+
+  -- so it is, with what is handed before them
+  pub downward_part : (x : X) (v : ℕ) (a b t : Clade) (p : Part (fork v a b) t) → Distinct t → (otherwise : A) →
+      value_at otherwise (downward x t) v ≡ own (handed to x p) a b
+  downward_part x v a b t p d otherwise = part_value v a b x t p d otherwise

@@ -20,13 +20,18 @@ part_on side v a b t whole = below side v a b whole
 part_on side v a b t (below turn u c e p) = below turn u c e (part_on side v a b (on turn c e) p)
 
 -- what is handed to a part of a clade, where each fork hands something on to either side
-unfoldable pub handed : {X : Type 0} (to : Side → X → Clade → Clade → X) → X → {s t : Clade} → Part s t → X
+unfoldable pub handed : {X : Type 0} {s : Clade} (to : Side → X → Clade → Clade → X) → X → {t : Clade} → Part s t → X
 handed to x whole = x
 handed to x (below side v a b p) = handed to (to side x a b) p
 
--- to what stands on a side of a part is handed what the part hands on
+-- to what stands on a side of a part is handed what the part hands on: the node and its clades stand before what is handed
+handed_along : {X : Type 0} (to : Side → X → Clade → Clade → X) (side : Side) (v : ℕ) (a b : Clade) (x : X) (t : Clade)
+    (p : Part (fork v a b) t) → handed to x (part_on side v a b t p) ≡ to side (handed to x p) a b
+unfolding handed part_on
+handed_along to side v a b x t whole = refl
+handed_along to side v a b x t (below turn u c e p) = handed_along to side v a b (to turn x c e) (on turn c e) p
+
+-- so it is, with what is handed before them
 pub handed_on : {X : Type 0} (to : Side → X → Clade → Clade → X) (x : X) (side : Side) (v : ℕ) (a b t : Clade) (p : Part (fork v a b) t) →
     handed to x (part_on side v a b t p) ≡ to side (handed to x p) a b
-unfolding handed part_on
-handed_on to x side v a b t whole = refl
-handed_on to x side v a b t (below turn u c e p) = handed_on to (to turn x c e) side v a b (on turn c e) p
+handed_on to x side v a b t p = handed_along to side v a b x t p
