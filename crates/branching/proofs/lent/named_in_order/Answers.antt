@@ -1,10 +1,8 @@
 -- What the check leaves of `branching::lent::named_in_order`.
 use mathlib.Core.Path.{◌≡◌, sym, ◌∙◌}
-use Prim.Native.Nat.{◌*◌, ◌-◌, ◌≤◌}
 use native.Mathlib.Omega.{arith}
 use lib.ListN.{length}
-use Rattle.branching.specs.Branches.{named_in_order}
-use Rattle.branching.proofs.Lending.{named_from, named_fails, named-next, named_end, named_start}
+use Rattle.branching.proofs.Lending.{named_fails, named-next, named_end, named_start}
 use borrow.Author.Rules.{rules}
 use Rattle.branching.proofs.lent.named_in_order.Goals as goal
 

@@ -1,11 +1,9 @@
 -- `branching::lent::named_in_order` meets its contract. The loop's invariant: the records that are left decide. Assumes nothing.
-use mathlib.Core.Path.{◌≡◌, sym, ◌∙◌}
+use mathlib.Core.Path.{◌≡◌}
 use Prim.Native.Nat.{◌*◌, ◌-◌, ◌≤◌}
-use native.Mathlib.Omega.{arith}
 use lib.ListN.{length}
 use Rattle.branching.specs.Branches.{named_in_order}
-use Rattle.branching.proofs.Lending.{named_from, named_fails, named-next, named_end, named_start}
-use borrow.Author.Rules.{rules}
+use Rattle.branching.proofs.Lending.{named_from}
 use Rattle.branching.proofs.lent.named_in_order.Given as goal
 
 abbrev pub invariant-loop-i : goal.invariant-loop-i

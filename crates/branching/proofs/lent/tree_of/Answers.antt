@@ -1,10 +1,9 @@
 -- What the check leaves of `branching::lent::tree_of`.
 use mathlib.Core.Path.{◌≡◌, refl, ◌∙◌}
-use Prim.Native.Nat.{◌-◌, ◌≤◌}
 use native.Mathlib.Omega.{arith}
 use lib.ListN.{length}
 use Rattle.lists.specs.Filled.{filled}
-use Rattle.branching.proofs.Lending.{ancestors_to, read_next, read_all}
+use Rattle.branching.proofs.Lending.{read_next, read_all}
 use borrow.Author.Rules.{rules}
 use Rattle.branching.proofs.lent.tree_of.Goals as goal
 

@@ -1,11 +1,8 @@
 -- `branching::lent::tree_of` meets its contract. The loop's invariant: the first places are read, the others hold 0. Assumes nothing.
-use mathlib.Core.Path.{◌≡◌, refl, ◌∙◌}
+use mathlib.Core.Path.{◌≡◌}
 use Prim.Native.Nat.{◌-◌, ◌≤◌}
-use native.Mathlib.Omega.{arith}
-use lib.ListN.{length}
 use Rattle.lists.specs.Filled.{filled}
-use Rattle.branching.proofs.Lending.{ancestors_to, read_next, read_all}
-use borrow.Author.Rules.{rules}
+use Rattle.branching.proofs.Lending.{ancestors_to}
 use Rattle.branching.proofs.lent.tree_of.Given as goal
 
 abbrev pub invariant-loop-i : goal.invariant-loop-i

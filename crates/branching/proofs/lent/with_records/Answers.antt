@@ -1,11 +1,8 @@
 -- What the check leaves of `branching::lent::with_records`.
 use mathlib.Core.Path.{◌≡◌, refl, ◌∙◌}
-use Prim.Native.Nat.{◌*◌, ◌-◌, ◌≤◌, min}
 use native.Mathlib.Omega.{arith}
-use lib.ListN.{length, take, length-set}
+use lib.ListN.{length, length-set}
 use Rattle.lists.specs.Over.{over}
-use Rattle.branching.specs.Ancestors.{ancestors}
-use Rattle.branching.specs.Branches.{lengths_by, branch_records}
 use Rattle.branching.proofs.Lending.{written_next, written_all}
 use borrow.Author.Rules.{rules}
 use Rattle.branching.proofs.lent.with_records.Goals as goal

@@ -1,14 +1,11 @@
 -- `branching::lent::with_records` meets its contract. The loop's invariant: the first records are written, the others as before.
 -- Assumes nothing.
-use mathlib.Core.Path.{◌≡◌, refl, ◌∙◌}
+use mathlib.Core.Path.{◌≡◌}
 use Prim.Native.Nat.{◌*◌, ◌-◌, ◌≤◌, min}
-use native.Mathlib.Omega.{arith}
-use lib.ListN.{length, take, length-set}
+use lib.ListN.{length, take}
 use Rattle.lists.specs.Over.{over}
 use Rattle.branching.specs.Ancestors.{ancestors}
 use Rattle.branching.specs.Branches.{lengths_by, branch_records}
-use Rattle.branching.proofs.Lending.{written_next, written_all}
-use borrow.Author.Rules.{rules}
 use Rattle.branching.proofs.lent.with_records.Given as goal
 
 abbrev pub invariant-loop-i : goal.invariant-loop-i

@@ -1,6 +1,5 @@
 -- `branching::numbers::number_at` meets its contract: 0 stands behind the end. Assumes nothing.
 use mathlib.Core.Path.{sym}
-use borrow.Author.Rules.{rules}
 use lib.ListN.{get_or-eq_default}
 use Rattle.branching.proofs.numbers.number_at.Goals as goal
 

@@ -1,7 +1,6 @@
 -- `branching::numbers::record_at` meets its contract: two numbers side by side. Assumes nothing.
 use mathlib.Core.Path.{ap₂}
 use Prim.Native.Nat.{ℕ}
-use borrow.Author.Rules.{rules}
 use Rattle.branching.specs.declared.branch.Branch.{Branch}
 use Rattle.branching.specs.LentNumbers.{record_at}
 use Rattle.branching.proofs.numbers.record_at.Goals as goal

@@ -1,9 +1,8 @@
 -- What the check leaves of `branching::numbers::records_in`.
 use mathlib.Core.Path.{◌≡◌, refl}
-use Prim.Native.Nat.{ℕ, ◌-◌, ◌≤◌, ◌<◌}
+use Prim.Native.Nat.{◌<◌}
 use native.Mathlib.Omega.{arith}
-use borrow.Author.Rules.{rules}
-use lib.ListN.{length, get_or, length-set}
+use lib.ListN.{length, length-set}
 use Rattle.lists.proofs.Filling.{filled_next}
 use Rattle.branching.specs.declared.branch.Branch.{Branch}
 use Rattle.branching.specs.LentNumbers.{record_at}

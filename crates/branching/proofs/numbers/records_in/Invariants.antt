@@ -1,14 +1,9 @@
 -- `branching::numbers::records_in` meets its contract. The loop's invariant: the records passed are those of the numbers. Assumes nothing.
-use mathlib.Core.Path.{◌≡◌, refl}
+use mathlib.Core.Path.{◌≡◌}
 use Prim.Native.Nat.{ℕ, ◌-◌, ◌≤◌, ◌<◌}
-use native.Mathlib.Omega.{arith}
-use borrow.Author.Rules.{rules}
-use lib.ListN.{length, get_or, length-set}
-use Rattle.lists.proofs.Filling.{filled_next}
-use Rattle.branching.specs.declared.branch.Branch.{Branch}
+use lib.ListN.{length, get_or}
 use Rattle.branching.specs.LentNumbers.{record_at}
 use Rattle.branching.proofs.Lending.{no_branch}
-use Rattle.branching.proofs.LentNumbers.{records-all}
 use Rattle.branching.proofs.numbers.records_in.Given as goal
 
 abbrev pub invariant-loop-i : goal.invariant-loop-i

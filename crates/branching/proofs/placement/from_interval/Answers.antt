@@ -1,6 +1,5 @@
 -- `branching::placement::from_interval` meets its contract. Assumes nothing.
 use Rattle.branching.proofs.Searching.{interval-rows}
-use borrow.Author.Rules.{rules}
 use Rattle.branching.proofs.placement.from_interval.Goals as goal
 
 pub returns : goal.returns

@@ -2,7 +2,6 @@
 use Rattle.branching.proofs.Nodes.{false-in_tree}
 use Rattle.branching.proofs.Searching.{has_above, nearer_out, nearer_moves, nearer_first, nearer_stays}
 use mathlib.Core.Path.{sym, ◌∙◌}
-use borrow.Author.Rules.{rules}
 use Rattle.branching.proofs.placement.nearer.Goals as goal
 
 pub returns-then-above-eq0 : goal.returns-then-above-eq0

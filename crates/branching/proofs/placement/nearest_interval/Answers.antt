@@ -1,11 +1,8 @@
 -- What the check leaves of `branching::placement::nearest_interval`.
 use Rattle.branching.specs.Ancestors.{ancestor}
-use Rattle.branching.specs.Nearest.{NearestBelow}
 use Rattle.branching.proofs.Searching.{nearest_end, nearest_start}
 use native.Mathlib.Omega.{arith}
-use Prim.Native.Nat.{◌-◌, ◌≤◌, ◌+◌, ◌*◌}
 use mathlib.Core.Path.{◌≡◌, refl, ◌∙◌}
-use borrow.Author.Rules.{rules}
 use Rattle.branching.proofs.placement.nearest_interval.Goals as goal
 
 pub loop-c-init : goal.loop-c-init

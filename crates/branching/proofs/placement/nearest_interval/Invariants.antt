@@ -1,11 +1,7 @@
 -- `branching::placement::nearest_interval` meets its contract. Assumes nothing.
-use Rattle.branching.specs.Ancestors.{ancestor}
 use Rattle.branching.specs.Nearest.{NearestBelow}
-use Rattle.branching.proofs.Searching.{nearest_end, nearest_start}
-use native.Mathlib.Omega.{arith}
 use Prim.Native.Nat.{◌-◌, ◌≤◌, ◌+◌, ◌*◌}
-use mathlib.Core.Path.{◌≡◌, refl, ◌∙◌}
-use borrow.Author.Rules.{rules}
+use mathlib.Core.Path.{◌≡◌}
 use Rattle.branching.proofs.placement.nearest_interval.Given as goal
 
 abbrev pub invariant-loop-c : goal.invariant-loop-c

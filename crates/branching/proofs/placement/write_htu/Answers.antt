@@ -1,6 +1,5 @@
 -- `branching::placement::write_htu` meets its contract. Assumes nothing.
 use Rattle.branching.proofs.Searching.{written_row}
-use borrow.Author.Rules.{rules}
 use Rattle.branching.proofs.placement.write_htu.Goals as goal
 
 pub returns : goal.returns

@@ -1,7 +1,6 @@
 -- `branching::placement::write_three` meets its contract. Assumes nothing.
 use native.Mathlib.Omega.{arith}
 use lib.ListN.{length-take}
-use borrow.Author.Rules.{rules}
 use Rattle.branching.proofs.placement.write_three.Goals as goal
 
 pub slice_bounds-write_medians-end : goal.slice_bounds-write_medians-end

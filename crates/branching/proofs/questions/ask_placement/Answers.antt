@@ -4,7 +4,6 @@ use borrow.Author.Tests.{not-true, not-false}
 use Rattle.matrix.proofs.Passing.{matrix_passed}
 use Rattle.branching.specs.Asking.{ask_placement}
 use Rattle.branching.proofs.Within.{growing-plain}
-use borrow.Author.Rules.{rules}
 use Rattle.branching.proofs.questions.ask_placement.Goals as goal
 
 pub returns-then-not-exists : goal.returns-then-not-exists

@@ -4,7 +4,6 @@ use borrow.Author.Tests.{eq-eqb, ne_eqb, not-true, not-false}
 use Rattle.matrix.proofs.Passing.{matrix_passed}
 use Rattle.branching.specs.Asking.{ask_records}
 use Rattle.branching.proofs.Within.{branching-plain}
-use borrow.Author.Rules.{rules}
 use Rattle.branching.proofs.questions.ask_records.Goals as goal
 
 pub returns-then-room-ne-BRANCHES : goal.returns-then-room-ne-BRANCHES

@@ -3,7 +3,7 @@ use mathlib.Core.List.{List}
 use lib.IntN.{ℤ}
 use Rattle.branching.specs.Nodes.{taxa_placed}
 use mathlib.Core.Path.{◌≡◌, refl, ap, ◌∙◌}
-use Prim.Native.Nat.{ℕ, ◌+◌, ◌-◌, ◌≤◌}
+use Prim.Native.Nat.{ℕ, ◌+◌, ◌-◌}
 use native.Mathlib.Omega.{arith}
 use Rattle.lists.specs.Tests.{every}
 use Rattle.lists.specs.Numbers.{numbers}
@@ -12,7 +12,6 @@ use Rattle.branching.specs.Ancestors.{ancestors}
 use Rattle.branching.specs.Asking.{htus_of}
 use Rattle.branching.proofs.Nodes.{taxa_placed_le}
 use Rattle.branching.proofs.Running.{running_fails, running_goes_on, running_passes}
-use borrow.Author.Rules.{rules}
 use Rattle.branching.proofs.questions.htus_right.Goals as goal
 
 -- the HTUs of the tree are the numbers from n+1 up to the end

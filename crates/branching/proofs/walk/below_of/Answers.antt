@@ -1,13 +1,12 @@
 -- What the check leaves of `branching::walk::below_of`.
 use mathlib.Core.Path.{◌≡◌, refl}
-use Prim.Native.Nat.{◌+◌, ◌-◌, ◌≤◌}
+use Prim.Native.Nat.{◌-◌}
 use native.Mathlib.Omega.{arith}
 use borrow.Author.Rules.{rules}
 use lib.ListN.{length, length-set}
 use Rattle.matrix.specs.Shape.{last_node}
 use Rattle.branching.specs.Ancestors.{ancestor, ancestors}
-use Rattle.branching.specs.Steps.{PlacesBelow}
-use Rattle.branching.proofs.Descending.{descendants-places, BelowTo, below-start, none_within, below_more, all-within}
+use Rattle.branching.proofs.Descending.{descendants-places, below-start, none_within, below_more, all-within}
 use Rattle.branching.proofs.walk.below_of.Goals as goal
 
 pub loop-u-init : goal.loop-u-init

@@ -1,14 +1,10 @@
 -- `branching::walk::below_of` meets its contract. The loop's invariant: the descendants kept are the first two among the nodes passed.
 -- Assumes nothing.
-use mathlib.Core.Path.{◌≡◌, refl}
+use mathlib.Core.Path.{◌≡◌}
 use Prim.Native.Nat.{◌+◌, ◌-◌, ◌≤◌}
-use native.Mathlib.Omega.{arith}
-use borrow.Author.Rules.{rules}
-use lib.ListN.{length, length-set}
-use Rattle.matrix.specs.Shape.{last_node}
-use Rattle.branching.specs.Ancestors.{ancestor, ancestors}
+use lib.ListN.{length}
 use Rattle.branching.specs.Steps.{PlacesBelow}
-use Rattle.branching.proofs.Descending.{descendants-places, BelowTo, below-start, none_within, below_more, all-within}
+use Rattle.branching.proofs.Descending.{BelowTo}
 use Rattle.branching.proofs.walk.below_of.Given as goal
 
 abbrev pub invariant-loop-u : goal.invariant-loop-u

@@ -1,5 +1,4 @@
 -- `branching::walk::descent_over` meets its contract: the walk goes by the descendants found. Assumes nothing.
-use borrow.Author.Rules.{rules}
 use Rattle.branching.proofs.walk.descent_over.Goals as goal
 
 pub returns : goal.returns

@@ -1,7 +1,6 @@
 -- `branching::walk::last_node` meets its contract. Assumes nothing.
 use native.Mathlib.Omega.{arith}
 use Rattle.matrix.specs.Shape.{last_node}
-use borrow.Author.Rules.{rules}
 use Rattle.branching.proofs.walk.last_node.Goals as goal
 
 pub returns-then-n-lt2 : goal.returns-then-n-lt2

@@ -1,14 +1,12 @@
 -- What the check leaves of `branching::walk::walk_down`.
 use mathlib.Core.Path.{◌≡◌, refl}
-use mathlib.Core.List.{List}
-use Prim.Native.Nat.{ℕ, ◌-◌, ◌≤◌, ◌<◌}
+use Prim.Native.Nat.{◌<◌}
 use native.Mathlib.Omega.{arith}
 use lib.ListN.{length, set, length-set}
 use Rattle.matrix.specs.Shape.{last_node}
 use Rattle.branching.specs.Walks.{node_at, below_at}
 use Rattle.branching.proofs.Walks.{places-set, places-start}
-use Rattle.branching.proofs.Along.{Pairs, Along, along_start, along_next, walking}
-use borrow.Author.Rules.{rules}
+use Rattle.branching.proofs.Along.{along_start, along_next, walking}
 use Rattle.branching.proofs.walk.walk_down.Goals as goal
 
 -- the node at place i has a place in a tree

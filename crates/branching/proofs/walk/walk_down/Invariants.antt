@@ -1,15 +1,11 @@
 -- `branching::walk::walk_down` meets its contract. The loop's invariant: all descendants of the nodes passed stand in the walk. Assumes
 -- nothing.
-use mathlib.Core.Path.{◌≡◌, refl}
+use mathlib.Core.Path.{◌≡◌}
 use mathlib.Core.List.{List}
-use Prim.Native.Nat.{ℕ, ◌-◌, ◌≤◌, ◌<◌}
-use native.Mathlib.Omega.{arith}
-use lib.ListN.{length, set, length-set}
-use Rattle.matrix.specs.Shape.{last_node}
-use Rattle.branching.specs.Walks.{node_at, below_at}
-use Rattle.branching.proofs.Walks.{places-set, places-start}
-use Rattle.branching.proofs.Along.{Pairs, Along, along_start, along_next, walking}
-use borrow.Author.Rules.{rules}
+use Prim.Native.Nat.{ℕ, ◌-◌, ◌≤◌}
+use lib.ListN.{length}
+use Rattle.branching.specs.Walks.{node_at}
+use Rattle.branching.proofs.Along.{Pairs, Along}
 use Rattle.branching.proofs.walk.walk_down.Given as goal
 
 abbrev pub invariant-loop-i : goal.invariant-loop-i

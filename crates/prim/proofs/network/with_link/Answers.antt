@@ -4,4 +4,4 @@ use Rattle.prim.proofs.Holding.{holds-next}
 use Rattle.prim.proofs.network.with_link.Goals as goal
 
 pub returns : goal.returns
-returns c = record { holds = λ links h. holds-next links c.args.t1 _ h c.requires.0 }
+returns c = record { holds = λ links h. holds-next links c.args.network _ h c.requires.0 }

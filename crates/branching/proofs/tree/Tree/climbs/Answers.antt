@@ -3,9 +3,7 @@ use Rattle.branching.proofs.Climbing.{climbs-here, climbs-above, climbs_last}
 use mathlib.Core.Path.{◌≡◌, sym, ap, ◌∙◌}
 use Prim.Native.Nat.{◌-◌}
 use native.Mathlib.Omega.{arith}
-use Rattle.branching.specs.Ancestors.{ancestors, ancestor}
 use Rattle.branching.specs.Growing.{climbs}
-use borrow.Author.Rules.{rules}
 use Rattle.branching.proofs.tree.Tree.climbs.Goals as goal
 
 pub returns-then-at-eq1 : goal.returns-then-at-eq1

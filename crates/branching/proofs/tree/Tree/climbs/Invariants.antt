@@ -1,11 +1,7 @@
 -- `branching::tree::Tree::climbs` meets its contract. The loop's invariant: the steps that are left decide. Assumes nothing.
-use Rattle.branching.proofs.Climbing.{climbs-here, climbs-above, climbs_last}
-use mathlib.Core.Path.{◌≡◌, sym, ap, ◌∙◌}
-use Prim.Native.Nat.{◌-◌}
-use native.Mathlib.Omega.{arith}
-use Rattle.branching.specs.Ancestors.{ancestors, ancestor}
+use mathlib.Core.Path.{◌≡◌}
+use Rattle.branching.specs.Ancestors.{ancestors}
 use Rattle.branching.specs.Growing.{climbs}
-use borrow.Author.Rules.{rules}
 use Rattle.branching.proofs.tree.Tree.climbs.Given as goal
 
 abbrev pub invariant-loop-left : goal.invariant-loop-left

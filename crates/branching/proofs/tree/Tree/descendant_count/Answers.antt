@@ -5,8 +5,7 @@ use borrow.Author.Tests.{eq-eqb, ne_eqb}
 use Rattle.branching.specs.Nodes.{other_nodes}
 use Rattle.branching.proofs.Descendants.{descendants-keep}
 use mathlib.Core.Path.{◌≡◌, sym, ap, ◌∙◌}
-use mathlib.Core.Logic.{⊎_elim}
-use Prim.Native.Nat.{ℕ, ◌+◌, ◌-◌, ◌≤◌}
+use Prim.Native.Nat.{ℕ, ◌-◌}
 use native.Mathlib.Omega.{arith}
 use lib.Dec.{eqb}
 use lib.ListN.{length}
@@ -15,8 +14,8 @@ use Rattle.lists.specs.Numbers.{numbers}
 use Rattle.branching.specs.Ancestors.{ancestors, ancestor}
 use Rattle.branching.specs.Growing.{descendant_count}
 use Rattle.branching.proofs.Running.{kept-one, kept-none, kept-all}
-use borrow.Author.Rules.{rules}
 use Rattle.branching.proofs.tree.Tree.descendant_count.Goals as goal
+use Rattle.branching.proofs.tree.Tree.descendant_count.Goals.{then-ancestor-v, else-ancestor-v}
 
 pub loop-u-init : goal.loop-u-init
 unfolding descendant_count other_nodes
@@ -39,22 +38,22 @@ loop-u-preserved c =
     let inv = loop.invariant in
     let below = c.loop-u-test.true in
     let is = c.ancestor.ensures in
-    ⊎_elim
-    (λ w. (
-      omega arith,
-      omega arith,
-      omega arith,
-      omega arith,
-      rw w.1 (kept-one _ loop.u _ loop.count inv.4 below (eq-eqb _ _ (sym is ∙ w.0.taken))),
-    ))
-    (λ w. (
-      omega arith,
-      omega arith,
-      omega arith,
-      omega arith,
-      rw w.1 (kept-none _ loop.u _ loop.count inv.4 below (ne_eqb _ _ (λ e. w.0.left (is ∙ e)))),
-    ))
-    c.if-ancestor-v.branch
+    elim c.if-ancestor-v.branch [
+      | then-ancestor-v w ↦ (
+        omega arith,
+        omega arith,
+        omega arith,
+        omega arith,
+        rw w.count-is (kept-one _ loop.u _ loop.count inv.4 below (eq-eqb _ _ (sym is ∙ w.if-ancestor-v.true))),
+      )
+      | else-ancestor-v w ↦ (
+        omega arith,
+        omega arith,
+        omega arith,
+        omega arith,
+        rw w.count-is (kept-none _ loop.u _ loop.count inv.4 below (ne_eqb _ _ (λ e. w.if-ancestor-v.false (is ∙ e)))),
+      )
+    ]
 
 pub returns : goal.returns
 returns c =

@@ -1,6 +1,5 @@
 -- `branching::tree::Tree::hang` meets its contract: three ancestors are set, one after the other. Assumes nothing.
 use Rattle.branching.specs.Hanging.{hung}
-use borrow.Author.Rules.{rules}
 use Rattle.branching.proofs.tree.Tree.hang.Goals as goal
 
 pub returns : goal.returns

@@ -1,6 +1,5 @@
 -- `branching::tree::Tree::hang_on` meets its contract. Assumes nothing.
 use Rattle.branching.proofs.Searching.{hung_leaves}
-use borrow.Author.Rules.{rules}
 use Rattle.branching.proofs.tree.Tree.hang_on.Goals as goal
 
 pub returns : goal.returns

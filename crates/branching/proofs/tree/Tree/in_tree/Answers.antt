@@ -3,7 +3,6 @@ use mathlib.Core.Path.{sym}
 use borrow.Author.Tests.{eq-eqb, ne_eqb}
 use Rattle.lists.proofs.Both.{or_left}
 use Rattle.branching.specs.Nodes.{has_ancestor, in_tree}
-use borrow.Author.Rules.{rules}
 use Rattle.branching.proofs.tree.Tree.in_tree.Goals as goal
 
 pub returns-then-v-eq1 : goal.returns-then-v-eq1

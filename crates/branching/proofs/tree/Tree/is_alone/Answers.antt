@@ -4,11 +4,11 @@ use lib.ListN.{length}
 use borrow.Author.Tests.{le-leb, lt-leb}
 use mathlib.Core.Path.{◌≡◌, refl, ap}
 use mathlib.Core.Bool.{not}
-use Prim.Native.Nat.{ℕ, ◌-◌, ◌≤◌}
+use Prim.Native.Nat.{ℕ}
 use native.Mathlib.Omega.{arith}
 use Rattle.lists.specs.Tests.{every}
 use Rattle.lists.specs.Numbers.{numbers}
-use Rattle.branching.specs.Ancestors.{ancestors, ancestor}
+use Rattle.branching.specs.Ancestors.{ancestor}
 use Rattle.branching.specs.Nodes.{has_ancestor}
 use Rattle.branching.specs.Growing.{row_one_alone}
 use Rattle.branching.proofs.Running.{running_fails, running_goes_on, running_passes}

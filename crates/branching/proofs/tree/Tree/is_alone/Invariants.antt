@@ -1,18 +1,12 @@
 -- `branching::tree::Tree::is_alone` meets its contract. The loop's invariant: the places that are left decide. Assumes nothing.
-use mathlib.Core.Bool.{Bool}
-use lib.ListN.{length}
-use borrow.Author.Tests.{le-leb, lt-leb}
-use mathlib.Core.Path.{◌≡◌, refl, ap}
+use mathlib.Core.Path.{◌≡◌}
 use mathlib.Core.Bool.{not}
-use Prim.Native.Nat.{ℕ, ◌-◌, ◌≤◌}
-use native.Mathlib.Omega.{arith}
+use Prim.Native.Nat.{◌-◌, ◌≤◌}
 use Rattle.lists.specs.Tests.{every}
 use Rattle.lists.specs.Numbers.{numbers}
-use Rattle.branching.specs.Ancestors.{ancestors, ancestor}
+use Rattle.branching.specs.Ancestors.{ancestors}
 use Rattle.branching.specs.Nodes.{has_ancestor}
 use Rattle.branching.specs.Growing.{row_one_alone}
-use Rattle.branching.proofs.Running.{running_fails, running_goes_on, running_passes}
-use borrow.Author.Rules.{rules}
 use Rattle.branching.proofs.tree.Tree.is_alone.Given as goal
 
 abbrev pub invariant-loop-v : goal.invariant-loop-v

@@ -2,7 +2,6 @@
 use mathlib.Core.Path.{sym, ◌∙◌}
 use borrow.Author.Tests.{not-true, not-false}
 use Rattle.branching.proofs.Within.{branching-within}
-use borrow.Author.Rules.{rules}
 use Rattle.branching.proofs.tree.Tree.is_branching.Goals as goal
 
 pub returns-then-not-is_growing : goal.returns-then-not-is_growing

@@ -3,7 +3,6 @@ use mathlib.Core.Path.{sym, ◌∙◌}
 use borrow.Author.Tests.{le-leb, lt-leb}
 use Rattle.branching.specs.Growing.{growing_tree}
 use Rattle.branching.specs.Within.{growing_tree_within}
-use borrow.Author.Rules.{rules}
 use Rattle.branching.proofs.tree.Tree.is_growing.Goals as goal
 
 pub returns-then-n-gt-MOST_TAXA : goal.returns-then-n-gt-MOST_TAXA

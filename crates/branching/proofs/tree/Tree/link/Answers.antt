@@ -1,6 +1,5 @@
 -- `branching::tree::Tree::link` meets its contract. Assumes nothing.
 use Rattle.branching.specs.Hanging.{linked}
-use borrow.Author.Rules.{rules}
 use Rattle.branching.proofs.tree.Tree.link.Goals as goal
 
 pub returns : goal.returns

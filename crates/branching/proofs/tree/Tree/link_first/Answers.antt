@@ -6,7 +6,6 @@ use lib.ListN.{take}
 use Rattle.difference.specs.Rows.{difference}
 use Rattle.branching.specs.Unasked.{linked_at}
 use mathlib.Core.Path.{refl, ◌∙◌, ap₂, ap}
-use borrow.Author.Rules.{rules}
 use Rattle.branching.proofs.tree.Tree.link_first.Goals as goal
 
 pub returns : goal.returns

@@ -8,7 +8,6 @@ use Rattle.branching.specs.Nodes.{taxa_placed}
 use Rattle.branching.specs.Hanging.{next_htu}
 use Rattle.branching.specs.Within.{next_htu_within}
 use Rattle.branching.proofs.Nodes.{taxa_placed_le}
-use borrow.Author.Rules.{rules}
 use Rattle.branching.proofs.tree.Tree.next_htu.Goals as goal
 
 pub returns-then-n-gt-MOST_TAXA : goal.returns-then-n-gt-MOST_TAXA

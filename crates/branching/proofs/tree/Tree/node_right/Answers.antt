@@ -8,9 +8,7 @@ use borrow.Author.Tests.{eq-eqb, ne_eqb, not-true, not-false}
 use Rattle.matrix.specs.Shape.{last_node}
 use Rattle.branching.specs.Ancestors.{ancestors}
 use Rattle.branching.specs.Nodes.{in_tree}
-use Rattle.branching.specs.Growing.{climbs}
 use Rattle.branching.specs.Testing.{node_right}
-use borrow.Author.Rules.{rules}
 use Rattle.branching.proofs.tree.Tree.node_right.Goals as goal
 
 pub returns-then-not-in_tree : goal.returns-then-not-in_tree

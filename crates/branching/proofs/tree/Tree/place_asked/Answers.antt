@@ -1,7 +1,6 @@
 -- `branching::tree::Tree::place_asked` meets its contract. Assumes nothing.
 use mathlib.Core.Path.{sym, ◌∙◌}
 use Rattle.branching.proofs.Handing.{hands_refusal, hands_placement}
-use borrow.Author.Rules.{rules}
 use Rattle.branching.proofs.tree.Tree.place_asked.Goals as goal
 
 pub returns-in-Refused : goal.returns-in-Refused

@@ -7,7 +7,6 @@ use native.Mathlib.Omega.{arith}
 use borrow.Author.Tests.{le-leb, lt-leb}
 use Rattle.branching.specs.Ancestors.{ancestors}
 use Rattle.branching.proofs.Places.{place_has, place_none}
-use borrow.Author.Rules.{rules}
 use Rattle.branching.proofs.tree.Tree.place_right.Goals as goal
 
 -- what is equal to a number that is not 0 is at least 1

@@ -2,7 +2,6 @@
 use Rattle.branching.proofs.Unasked.{done-linked, done-hung, done_more, done_wide}
 use mathlib.Core.Path.{ap}
 use Rattle.branching.specs.Ancestors.{ancestors}
-use borrow.Author.Rules.{rules}
 use Rattle.branching.proofs.tree.Tree.place_unasked.Goals as goal
 
 pub returns-then-n-gt-MOST_TAXA : goal.returns-then-n-gt-MOST_TAXA
@@ -18,13 +17,12 @@ returns-then-nearest-eq0 c =
     c.nearest_interval-nearest.ensures.lower c.if-nearest-eq0.true c.link_first.ensures
 
 pub hang_on-requires : goal.hang_on-requires
-hang_on-requires c =
-    (
-      c.if-n-gt-MOST_TAXA.false,
-      c.if-m-gt-MOST_CHARACTERS.false,
-      c.nearest_interval-nearest.ensures.added
-          c.if-nearest-eq0.false,
-    )
+hang_on-requires c = (
+  c.if-n-gt-MOST_TAXA.false,
+  c.if-m-gt-MOST_CHARACTERS.false,
+  c.nearest_interval-nearest.ensures.added
+      c.if-nearest-eq0.false,
+)
 
 pub returns : goal.returns
 returns c =

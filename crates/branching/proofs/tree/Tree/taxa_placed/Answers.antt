@@ -1,18 +1,18 @@
 -- What the check leaves of `branching::tree::Tree::taxa_placed`.
 use native.Mathlib.Nat.{zero-add}
 use mathlib.Core.Path.{◌≡◌, sym, ap, ◌∙◌}
-use mathlib.Core.Logic.{⊎_elim}
-use Prim.Native.Nat.{ℕ, ◌+◌, ◌-◌, ◌≤◌, min}
+use Prim.Native.Nat.{ℕ, ◌+◌, ◌-◌, min}
 use native.Mathlib.Omega.{arith}
 use lib.ListN.{length}
 use Rattle.lists.specs.Filters.{keep}
 use Rattle.lists.specs.Numbers.{numbers}
 use Rattle.branching.specs.Ancestors.{ancestors}
-use Rattle.branching.specs.Nodes.{in_tree, taxa_placed}
+use Rattle.branching.specs.Nodes.{in_tree}
 use Rattle.branching.proofs.Running.{kept-one, kept-none, kept-all}
 use Rattle.branching.proofs.Places.{taxa_placed-places}
 use borrow.Author.Rules.{rules}
 use Rattle.branching.proofs.tree.Tree.taxa_placed.Goals as goal
+use Rattle.branching.proofs.tree.Tree.taxa_placed.Goals.{then-in_tree, else-in_tree}
 
 pub loop-v-init : goal.loop-v-init
 loop-v-init c =
@@ -33,22 +33,22 @@ loop-v-preserved c =
     let inv = loop.invariant in
     let below = c.loop-v-test.true in
     let is = c.in_tree.ensures in
-    ⊎_elim
-    (λ w. (
-      omega arith,
-      omega arith,
-      omega arith,
-      omega arith,
-      rw w.1 (kept-one _ loop.v _ loop.placed inv.4 below (sym is ∙ w.0.taken)),
-    ))
-    (λ w. (
-      omega arith,
-      omega arith,
-      omega arith,
-      omega arith,
-      rw w.1 (kept-none _ loop.v _ loop.placed inv.4 below (sym is ∙ w.0.left)),
-    ))
-    c.if-in_tree.branch
+    elim c.if-in_tree.branch [
+      | then-in_tree w ↦ (
+        omega arith,
+        omega arith,
+        omega arith,
+        omega arith,
+        rw w.placed-is (kept-one _ loop.v _ loop.placed inv.4 below (sym is ∙ w.if-in_tree.true)),
+      )
+      | else-in_tree w ↦ (
+        omega arith,
+        omega arith,
+        omega arith,
+        omega arith,
+        rw w.placed-is (kept-none _ loop.v _ loop.placed inv.4 below (sym is ∙ w.if-in_tree.false)),
+      )
+    ]
 
 pub returns : goal.returns
 returns c =

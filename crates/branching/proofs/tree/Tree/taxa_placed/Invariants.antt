@@ -1,18 +1,12 @@
 -- `branching::tree::Tree::taxa_placed` meets its contract. The loop's invariant: those counted and those left that are in the tree are all
 -- that are placed. Assumes nothing.
-use native.Mathlib.Nat.{zero-add}
-use mathlib.Core.Path.{◌≡◌, sym, ap, ◌∙◌}
-use mathlib.Core.Logic.{⊎_elim}
-use Prim.Native.Nat.{ℕ, ◌+◌, ◌-◌, ◌≤◌, min}
-use native.Mathlib.Omega.{arith}
+use mathlib.Core.Path.{◌≡◌}
+use Prim.Native.Nat.{◌+◌, ◌-◌, ◌≤◌}
 use lib.ListN.{length}
 use Rattle.lists.specs.Filters.{keep}
 use Rattle.lists.specs.Numbers.{numbers}
 use Rattle.branching.specs.Ancestors.{ancestors}
 use Rattle.branching.specs.Nodes.{in_tree, taxa_placed}
-use Rattle.branching.proofs.Running.{kept-one, kept-none, kept-all}
-use Rattle.branching.proofs.Places.{taxa_placed-places}
-use borrow.Author.Rules.{rules}
 use Rattle.branching.proofs.tree.Tree.taxa_placed.Given as goal
 
 abbrev pub invariant-loop-v : goal.invariant-loop-v
