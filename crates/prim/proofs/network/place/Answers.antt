@@ -29,4 +29,4 @@ pub returns : goal.returns
 returns c =
     let a = c.args in
     let inv = c.loop-u.invariant in
-    place-keeps _ a.n a.v a.t1 c.loop-u.taxa _ refl (omega arith) _ inv.3 inv.2 c.loop-u-test.false
+    place-keeps _ a.n a.v a.taxa c.loop-u.taxa _ refl (omega arith) _ inv.3 inv.2 c.loop-u-test.false
