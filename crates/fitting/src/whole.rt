@@ -154,8 +154,8 @@ fn fit_columns(
     high: &mut [i32],
     chosen: &mut [i32],
 ) -> [BranchFit; 127]
-    requires matrix_len { (length matrix.now ≡ matrix_size) × (1 ≤ n) × (n ≤ 64) × (m ≤ 128) × Planned n (ancestors plan.tree) plan }
-    requires low_len { (length low.old ≡ matrix_size) × (length high.old ≡ matrix_size) × (length chosen.old ≡ matrix_size) }
+    requires planned_matrix { (length matrix.now ≡ matrix_size) × (1 ≤ n) × (n ≤ 64) × (m ≤ 128) × Planned n (ancestors plan.tree) plan }
+    requires state_lists { (length low.old ≡ matrix_size) × (length high.old ≡ matrix_size) × (length chosen.old ≡ matrix_size) }
     ensures { Written matrix.now weights.now n m m (ancestors plan.tree) low.old low.new high.old high.new chosen.old chosen.new result }
 {
     let tree = plan.tree;

@@ -132,8 +132,8 @@ fn put_node_lines(
     high: &[i32],
     chosen: &[i32],
 ) -> usize
-    requires le_v { (1 ≤ v) × (v ≤ 126) × (m ≤ columns) }
-    requires low_len { (length low.now ≡ matrix_size) × (length high.now ≡ matrix_size) × (length chosen.now ≡ matrix_size) }
+    requires node_in_matrix { (1 ≤ v) × (v ≤ 126) × (m ≤ columns) }
+    requires state_lists { (length low.now ≡ matrix_size) × (length high.now ≡ matrix_size) × (length chosen.now ≡ matrix_size) }
     ensures { Put (node_texts n (names_in n names.now) low.now high.now chosen.now m v) out.old at out.new result }
 {
     let start = (v - 1) * COLUMNS;
@@ -158,8 +158,8 @@ pub(crate) fn put_state_lines(
     high: &[i32],
     chosen: &[i32],
 ) -> usize
-    requires le_n { (1 ≤ n) × (n ≤ 64) × (m ≤ columns) }
-    requires low_len { (length low.now ≡ matrix_size) × (length high.now ≡ matrix_size) × (length chosen.now ≡ matrix_size) }
+    requires taxa_in_matrix { (1 ≤ n) × (n ≤ 64) × (m ≤ columns) }
+    requires state_lists { (length low.now ≡ matrix_size) × (length high.now ≡ matrix_size) × (length chosen.now ≡ matrix_size) }
     ensures { Put (state_texts n (names_in n names.now) low.now high.now chosen.now m) out.old at out.new result }
 {
     let end = 2 * n - 1;

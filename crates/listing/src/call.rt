@@ -40,7 +40,7 @@ fn put_file(
     high: &mut [i32],
     chosen: &mut [i32],
 ) -> usize
-    requires matrix_len { (length matrix.old ≡ matrix_size) × (weights.old ≡ replicate columns 1) × (length names.old ≡ names_size)
+    requires read_lists { (length matrix.old ≡ matrix_size) × (weights.old ≡ replicate columns 1) × (length names.old ≡ names_size)
         × (length branches.old ≡ lent_numbers) }
     requires state_lists { StateLists low.old high.old chosen.old }
     ensures { Put (output file.now) out.old 0 out.new result }

@@ -198,7 +198,7 @@ fn put_built(
     chosen: &mut [i32],
 ) -> usize
     requires lent_matrix { LentMatrix matrix.old header.n header.m × LentWeights weights.now header.m }
-    requires kind_value { (header.kind ≡ Kind.Wagner) × StateLists low.old high.old chosen.old }
+    requires wagner_file { (header.kind ≡ Kind.Wagner) × StateLists low.old high.old chosen.old }
     ensures { ListsJob header (lent matrix.old weights.now names.now [])
         out.old out.new result }
 {
@@ -223,7 +223,7 @@ fn put_own(
     chosen: &mut [i32],
 ) -> usize
     requires lent_matrix { LentMatrix matrix.now header.n header.m × LentWeights weights.now header.m }
-    requires kind_value { (header.kind ≡ Kind.Own) × BranchingLent header branches.now × StateLists low.old high.old chosen.old }
+    requires own_file { (header.kind ≡ Kind.Own) × BranchingLent header branches.now × StateLists low.old high.old chosen.old }
     ensures { ListsJob header (lent matrix.now weights.now names.now branches.now)
         out.old out.new result }
 {

@@ -76,8 +76,8 @@ fn ask_codes(text: &[u8]) -> Asked
 
 // The questions put to a row's line: its number of fields, its name and its codes.
 fn ask_row(line: &[u8], header: Header, rows: &[u8], starts: &[usize], count: usize) -> Asked
-    requires le_m { 1 ≤ header.m }
-    requires count_in_bounds { count ≤ length starts.now }
+    requires some_characters { 1 ≤ header.m }
+    requires rows_passed { count ≤ length starts.now }
     ensures { result ≡ ask_row header (names_passed rows.now starts.now count) line.now }
 {
     let counted = separators(line, TAB) == header.m;
@@ -163,8 +163,8 @@ fn ask_after(rest: &[u8], line: usize, header: Header) -> Read
 
 // The questions put to what stands behind the header of a file: the rows, and then what stands behind them.
 fn ask_behind(file: &[u8], header: Header) -> Read
-    requires n_le_most_taxa { (header.n ≤ most_taxa) × (1 ≤ header.m) }
-    requires header_in_bounds { header_lines header < length (lines_of file.now) }
+    requires within_limits { (header.n ≤ most_taxa) × (1 ≤ header.m) }
+    requires lines_left { header_lines header < length (lines_of file.now) }
     ensures { read_says result ≡ with_header (ask_behind header (lines_of file.now)) }
 {
     let passed = header_lines(header);

@@ -43,8 +43,8 @@ fn write_job(
     names: &mut [u8],
     branches: &mut [usize],
 )
-    requires header_value { value header ≡ with_header (read_answer file.now) }
-    requires branches_value { full_size (length matrix.old) (length weights.old) (length names.old) (length branches.old) ≡ true }
+    requires answered { value header ≡ with_header (read_answer file.now) }
+    requires full_sizes { full_size (length matrix.old) (length weights.old) (length names.old) (length branches.old) ≡ true }
     ensures { lent matrix.new weights.new names.new branches.new
         ≡ job_written (job_in file.now)
         (lent matrix.old weights.old names.old branches.old) }

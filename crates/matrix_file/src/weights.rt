@@ -74,8 +74,8 @@ fn weight_said(line: &[u8], weighed: bool, place: usize) -> u8
 
 // Writes the weights of the m characters over the front of a list.
 pub(crate) fn write_weights(weights: &mut [u8], text: &[u8], header: Header)
-    requires text_value { (not header.weighed || weights_form header.m (optional_fields (lines_of text.now))) ≡ true }
-    requires m_in_bounds { header.m ≤ length weights.old }
+    requires weights_formed { (not header.weighed || weights_form header.m (optional_fields (lines_of text.now))) ≡ true }
+    requires room { header.m ≤ length weights.old }
     ensures { weights.new
         ≡ over 0 (weights_said header.weighed header.m (optional_fields (lines_of text.now))) weights.old }
 {

@@ -18,8 +18,8 @@ use matrix::COLUMNS;
 
 // Writes the codes of a row over the front of a list.
 fn write_codes(out: &mut [i32], text: &[u8])
-    requires text_value { every code_form (fields_of text.now) ≡ true }
-    requires text_in_bounds { length (fields_of text.now) ≤ length out.old }
+    requires codes_formed { every code_form (fields_of text.now) ≡ true }
+    requires room { length (fields_of text.now) ≤ length out.old }
     ensures { out.new ≡ over 0 (map code_of (fields_of text.now)) out.old }
 {
     let mut j = 0;
@@ -44,8 +44,8 @@ fn byte_or_zero(text: &[u8], i: usize) -> u8
 
 // Writes a name and zeros behind it over the first 16 bytes of a list.
 fn write_name(out: &mut [u8], name: &[u8])
-    requires name_len_bound { length name.now ≤ name_size }
-    requires name_size_in_bounds { name_size ≤ length out.old }
+    requires name_short { length name.now ≤ name_size }
+    requires room { name_size ≤ length out.old }
     ensures { out.new ≡ over 0 (padded name.now) out.old }
 {
     let mut i = 0;

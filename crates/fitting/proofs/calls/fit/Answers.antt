@@ -1,5 +1,5 @@
 -- `fitting::calls::fit` meets its contract: a refusal is that of the questions, and leaves the lists as they were. Assumes nothing.
-use Rattle.std.proofs.Common.{◌≡◌, ℕ, true, false, eqb, List, length, ℤ, sym, ◌∙◌, rules, eqb-true}
+use Rattle.std.proofs.Common.{◌≡◌, ℕ, true, false, eqb, List, length, ℤ, sym, ◌∙◌, eqb-true}
 use mathlib.Core.Bool.{and-eq-true_iff}
 use borrow.Author.Tests.{not-true, not-false}
 use Rattle.matrix.specs.Shape.{matrix_size}

@@ -1,5 +1,5 @@
 -- `fitting::calls::states` meets its contract: a refusal is that of the questions. Assumes nothing.
-use Rattle.std.proofs.Common.{sym, ◌∙◌, rules}
+use Rattle.std.proofs.Common.{sym, ◌∙◌}
 use Rattle.fitting.proofs.NodeRange.{node_answer, node_refused}
 use Rattle.fitting.proofs.calls.states.Goals as goal
 

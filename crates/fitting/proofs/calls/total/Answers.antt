@@ -1,5 +1,5 @@
 -- `fitting::calls::total` meets its contract: a refusal is that of the questions. Assumes nothing.
-use Rattle.std.proofs.Common.{sym, ◌∙◌, rules}
+use Rattle.std.proofs.Common.{sym, ◌∙◌}
 use Rattle.fitting.specs.Calls.{total_answer}
 use Rattle.fitting.proofs.Passed.{total_passed}
 use Rattle.fitting.proofs.calls.total.Goals as goal

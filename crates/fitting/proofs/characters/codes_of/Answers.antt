@@ -1,5 +1,5 @@
 -- What the check leaves of `fitting::characters::codes_of`.
-use Rattle.std.proofs.Common.{◌≡◌, ℕ, ◌+◌, ◌-◌, ◌<◌, ◌≤◌, length, get_or, pos, refl, arith, length-set, to_z-of_z, w32, rules}
+use Rattle.std.proofs.Common.{◌≡◌, ◌+◌, ◌-◌, ◌<◌, length, get_or, pos, refl, arith, length-set, to_z-of_z, w32}
 use borrow.Author.Rules.{sfits_of}
 use Rattle.matrix.specs.Shape.{row_start}
 use Rattle.lists.proofs.Filling.{filled_next}

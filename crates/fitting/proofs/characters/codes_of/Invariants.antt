@@ -1,8 +1,6 @@
 -- `fitting::characters::codes_of` meets its contract. The loop's invariant: the codes of the taxa passed are read. Assumes nothing.
-use Rattle.std.proofs.Common.{◌≡◌, ℕ, ◌+◌, ◌-◌, ◌<◌, ◌≤◌, length, get_or, pos, refl, arith, length-set, to_z-of_z, w32, rules}
-use borrow.Author.Rules.{sfits_of}
+use Rattle.std.proofs.Common.{◌≡◌, ℕ, ◌+◌, ◌-◌, ◌<◌, ◌≤◌, length, get_or, pos}
 use Rattle.matrix.specs.Shape.{row_start}
-use Rattle.lists.proofs.Filling.{filled_next}
 use Rattle.fitting.proofs.characters.codes_of.Given as goal
 
 abbrev pub invariant-loop-v : goal.invariant-loop-v

@@ -1,9 +1,9 @@
 -- What the check leaves of `fitting::characters::fit_character`.
-use Rattle.std.proofs.Common.{◌≡◌, ℕ, ◌-◌, ◌<◌, ◌≤◌, leb, length, get_or, ℤ, pos, refl, ◌∙◌, arith, length-set, to_z-of_z, w32, to_z, of_z, rules}
+use Rattle.std.proofs.Common.{◌≡◌, ◌<◌, leb, length, get_or, ℤ, pos, refl, ◌∙◌, arith, length-set, to_z-of_z, w32, to_z, of_z}
 use borrow.Author.Rules.{sfits_of}
 use Rattle.matrix.specs.Shape.{last_node}
 use Rattle.branching.specs.Walks.{below_at}
-use Rattle.fitting.specs.Steps.{part_at, seen_at, states_at, states_from}
+use Rattle.fitting.specs.Steps.{part_at, seen_at, states_from}
 use Rattle.lists.proofs.Filling.{filled_next}
 use Rattle.fitting.proofs.Pass.Found.{states_found}
 use Rattle.fitting.proofs.characters.fit_character.Goals as goal
@@ -71,7 +71,7 @@ loop-v-preserved c =
           (λ u s. s ≡ states_from (leb u n) (get_or codes u (pos 0)) (part_at parts (below_at below u).first) (part_at parts
           (below_at below u).second) (seen_at seen u))
           (record { low = pos 0; high = pos 0; chosen = pos 0 }) loop.states 1 loop.v c.states_of.result room inv.4
-          (rw code_is c c.states_of.ensures),
+          (rw code_is at c.states_of.ensures),
     )
 
 pub returns : goal.returns

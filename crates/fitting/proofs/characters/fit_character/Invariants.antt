@@ -1,12 +1,8 @@
 -- `fitting::characters::fit_character` meets its contract. The loop's invariant: the states of the nodes passed are those found from both
 -- passes. Assumes nothing.
-use Rattle.std.proofs.Common.{◌≡◌, ℕ, ◌-◌, ◌<◌, ◌≤◌, leb, length, get_or, ℤ, pos, refl, ◌∙◌, arith, length-set, to_z-of_z, w32, to_z, of_z, rules}
-use borrow.Author.Rules.{sfits_of}
-use Rattle.matrix.specs.Shape.{last_node}
+use Rattle.std.proofs.Common.{◌≡◌, ℕ, ◌-◌, ◌<◌, ◌≤◌, leb, length, get_or, pos}
 use Rattle.branching.specs.Walks.{below_at}
 use Rattle.fitting.specs.Steps.{part_at, seen_at, states_at, states_from}
-use Rattle.lists.proofs.Filling.{filled_next}
-use Rattle.fitting.proofs.Pass.Found.{states_found}
 use Rattle.fitting.proofs.characters.fit_character.Given as goal
 
 abbrev pub invariant-loop-v : goal.invariant-loop-v

@@ -1,5 +1,5 @@
 -- `fitting::characters::least_cost` meets its contract. Assumes nothing.
-use Rattle.std.proofs.Common.{◌≡◌, ℕ, ◌+◌, ◌-◌, ◌*◌, ◌<◌, ◌≤◌, List, get_or, ℤ, pos, sym, ap, ◌∙◌, arith, to_z-of_z, w32, to_z, of_z, rules}
+use Rattle.std.proofs.Common.{◌≡◌, ℕ, ◌+◌, ◌-◌, ◌*◌, ◌<◌, ◌≤◌, List, get_or, ℤ, pos, sym, ap, ◌∙◌, arith, to_z-of_z, w32, to_z, of_z}
 use Rattle.lists.specs.Numbers.{numbers}
 use Rattle.lists.specs.Sums.{sum_over}
 use Rattle.branching.specs.Nodes.{other_nodes}

@@ -1,5 +1,5 @@
 -- `fitting::characters::outside_of` meets its contract: its test is the definition's. Assumes nothing.
-use Rattle.std.proofs.Common.{to_z-of_z, rules}
+use Rattle.std.proofs.Common.{to_z-of_z}
 use Rattle.fitting.proofs.characters.outside_of.Goals as goal
 
 pub returns-then-hangs : goal.returns-then-hangs

@@ -1,6 +1,6 @@
 -- `fitting::characters::part_of` meets its contract: each answer follows from the test that led to it. Assumes nothing.
-use Rattle.std.proofs.Common.{◌≡◌, ℕ, ◌+◌, Bool, true, false, ℤ, sym, ap, ◌∙◌, ap₂, true≢false, arith, to_z-of_z, rules}
-use Rattle.fitting.specs.Sets.{only, join, gap}
+use Rattle.std.proofs.Common.{◌≡◌, ℕ, ◌+◌, Bool, true, false, ℤ, sym, ap, ◌∙◌, ap₂, true≢false, arith, to_z-of_z}
+use Rattle.fitting.specs.Sets.{only, join}
 use Rattle.fitting.specs.Steps.{GapOf, PlusOf, PartOf}
 use Rattle.fitting.specs.declared.spans.Span.{Span}
 use Rattle.fitting.specs.declared.characters.Part.{Part}

@@ -1,12 +1,11 @@
 -- `fitting::characters::parts_up` meets its contract. The loop's invariant: what is kept of the nodes passed is right. Assumes nothing.
-use Rattle.std.proofs.Common.{◌≡◌, ℕ, ◌+◌, ◌-◌, ◌≤◌, true, List, length, get_or, ℤ, pos, refl, arith, length-set, to_z-of_z, w32, to_z, of_z, rules}
-use borrow.Author.Rules.{sfits_of}
+use Rattle.std.proofs.Common.{◌≡◌, ℕ, ◌≤◌, true, List, length, ℤ}
 use Rattle.matrix.specs.Shape.{last_node}
-use Rattle.branching.specs.Walks.{WalkOf, node_at, Belows, below_at}
+use Rattle.branching.specs.Walks.{WalkOf, Belows}
 use Rattle.branching.specs.Within.{branching_within}
 use Rattle.fitting.specs.Assignments.{character}
 use Rattle.fitting.specs.Steps.{Codes}
-use Rattle.fitting.proofs.Pass.Up.{UpFrom, up_next, up-all}
+use Rattle.fitting.proofs.Pass.Up.{UpFrom}
 use Rattle.fitting.proofs.characters.parts_up.Given as goal
 
 abbrev pub invariant-loop-i : goal.invariant-loop-i

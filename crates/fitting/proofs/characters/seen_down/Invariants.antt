@@ -1,16 +1,11 @@
 -- `fitting::characters::seen_down` meets its contract. The loop's invariant: what is kept of the nodes passed is right. Assumes nothing.
-use Rattle.std.proofs.Common.{◌≡◌, ℕ, ◌-◌, ◌≤◌, true, eqb, List, length, get_or, replicate, ℤ, pos, refl, arith, length-set, to_z-of_z, w32, to_z, of_z, rules}
-use borrow.Author.Rules.{sfits_of}
+use Rattle.std.proofs.Common.{◌≡◌, ℕ, ◌-◌, ◌≤◌, true, List, length, ℤ}
 use Rattle.matrix.specs.Shape.{last_node}
-use Rattle.branching.specs.Ancestors.{ancestor}
-use Rattle.branching.specs.Walks.{WalkOf, node_at, Belows}
+use Rattle.branching.specs.Walks.{WalkOf, Belows}
 use Rattle.branching.specs.Within.{branching_within}
 use Rattle.fitting.specs.Assignments.{character}
-use Rattle.fitting.specs.declared.characters.Seen.{Seen}
-use Rattle.fitting.specs.declared.spans.Span.{Span}
-use Rattle.fitting.specs.Steps.{Codes, PartsAre, part_at, outside_from, seen_at}
-use Rattle.fitting.proofs.Pass.Standing.{sister_within}
-use Rattle.fitting.proofs.Pass.Down.{DownTo, down_start, down_next, down_all}
+use Rattle.fitting.specs.Steps.{Codes, PartsAre}
+use Rattle.fitting.proofs.Pass.Down.{DownTo}
 use Rattle.fitting.proofs.characters.seen_down.Given as goal
 
 abbrev pub invariant-loop-i : goal.invariant-loop-i

@@ -1,5 +1,6 @@
 -- `fitting::characters::state_of` meets its contract: its test is the definition's. Assumes nothing.
-use Rattle.std.proofs.Common.{◌∙◌, to_z-of_z, rules}
+use mir.Syntax.{w32}
+use Rattle.std.proofs.Common.{◌∙◌, to_z-of_z}
 use borrow.Author.Rules.{sfits_of}
 use Rattle.fitting.proofs.characters.state_of.Goals as goal
 

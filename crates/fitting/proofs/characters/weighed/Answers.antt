@@ -1,5 +1,5 @@
 -- `fitting::characters::weighed` meets its contract: 8 bits times at most 2 ^ 32 fits 64. Assumes nothing.
-use Rattle.std.proofs.Common.{◌≡◌, ℕ, ◌*◌, ◌≤◌, ap, mul-le-mul, arith, rules}
+use Rattle.std.proofs.Common.{ℕ, ◌*◌, ◌≤◌, ap, mul-le-mul, arith}
 use Rattle.fitting.proofs.characters.weighed.Goals as goal
 
 -- a number of 8 bits times one of at most 2 ^ 32 is at most 2 ^ 40

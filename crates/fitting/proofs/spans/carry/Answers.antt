@@ -1,8 +1,6 @@
 -- What the check leaves of `fitting::spans::carry`.
-use Rattle.std.proofs.Common.{◌≡◌, ◌+◌, ◌-◌, ◌<◌, ◌≤◌, ◌++◌, length, get_or, take, drop, ℤ, pos, refl, arith, length-set, to_z-of_z, w32, to_z, of_z, rules}
+use Rattle.std.proofs.Common.{◌≡◌, ◌<◌, ◌≤◌, length, get_or, ℤ, pos, refl, arith, length-set, to_z-of_z, w32, to_z, of_z, rules}
 use borrow.Author.Rules.{sfits_of}
-use Rattle.difference.specs.Rows.{lower, higher}
-use Rattle.fitting.specs.Steps.{carried}
 use Rattle.fitting.proofs.Sets.Carrying.{carry_next, carry_end}
 use Rattle.fitting.proofs.spans.carry.Goals as goal
 
@@ -21,7 +19,7 @@ loop-i-preserved c =
       omega arith,
       simp length-set inv.1,
       rw (to_z-of_z {w = w32} (sfits_of c.lower.type_inv), to_z-of_z {w = w32} (sfits_of c.higher-on.type_inv), low, high)
-          (carry_next loop.sorted _ (to_z w32 loop.on) _ few loop.i c.loop-i-test.true inv.2),
+          (carry_next loop.sorted _ _ _ few loop.i c.loop-i-test.true inv.2),
     )
 
 pub returns : goal.returns
@@ -31,4 +29,4 @@ returns c =
     let few : c.args.count ≤ length loop.sorted = omega arith in
     let room : c.args.count < length loop.sorted = omega arith in
     let same : loop.i ≡ c.args.count = omega (arith, c.loop-i-test.false) in
-    rw (to_z-of_z c.ranges.state) at (carry_end loop.sorted _ (to_z w32 loop.on) _ few loop.i same room inv.2)
+    rw (to_z-of_z c.ranges.state) at (carry_end loop.sorted _ _ _ few loop.i same room inv.2)

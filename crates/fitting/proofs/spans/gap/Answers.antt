@@ -1,6 +1,6 @@
 -- `fitting::spans::gap` meets its contract: it calls what the definition names, and two states of 32 bits are at most 2 ^ 32 apart.
 -- Assumes nothing.
-use Rattle.std.proofs.Common.{◌≡◌, ℕ, ◌^◌, ℤ, w32, SFits, rules}
+use Rattle.std.proofs.Common.{◌≡◌, ℕ, ◌^◌, ℤ, w32, SFits}
 use borrow.Author.Rules.{sfits_of}
 use lib.Signed.{nat_abs-le}
 use Rattle.difference.specs.Rows.{apart, lower, higher}

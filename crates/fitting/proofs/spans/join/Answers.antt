@@ -1,5 +1,6 @@
 -- `fitting::spans::join` meets its contract: it calls what the definition names. Assumes nothing.
-use Rattle.std.proofs.Common.{◌≡◌, ℤ, ◌∙◌, ap₂, to_z-of_z, rules}
+use mir.Syntax.{w32}
+use Rattle.std.proofs.Common.{◌≡◌, ℤ, ◌∙◌, ap₂, to_z-of_z}
 use borrow.Author.Rules.{sfits_of}
 use Rattle.difference.specs.Rows.{lower, higher}
 use Rattle.fitting.specs.declared.spans.Span.{Span}

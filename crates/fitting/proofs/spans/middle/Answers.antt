@@ -1,5 +1,5 @@
 -- `fitting::spans::middle` meets its contract: the six ends are carried in one by one, the last first. Assumes nothing.
-use Rattle.std.proofs.Common.{[], take, replicate, pos, ◌∙◌, ap₂, to_z-of_z, w32, rules}
+use Rattle.std.proofs.Common.{[], take, replicate, pos, ◌∙◌, ap₂, to_z-of_z, w32}
 use borrow.Author.Rules.{sfits_of}
 use Rattle.fitting.specs.Steps.{carried}
 use Rattle.fitting.proofs.Bits.{of_bit}

@@ -1,12 +1,10 @@
 -- What the check leaves of `fitting::totals::sum_costs`.
-use Rattle.std.proofs.Common.{◌≡◌, ◌+◌, ◌-◌, ◌*◌, ◌≤◌, true, sym, refl, ◌∙◌, ap₂, arith, rules}
+use Rattle.std.proofs.Common.{◌≡◌, ◌+◌, ◌-◌, ◌*◌, sym, refl, ◌∙◌, ap₂, arith}
 use Rattle.lists.specs.Numbers.{numbers}
 use Rattle.lists.specs.Sums.{sum_over}
 use Rattle.matrix.specs.Shape.{weight_of}
 use Rattle.matrix.specs.NodeRows.{rows_of}
-use Rattle.matrix.specs.Questions.{LentMatrix, LentWeights}
 use Rattle.branching.specs.Ancestors.{ancestors}
-use Rattle.branching.specs.Within.{branching_within}
 use Rattle.fitting.specs.Steps.{character_length}
 use Rattle.lists.proofs.Filling.{sum_next}
 use Rattle.fitting.proofs.Columns.{column-codes, character-most, characters-most}

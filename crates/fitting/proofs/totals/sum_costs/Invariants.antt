@@ -1,5 +1,5 @@
 -- `fitting::totals::sum_costs` meets its contract. The loop's invariant: the sum is that of the characters passed. Assumes nothing.
-use Rattle.std.proofs.Common.{◌≡◌, ◌+◌, ◌-◌, ◌*◌, ◌≤◌, true, sym, refl, ◌∙◌, ap₂, arith, rules}
+use Rattle.std.proofs.Common.{◌≡◌, ◌+◌, ◌-◌, ◌*◌, ◌≤◌, true}
 use Rattle.lists.specs.Numbers.{numbers}
 use Rattle.lists.specs.Sums.{sum_over}
 use Rattle.matrix.specs.Shape.{weight_of}
@@ -8,9 +8,6 @@ use Rattle.matrix.specs.Questions.{LentMatrix, LentWeights}
 use Rattle.branching.specs.Ancestors.{ancestors}
 use Rattle.branching.specs.Within.{branching_within}
 use Rattle.fitting.specs.Steps.{character_length}
-use Rattle.lists.proofs.Filling.{sum_next}
-use Rattle.fitting.proofs.Columns.{column-codes, character-most, characters-most}
-use Rattle.fitting.proofs.Matrix.LeastCost.{total-characters}
 use Rattle.fitting.proofs.totals.sum_costs.Given as goal
 
 abbrev pub invariant-loop-j : goal.invariant-loop-j

@@ -1,9 +1,9 @@
 -- What the check leaves of `fitting::whole::add_lengths`.
-use Rattle.std.proofs.Common.{◌≡◌, ◌-◌, ◌<◌, ◌≤◌, length, refl, arith, length-set, rules}
+use Rattle.std.proofs.Common.{◌≡◌, ◌≤◌, refl, arith, length-set, rules}
 use Rattle.branching.specs.Ancestors.{ancestors, ancestor}
 use Rattle.fitting.specs.Steps.{states_at}
 use Rattle.fitting.specs.Lists.{no_branch, branch_at, Longer}
-use Rattle.lists.proofs.Filling.{FilledTo, filled_more}
+use Rattle.lists.proofs.Filling.{filled_more}
 use Rattle.fitting.proofs.whole.add_lengths.Goals as goal
 
 pub loop-v-init : goal.loop-v-init

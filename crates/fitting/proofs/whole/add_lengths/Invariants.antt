@@ -1,9 +1,9 @@
 -- `fitting::whole::add_lengths` meets its contract. The loop's invariant: the branches of the nodes passed are longer. Assumes nothing.
-use Rattle.std.proofs.Common.{◌≡◌, ◌-◌, ◌<◌, ◌≤◌, length, refl, arith, length-set, rules}
-use Rattle.branching.specs.Ancestors.{ancestors, ancestor}
+use Rattle.std.proofs.Common.{◌≡◌, ◌-◌, ◌≤◌, length}
+use Rattle.branching.specs.Ancestors.{ancestor}
 use Rattle.fitting.specs.Steps.{states_at}
 use Rattle.fitting.specs.Lists.{no_branch, branch_at, Longer}
-use Rattle.lists.proofs.Filling.{FilledTo, filled_more}
+use Rattle.lists.proofs.Filling.{FilledTo}
 use Rattle.fitting.proofs.whole.add_lengths.Given as goal
 
 abbrev pub invariant-loop-v : goal.invariant-loop-v

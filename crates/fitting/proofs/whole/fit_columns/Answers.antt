@@ -1,8 +1,7 @@
 -- What the check leaves of `fitting::whole::fit_columns`.
-use Rattle.std.proofs.Common.{◌≡◌, ◌+◌, ◌-◌, ◌≤◌, length, refl, ap, ◌∙◌, arith, rules}
+use Rattle.std.proofs.Common.{◌≡◌, ◌-◌, length, refl, ap, ◌∙◌, arith}
 use Rattle.matrix.specs.Shape.{weight_of}
 use Rattle.branching.specs.Ancestors.{ancestors}
-use Rattle.fitting.specs.Lists.{Written}
 use Rattle.fitting.proofs.Rewriting.{length-column}
 use Rattle.fitting.proofs.Gathering.{start_written, written_more}
 use Rattle.fitting.proofs.whole.fit_columns.Goals as goal

@@ -1,10 +1,7 @@
 -- `fitting::whole::fit_columns` meets its contract. The loop's invariant: the characters passed are fitted. Assumes nothing.
-use Rattle.std.proofs.Common.{◌≡◌, ◌+◌, ◌-◌, ◌≤◌, length, refl, ap, ◌∙◌, arith, rules}
-use Rattle.matrix.specs.Shape.{weight_of}
+use Rattle.std.proofs.Common.{◌≡◌, ◌+◌, ◌-◌, ◌≤◌, length}
 use Rattle.branching.specs.Ancestors.{ancestors}
 use Rattle.fitting.specs.Lists.{Written}
-use Rattle.fitting.proofs.Rewriting.{length-column}
-use Rattle.fitting.proofs.Gathering.{start_written, written_more}
 use Rattle.fitting.proofs.whole.fit_columns.Given as goal
 
 abbrev pub invariant-loop-j : goal.invariant-loop-j

@@ -1,8 +1,8 @@
 -- What the check leaves of `fitting::whole::fit_of`.
-use Rattle.std.proofs.Common.{◌≡◌, ◌-◌, ◌<◌, ◌≤◌, false, length, refl, arith, length-set, rules}
+use Rattle.std.proofs.Common.{◌≡◌, false, refl, arith, length-set}
 use Rattle.lists.proofs.Filled.{get_d_replicate}
 use Rattle.fitting.specs.Lists.{branch_at}
-use Rattle.lists.proofs.Filling.{FilledTo, filled_more}
+use Rattle.lists.proofs.Filling.{filled_more}
 use Rattle.fitting.proofs.whole.fit_of.Goals as goal
 
 pub loop-v-init : goal.loop-v-init

@@ -1,8 +1,7 @@
 -- `fitting::whole::fit_of` meets its contract. The loop's invariant: lengths and marks of the nodes passed are written. Assumes nothing.
-use Rattle.std.proofs.Common.{◌≡◌, ◌-◌, ◌<◌, ◌≤◌, false, length, refl, arith, length-set, rules}
-use Rattle.lists.proofs.Filled.{get_d_replicate}
+use Rattle.std.proofs.Common.{◌≡◌, ◌-◌, ◌≤◌, false, length}
 use Rattle.fitting.specs.Lists.{branch_at}
-use Rattle.lists.proofs.Filling.{FilledTo, filled_more}
+use Rattle.lists.proofs.Filling.{FilledTo}
 use Rattle.fitting.proofs.whole.fit_of.Given as goal
 
 abbrev pub invariant-loop-v : goal.invariant-loop-v

@@ -1,5 +1,5 @@
 -- `fitting::whole::fit_shapes` meets its contract: its tests are the definition's. Assumes nothing.
-use Rattle.std.proofs.Common.{sym, ◌∙◌, rules, eq-eqb, ne_eqb}
+use Rattle.std.proofs.Common.{sym, ◌∙◌, eq-eqb, ne_eqb}
 use borrow.Author.Tests.{not-true, not-false}
 use Rattle.fitting.specs.Lists.{fit_shapes}
 use Rattle.fitting.proofs.whole.fit_shapes.Goals as goal

@@ -1,5 +1,4 @@
 -- `fitting::whole::lengthened` meets its contract. Assumes nothing.
-use Rattle.std.proofs.Common.{rules}
 use borrow.Author.Rules.{sfits_of}
 use Rattle.difference.specs.Rows.{part}
 use Rattle.fitting.proofs.Bits.{of_bits}

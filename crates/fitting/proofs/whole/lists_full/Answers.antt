@@ -1,5 +1,5 @@
 -- `fitting::whole::lists_full` meets its contract: its tests are the definition's. Assumes nothing.
-use Rattle.std.proofs.Common.{◌≡◌, false, eqb, rules, eq-eqb, ne_eqb}
+use Rattle.std.proofs.Common.{◌≡◌, false, eqb, eq-eqb, ne_eqb}
 use Rattle.matrix.specs.Shape.{matrix_size}
 use Rattle.fitting.specs.Calls.{lists_full}
 use Rattle.fitting.proofs.whole.lists_full.Goals as goal

@@ -1,5 +1,5 @@
 -- `fitting::whole::marks` meets its contract. Assumes nothing.
-use Rattle.std.proofs.Common.{ltb, ap, rules}
+use Rattle.std.proofs.Common.{ltb, ap}
 use borrow.Author.Rules.{sfits_of}
 use Rattle.difference.specs.Rows.{apart}
 use Rattle.fitting.proofs.Bits.{of_bits}

@@ -1,5 +1,6 @@
 -- `fitting::whole::state_in` meets its contract: it is by cases, as the definition is. Assumes nothing.
-use Rattle.std.proofs.Common.{to_z-of_z, rules}
+use mir.Syntax.{w32}
+use Rattle.std.proofs.Common.{to_z-of_z}
 use borrow.Author.Rules.{sfits_of}
 use Rattle.fitting.proofs.whole.state_in.Goals as goal
 

@@ -1,17 +1,12 @@
 -- `fitting::whole::states_at` meets its contract. Assumes nothing.
-use Rattle.std.proofs.Common.{length, sym, ◌∙◌, true≢false, arith, rules}
+use Rattle.std.proofs.Common.{sym, ◌∙◌, true≢false, arith}
 use borrow.Author.Tests.{not-true, not-false}
-use Rattle.matrix.specs.Shape.{matrix_size, last_node}
+use Rattle.matrix.specs.Shape.{last_node}
 use Rattle.matrix.proofs.Passing.{one_to-true, true-one_to}
 use Rattle.fitting.proofs.Columns.{column-codes}
-use Rattle.fitting.proofs.Shapes.{Shaped, shapes_true, true_shape}
+use Rattle.fitting.proofs.Shapes.{shapes_true, true_shape}
 use Rattle.fitting.proofs.Pass.Standing.{planned_own}
 use Rattle.fitting.proofs.whole.states_at.Goals as goal
-
--- the shapes are right where the test passed
-shaped : (c : goal.Else-not-fit_shapes) → Shaped (length c.args.matrix.now) c.args.n
-    c.args.m matrix_size matrix_size matrix_size
-shaped c = shapes_true _ _ _ _ _ _ (sym c.fit_shapes.ensures ∙ not-false _ c.if-not-fit_shapes.false-raw)
 
 pub returns-then-not-fit_shapes : goal.returns-then-not-fit_shapes
 returns-then-not-fit_shapes c = record {
@@ -31,13 +26,13 @@ returns-then-v-ge-PLACES c = record { are = λ branches lent p q l h. let few = 
 
 pub codes_of-codes-requires : goal.codes_of-codes-requires
 codes_of-codes-requires c =
-    let is = shaped c.before.before.before.before in
+    let is = shapes_true _ _ _ _ _ _ (sym c.fit_shapes.ensures ∙ not-false _ c.if-not-fit_shapes.false-raw) in
     let named = one_to-true _ _ (sym c.one_to.ensures ∙ not-false _ c.if-not-one_to.false-raw) in
     let few = is.characters in
     (is.is_matrix, is.taxa, named.0, omega (arith, named.1))
 
 pub fit_character-states-requires : goal.fit_character-states-requires
-fit_character-states-requires c = ((shaped c.before.before.before.before.before).taxa, planned_own c.plan_of-plan.ensures)
+fit_character-states-requires c = ((shapes_true _ _ _ _ _ _ (sym c.fit_shapes.ensures ∙ not-false _ c.if-not-fit_shapes.false-raw)).taxa, planned_own c.plan_of-plan.ensures)
 
 pub returns : goal.returns
 returns c =

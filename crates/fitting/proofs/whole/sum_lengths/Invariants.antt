@@ -1,10 +1,8 @@
 -- `fitting::whole::sum_lengths` meets its contract. The loop's invariant: the sum is that of the branches passed. Assumes nothing.
-use Rattle.std.proofs.Common.{◌≡◌, ◌+◌, ◌-◌, ◌*◌, ◌^◌, ◌<◌, ◌≤◌, sym, refl, ◌∙◌, ap₂, arith, rules}
+use Rattle.std.proofs.Common.{◌≡◌, ◌-◌, ◌^◌, ◌<◌, ◌≤◌}
 use Rattle.lists.specs.Numbers.{numbers}
 use Rattle.lists.specs.Sums.{sum_over}
-use Rattle.branching.specs.Nodes.{other_nodes}
 use Rattle.fitting.specs.Lists.{branch_at}
-use Rattle.lists.proofs.Filling.{sum_next}
 use Rattle.fitting.proofs.whole.sum_lengths.Given as goal
 
 abbrev pub invariant-loop-node : goal.invariant-loop-node

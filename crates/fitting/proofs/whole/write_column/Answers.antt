@@ -1,9 +1,8 @@
 -- What the check leaves of `fitting::whole::write_column`.
-use Rattle.std.proofs.Common.{◌≡◌, ◌+◌, ◌-◌, ◌≤◌, max, [], ◌∷◌, map, length, ℤ, refl, arith, length-set, to_z-of_z, w32, to_z, of_z, rules}
+use Rattle.std.proofs.Common.{◌≡◌, ◌+◌, ◌-◌, ℤ, refl, arith, length-set, to_z-of_z, w32, to_z, of_z}
 use borrow.Author.Rules.{sfits_of}
 use Rattle.lists.specs.Numbers.{numbers}
 use Rattle.lists.specs.Over.{stripes}
-use Rattle.matrix.specs.Shape.{columns, row_start}
 use Rattle.fitting.specs.Steps.{states_at}
 use Rattle.fitting.specs.Calls.{state_in}
 use Rattle.fitting.specs.Lists.{with_column}

@@ -1,13 +1,10 @@
 -- `fitting::whole::write_column` meets its contract. The loop's invariant: the states of the HTUs passed are written. Assumes nothing.
-use Rattle.std.proofs.Common.{◌≡◌, ◌+◌, ◌-◌, ◌≤◌, max, [], ◌∷◌, map, length, ℤ, refl, arith, length-set, to_z-of_z, w32, to_z, of_z, rules}
-use borrow.Author.Rules.{sfits_of}
+use Rattle.std.proofs.Common.{◌≡◌, ◌+◌, ◌-◌, ◌≤◌, max, [], ◌∷◌, map, length}
 use Rattle.lists.specs.Numbers.{numbers}
 use Rattle.lists.specs.Over.{stripes}
 use Rattle.matrix.specs.Shape.{columns, row_start}
 use Rattle.fitting.specs.Steps.{states_at}
 use Rattle.fitting.specs.Calls.{state_in}
-use Rattle.fitting.specs.Lists.{with_column}
-use Rattle.fitting.proofs.Rewriting.{column-more}
 use Rattle.fitting.proofs.whole.write_column.Given as goal
 
 abbrev pub invariant-loop-v : goal.invariant-loop-v

@@ -1,6 +1,5 @@
 -- `prim::network::between` meets its contract: a row of at most 128 codes is the first 128 of itself. Assumes nothing.
 use mathlib.Core.Path.{ap, ap₂, ◌∙◌}
-use borrow.Author.Rules.{rules}
 use lib.ListN.{take}
 use Rattle.matrix.proofs.Row.{row_128}
 use Rattle.difference.specs.Rows.{difference, node_difference}

@@ -1,5 +1,4 @@
 -- `prim::network::compared` meets its contract: each answer follows from the tests that led to it. Assumes nothing.
-use borrow.Author.Rules.{rules}
 use Rattle.matrix.specs.Shape.{row}
 use Rattle.difference.specs.Rows.{node_difference, difference}
 use Rattle.prim.proofs.Keeping.{compared_placed, compared_moves, compared_stays}

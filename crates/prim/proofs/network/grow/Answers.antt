@@ -1,13 +1,12 @@
 -- What the check leaves of `prim::network::grow`.
 use mathlib.Core.List.{List}
-use Prim.Native.Nat.{ℕ, ◌-◌, ◌≤◌}
+use Prim.Native.Nat.{ℕ, ◌≤◌}
 use native.Mathlib.Omega.{arith}
-use borrow.Author.Rules.{rules}
 use lib.IntN.{ℤ}
 use Rattle.matrix.specs.Shape.{row}
 use Rattle.difference.specs.Rows.{node_difference, difference, most_difference}
 use Rattle.matrix.specs.Questions.{LentMatrix, LentWeights}
-use Rattle.prim.proofs.Growth.{GrownTo, grown-start, grown_end, grown_room, grown-next}
+use Rattle.prim.proofs.Growth.{grown-start, grown_end, grown_room, grown-next}
 use Rattle.prim.proofs.Lent.{taxa-most}
 use Rattle.prim.proofs.network.grow.Goals as goal
 

@@ -1,14 +1,8 @@
 -- `prim::network::grow` meets its contract. The loop's invariant: the links so far are the first of the Prim Network. Assumes nothing.
-use mathlib.Core.List.{List}
-use Prim.Native.Nat.{ℕ, ◌-◌, ◌≤◌}
-use native.Mathlib.Omega.{arith}
-use borrow.Author.Rules.{rules}
-use lib.IntN.{ℤ}
+use Prim.Native.Nat.{◌-◌}
 use Rattle.matrix.specs.Shape.{row}
-use Rattle.difference.specs.Rows.{node_difference, difference, most_difference}
-use Rattle.matrix.specs.Questions.{LentMatrix, LentWeights}
-use Rattle.prim.proofs.Growth.{GrownTo, grown-start, grown_end, grown_room, grown-next}
-use Rattle.prim.proofs.Lent.{taxa-most}
+use Rattle.difference.specs.Rows.{node_difference, difference}
+use Rattle.prim.proofs.Growth.{GrownTo}
 use Rattle.prim.proofs.network.grow.Given as goal
 
 abbrev pub invariant-loop-placed : goal.invariant-loop-placed

@@ -1,7 +1,6 @@
 -- `prim::network::network` meets its contract: the network is grown where the questions pass, and has no link where they refuse.
 -- Assumes nothing.
 use mathlib.Core.Path.{sym, ◌∙◌}
-use borrow.Author.Rules.{rules}
 use Rattle.matrix.proofs.Passing.{matrix_passes}
 use Rattle.prim.proofs.network.network.Goals as goal
 

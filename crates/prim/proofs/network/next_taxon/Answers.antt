@@ -1,11 +1,7 @@
 -- What the check leaves of `prim::network::next_taxon`.
-use mathlib.Core.Path.{◌≡◌, refl, sym}
-use Prim.Native.Nat.{◌+◌, ◌-◌, ◌≤◌}
+use mathlib.Core.Path.{refl, sym}
 use native.Mathlib.Omega.{arith}
-use borrow.Author.Rules.{rules}
-use Rattle.lists.specs.Least.{scanned}
 use Rattle.lists.proofs.Least.{scan_start}
-use Rattle.prim.specs.Growing.{kept_distance, kept_unplaced}
 use Rattle.prim.proofs.Choosing.{next_end}
 use Rattle.prim.proofs.network.next_taxon.Goals as goal
 

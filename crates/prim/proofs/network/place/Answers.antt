@@ -1,14 +1,9 @@
 -- What the check leaves of `prim::network::place`.
-use mathlib.Core.Path.{◌≡◌, refl}
-use Prim.Native.Nat.{◌-◌, ◌≤◌}
+use mathlib.Core.Path.{refl}
 use native.Mathlib.Nat.{le_refl}
 use native.Mathlib.Omega.{arith}
-use borrow.Author.Rules.{rules}
-use lib.ListN.{length, length-set}
-use Rattle.matrix.specs.Shape.{row}
-use Rattle.difference.specs.Rows.{node_difference, difference}
-use Rattle.prim.specs.Growing.{kept_at, Compared}
-use Rattle.prim.proofs.Keeping.{Passed, passed_none, passed_next, place-keeps}
+use lib.ListN.{length-set}
+use Rattle.prim.proofs.Keeping.{passed_none, passed_next, place-keeps}
 use Rattle.prim.proofs.network.place.Goals as goal
 
 pub loop-u-init : goal.loop-u-init

@@ -1,14 +1,11 @@
 -- `prim::network::place` meets its contract. The loop's invariant: each taxon passed is compared with the one placed. Assumes nothing.
-use mathlib.Core.Path.{◌≡◌, refl}
+use mathlib.Core.Path.{◌≡◌}
 use Prim.Native.Nat.{◌-◌, ◌≤◌}
-use native.Mathlib.Nat.{le_refl}
-use native.Mathlib.Omega.{arith}
-use borrow.Author.Rules.{rules}
-use lib.ListN.{length, length-set}
+use lib.ListN.{length}
 use Rattle.matrix.specs.Shape.{row}
 use Rattle.difference.specs.Rows.{node_difference, difference}
 use Rattle.prim.specs.Growing.{kept_at, Compared}
-use Rattle.prim.proofs.Keeping.{Passed, passed_none, passed_next, place-keeps}
+use Rattle.prim.proofs.Keeping.{Passed}
 use Rattle.prim.proofs.network.place.Given as goal
 
 abbrev pub invariant-loop-u : goal.invariant-loop-u

@@ -1,14 +1,10 @@
 -- What the check leaves of `prim::network::start`.
-use mathlib.Core.Path.{◌≡◌, refl}
-use mathlib.Core.List.{[]}
-use Prim.Native.Nat.{◌-◌, ◌≤◌}
+use mathlib.Core.Path.{refl}
 use native.Mathlib.Omega.{arith}
-use borrow.Author.Rules.{rules}
-use lib.ListN.{length, length-set}
+use lib.ListN.{length-set}
 use Rattle.matrix.specs.Shape.{row}
 use Rattle.difference.specs.Rows.{node_difference, difference}
-use Rattle.prim.specs.Growing.{kept_of}
-use Rattle.prim.proofs.Keeping.{Passed, passed_none, passed_next, start-kept, start-keeps}
+use Rattle.prim.proofs.Keeping.{passed_none, passed_next, start-kept, start-keeps}
 use Rattle.prim.proofs.network.start.Goals as goal
 
 pub loop-v-init : goal.loop-v-init

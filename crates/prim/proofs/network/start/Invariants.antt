@@ -1,14 +1,12 @@
 -- `prim::network::start` meets its contract. The loop's invariant: what is kept of each taxon passed is how far row 1 is. Assumes nothing.
-use mathlib.Core.Path.{◌≡◌, refl}
+use mathlib.Core.Path.{◌≡◌}
 use mathlib.Core.List.{[]}
 use Prim.Native.Nat.{◌-◌, ◌≤◌}
-use native.Mathlib.Omega.{arith}
-use borrow.Author.Rules.{rules}
-use lib.ListN.{length, length-set}
+use lib.ListN.{length}
 use Rattle.matrix.specs.Shape.{row}
 use Rattle.difference.specs.Rows.{node_difference, difference}
 use Rattle.prim.specs.Growing.{kept_of}
-use Rattle.prim.proofs.Keeping.{Passed, passed_none, passed_next, start-kept, start-keeps}
+use Rattle.prim.proofs.Keeping.{Passed}
 use Rattle.prim.proofs.network.start.Given as goal
 
 abbrev pub invariant-loop-v : goal.invariant-loop-v

@@ -1,5 +1,4 @@
 -- `prim::network::with_link` meets its contract: the link is stored behind those that the network holds. Assumes nothing.
-use borrow.Author.Rules.{rules}
 use Rattle.prim.proofs.Holding.{holds-next}
 use Rattle.prim.proofs.network.with_link.Goals as goal
 

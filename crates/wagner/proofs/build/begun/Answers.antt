@@ -2,7 +2,6 @@
 use lib.ListN.{replicate}
 use Rattle.lists.specs.Filled.{filled}
 use mathlib.Core.Path.{refl, ap}
-use borrow.Author.Rules.{rules}
 use Rattle.wagner.proofs.build.begun.Goals as goal
 
 pub returns : goal.returns

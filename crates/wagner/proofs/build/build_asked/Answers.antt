@@ -3,7 +3,6 @@
 use Rattle.matrix.proofs.Passing.{matrix_passes}
 use Rattle.wagner.proofs.Stepping.{build-refused, build_passed}
 use mathlib.Core.Path.{refl, sym, ◌∙◌}
-use borrow.Author.Rules.{rules}
 use Rattle.wagner.proofs.build.build_asked.Goals as goal
 
 pub grow-built-requires : goal.grow-built-requires

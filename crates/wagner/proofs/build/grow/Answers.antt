@@ -1,14 +1,8 @@
 -- What the check leaves of `wagner::build::grow`.
-use Rattle.branching.specs.declared.placement.Placement.{Placement}
-use Rattle.wagner.specs.Closeness.{kept_size}
-use Rattle.matrix.specs.Questions.{LentMatrix}
-use lib.ListN.{length}
-use mathlib.Core.List.{[], List}
-use Prim.Native.Nat.{◌≤◌, ◌-◌}
+use mathlib.Core.List.{[]}
 use native.Mathlib.Omega.{arith}
-use Rattle.wagner.proofs.UnderWay.{done_under_way, next_under_way, next-most, begun_under_way, UnderWay}
-use mathlib.Core.Path.{refl, ◌∙◌, sym, ◌≡◌}
-use borrow.Author.Rules.{rules}
+use Rattle.wagner.proofs.UnderWay.{done_under_way, next_under_way, next-most, begun_under_way}
+use mathlib.Core.Path.{refl, ◌∙◌, sym}
 use Rattle.wagner.proofs.build.grow.Goals as goal
 
 pub advancements-keys-requires : goal.advancements-keys-requires

@@ -4,12 +4,10 @@ use Rattle.branching.specs.declared.placement.Placement.{Placement}
 use Rattle.wagner.specs.Closeness.{kept_size}
 use Rattle.matrix.specs.Questions.{LentMatrix}
 use lib.ListN.{length}
-use mathlib.Core.List.{[], List}
+use mathlib.Core.List.{List}
 use Prim.Native.Nat.{◌≤◌, ◌-◌}
-use native.Mathlib.Omega.{arith}
-use Rattle.wagner.proofs.UnderWay.{done_under_way, next_under_way, next-most, begun_under_way, UnderWay}
-use mathlib.Core.Path.{refl, ◌∙◌, sym, ◌≡◌}
-use borrow.Author.Rules.{rules}
+use Rattle.wagner.proofs.UnderWay.{UnderWay}
+use mathlib.Core.Path.{◌≡◌}
 use Rattle.wagner.proofs.build.grow.Given as goal
 
 abbrev pub invariant-loop-placed : goal.invariant-loop-placed

@@ -1,6 +1,5 @@
 -- `wagner::build::place_next` meets its contract. Assumes nothing.
 use Rattle.wagner.proofs.Stepping.{next-done, next_more}
-use borrow.Author.Rules.{rules}
 use Rattle.wagner.proofs.build.place_next.Goals as goal
 
 pub with_placement-requires : goal.with_placement-requires

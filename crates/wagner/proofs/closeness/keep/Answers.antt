@@ -4,7 +4,6 @@ use native.Mathlib.Omega.{arith}
 use Rattle.branching.proofs.Searching.{interval-rows}
 use Rattle.wagner.specs.Closeness.{stripe}
 use Rattle.wagner.proofs.Renewing.{none_kept, one_kept}
-use borrow.Author.Rules.{rules}
 use Rattle.wagner.proofs.closeness.keep.Goals as goal
 
 pub returns-then-c-ge-STRIPE : goal.returns-then-c-ge-STRIPE

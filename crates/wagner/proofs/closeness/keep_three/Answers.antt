@@ -1,6 +1,5 @@
 -- `wagner::closeness::keep_three` meets its contract: three places one after the other. Assumes nothing.
 use Rattle.wagner.proofs.Renewing.{three_kept}
-use borrow.Author.Rules.{rules}
 use Rattle.wagner.proofs.closeness.keep_three.Goals as goal
 
 pub returns : goal.returns

@@ -1,15 +1,11 @@
 -- What the check leaves of `wagner::closeness::least_kept`.
-use mathlib.Core.Path.{◌≡◌, refl, sym}
-use Prim.Native.Nat.{◌+◌, ◌*◌, ◌-◌, ◌≤◌}
+use mathlib.Core.Path.{refl, sym}
 use native.Mathlib.Omega.{arith}
-use lib.ListN.{length}
-use Rattle.lists.specs.Least.{scanned}
 use Rattle.lists.proofs.Least.{scan_start}
 use Rattle.branching.specs.Ancestors.{ancestors, ancestor}
 use Rattle.branching.specs.Nodes.{in_tree}
-use Rattle.wagner.specs.Closeness.{stripe, kept_size, kept}
+use Rattle.wagner.specs.Closeness.{kept}
 use Rattle.wagner.proofs.Choosing.{out_over, kept_end}
-use borrow.Author.Rules.{rules}
 use Rattle.wagner.proofs.closeness.least_kept.Goals as goal
 
 pub loop-c-init : goal.loop-c-init

@@ -1,15 +1,10 @@
 -- `wagner::closeness::least_kept` meets its contract. The loop's invariant: `best` is the one chosen of those passed. Assumes nothing.
-use mathlib.Core.Path.{◌≡◌, refl, sym}
-use Prim.Native.Nat.{◌+◌, ◌*◌, ◌-◌, ◌≤◌}
-use native.Mathlib.Omega.{arith}
+use mathlib.Core.Path.{◌≡◌}
+use Prim.Native.Nat.{◌*◌, ◌-◌, ◌≤◌}
 use lib.ListN.{length}
 use Rattle.lists.specs.Least.{scanned}
-use Rattle.lists.proofs.Least.{scan_start}
-use Rattle.branching.specs.Ancestors.{ancestors, ancestor}
 use Rattle.branching.specs.Nodes.{in_tree}
 use Rattle.wagner.specs.Closeness.{stripe, kept_size, kept}
-use Rattle.wagner.proofs.Choosing.{out_over, kept_end}
-use borrow.Author.Rules.{rules}
 use Rattle.wagner.proofs.closeness.least_kept.Given as goal
 
 abbrev pub invariant-loop-c : goal.invariant-loop-c

@@ -1,5 +1,4 @@
 -- `wagner::closeness::next_keys` meets its contract. Assumes nothing.
-use borrow.Author.Rules.{rules}
 use Rattle.wagner.proofs.Renewing.{advance_stays, closest_renewed}
 use Rattle.wagner.proofs.closeness.next_keys.Goals as goal
 

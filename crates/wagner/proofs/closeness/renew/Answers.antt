@@ -1,11 +1,8 @@
 -- What the check leaves of `wagner::closeness::renew`.
 use mathlib.Core.Path.{◌≡◌, refl, ◌∙◌}
-use Prim.Native.Nat.{◌+◌, ◌-◌, ◌≤◌}
 use native.Mathlib.Omega.{arith}
 use lib.ListN.{length}
-use Rattle.branching.specs.Ancestors.{ancestors}
-use Rattle.wagner.specs.Closeness.{kept_size}
-use Rattle.wagner.proofs.Renewing.{RenewedUpTo, renewed_start, renewed_next, renewed_all}
+use Rattle.wagner.proofs.Renewing.{renewed_start, renewed_next, renewed_all}
 use borrow.Author.Rules.{rules}
 use Rattle.wagner.proofs.closeness.renew.Goals as goal
 

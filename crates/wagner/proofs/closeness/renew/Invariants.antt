@@ -1,13 +1,11 @@
 -- `wagner::closeness::renew` meets its contract. The loop's invariant: keys and what is kept of the taxa before v are right after the
 -- placement, and what is kept of the others is as it was. Assumes nothing.
-use mathlib.Core.Path.{◌≡◌, refl, ◌∙◌}
+use mathlib.Core.Path.{◌≡◌}
 use Prim.Native.Nat.{◌+◌, ◌-◌, ◌≤◌}
-use native.Mathlib.Omega.{arith}
 use lib.ListN.{length}
 use Rattle.branching.specs.Ancestors.{ancestors}
 use Rattle.wagner.specs.Closeness.{kept_size}
-use Rattle.wagner.proofs.Renewing.{RenewedUpTo, renewed_start, renewed_next, renewed_all}
-use borrow.Author.Rules.{rules}
+use Rattle.wagner.proofs.Renewing.{RenewedUpTo}
 use Rattle.wagner.proofs.closeness.renew.Given as goal
 
 abbrev pub invariant-loop-v : goal.invariant-loop-v

@@ -7,7 +7,6 @@ use Rattle.branching.specs.Ancestors.{ancestors}
 use Rattle.branching.proofs.Nodes.{false-in_tree}
 use Rattle.wagner.proofs.Choosing.{not_row_one}
 use Rattle.wagner.proofs.Renewing.{placed_renewed, row_renewed}
-use borrow.Author.Rules.{rules}
 use Rattle.wagner.proofs.closeness.renewed.Goals as goal
 
 pub returns-then-is_placed : goal.returns-then-is_placed

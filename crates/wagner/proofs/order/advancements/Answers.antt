@@ -1,14 +1,10 @@
 -- What the check leaves of `wagner::order::advancements`.
-use Rattle.matrix.specs.Shape.{row}
 use Rattle.wagner.proofs.Choosing.{key-next}
 use Rattle.matrix.proofs.Row.{row_128}
-use Rattle.wagner.specs.Order.{key_of}
-use Rattle.difference.specs.Rows.{difference, node_difference}
-use lib.ListN.{length, take, length-set}
-use Prim.Native.Nat.{◌+◌, ◌≤◌, ◌-◌, ℕ, ◌<◌}
+use Rattle.difference.specs.Rows.{difference}
+use lib.ListN.{take, length-set}
 use native.Mathlib.Omega.{arith}
-use mathlib.Core.Path.{refl, ◌∙◌, ap₂, ◌≡◌, ap}
-use borrow.Author.Rules.{rules}
+use mathlib.Core.Path.{refl, ◌∙◌, ap₂, ap}
 use Rattle.wagner.proofs.order.advancements.Goals as goal
 
 pub loop-v-init : goal.loop-v-init

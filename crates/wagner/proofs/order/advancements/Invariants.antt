@@ -1,14 +1,10 @@
 -- `wagner::order::advancements` meets its contract. The loop's invariant: the taxa passed have their advancements as keys. Assumes nothing.
 use Rattle.matrix.specs.Shape.{row}
-use Rattle.wagner.proofs.Choosing.{key-next}
-use Rattle.matrix.proofs.Row.{row_128}
 use Rattle.wagner.specs.Order.{key_of}
 use Rattle.difference.specs.Rows.{difference, node_difference}
-use lib.ListN.{length, take, length-set}
+use lib.ListN.{length}
 use Prim.Native.Nat.{◌+◌, ◌≤◌, ◌-◌, ℕ, ◌<◌}
-use native.Mathlib.Omega.{arith}
-use mathlib.Core.Path.{refl, ◌∙◌, ap₂, ◌≡◌, ap}
-use borrow.Author.Rules.{rules}
+use mathlib.Core.Path.{◌≡◌}
 use Rattle.wagner.proofs.order.advancements.Given as goal
 
 abbrev pub invariant-loop-v : goal.invariant-loop-v

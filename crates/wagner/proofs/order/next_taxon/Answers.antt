@@ -1,12 +1,9 @@
 -- What the check leaves of `wagner::order::next_taxon`.
 use Rattle.branching.specs.Ancestors.{ancestor, ancestors}
 use Rattle.wagner.specs.Order.{key_of, unplaced_test}
-use Rattle.lists.specs.Least.{scanned}
 use Rattle.wagner.proofs.Choosing.{placed-over, next_end, sooner_start}
 use native.Mathlib.Omega.{arith}
-use Prim.Native.Nat.{◌+◌, ◌≤◌, ◌-◌}
-use mathlib.Core.Path.{◌≡◌, refl, ◌∙◌}
-use borrow.Author.Rules.{rules}
+use mathlib.Core.Path.{refl, ◌∙◌}
 use Rattle.wagner.proofs.order.next_taxon.Goals as goal
 
 pub loop-v-init : goal.loop-v-init

@@ -1,12 +1,8 @@
 -- `wagner::order::next_taxon` meets its contract. The loop's invariant: `best` is the taxon to place next of those passed. Assumes nothing.
-use Rattle.branching.specs.Ancestors.{ancestor, ancestors}
 use Rattle.wagner.specs.Order.{key_of, unplaced_test}
 use Rattle.lists.specs.Least.{scanned}
-use Rattle.wagner.proofs.Choosing.{placed-over, next_end, sooner_start}
-use native.Mathlib.Omega.{arith}
 use Prim.Native.Nat.{◌+◌, ◌≤◌, ◌-◌}
-use mathlib.Core.Path.{◌≡◌, refl, ◌∙◌}
-use borrow.Author.Rules.{rules}
+use mathlib.Core.Path.{◌≡◌}
 use Rattle.wagner.proofs.order.next_taxon.Given as goal
 
 abbrev pub invariant-loop-v : goal.invariant-loop-v

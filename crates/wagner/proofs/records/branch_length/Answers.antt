@@ -4,7 +4,6 @@ use lib.ListN.{take}
 use Rattle.difference.specs.Rows.{node_difference, difference}
 use Rattle.wagner.specs.Records.{length_in}
 use mathlib.Core.Path.{ap, ap₂, ◌∙◌}
-use borrow.Author.Rules.{rules}
 use Rattle.wagner.proofs.records.branch_length.Goals as goal
 
 pub returns : goal.returns

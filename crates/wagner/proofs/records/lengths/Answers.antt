@@ -1,12 +1,8 @@
 -- What the check leaves of `wagner::records::lengths`.
-use Rattle.branching.specs.Ancestors.{ancestor, ancestors}
-use Rattle.wagner.specs.Records.{length_in}
 use Rattle.wagner.proofs.Lengths.{length-next}
-use lib.ListN.{length-set, length, get_or}
-use Prim.Native.Nat.{◌-◌, ◌≤◌, ℕ, ◌<◌}
+use lib.ListN.{length-set}
 use native.Mathlib.Omega.{arith}
-use mathlib.Core.Path.{refl, ◌≡◌}
-use borrow.Author.Rules.{rules}
+use mathlib.Core.Path.{refl}
 use Rattle.wagner.proofs.records.lengths.Goals as goal
 
 pub loop-v-init : goal.loop-v-init

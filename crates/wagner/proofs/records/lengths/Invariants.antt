@@ -2,12 +2,9 @@
 -- nothing.
 use Rattle.branching.specs.Ancestors.{ancestor, ancestors}
 use Rattle.wagner.specs.Records.{length_in}
-use Rattle.wagner.proofs.Lengths.{length-next}
-use lib.ListN.{length-set, length, get_or}
+use lib.ListN.{length, get_or}
 use Prim.Native.Nat.{◌-◌, ◌≤◌, ℕ, ◌<◌}
-use native.Mathlib.Omega.{arith}
-use mathlib.Core.Path.{refl, ◌≡◌}
-use borrow.Author.Rules.{rules}
+use mathlib.Core.Path.{◌≡◌}
 use Rattle.wagner.proofs.records.lengths.Given as goal
 
 abbrev pub invariant-loop-v : goal.invariant-loop-v
