@@ -10,7 +10,6 @@ use Rattle.matrix.specs.declared.refusal.Asked.{Asked}
 use Rattle.difference.specs.Rows.{difference, medians, interval_difference}
 use Rattle.difference.specs.declared.calls.Length.{Length}
 use Rattle.difference.specs.declared.calls.Length.TheVariants.{Is, Refused}
-use Rattle.matrix.specs.declared.refusal.Asked.TheVariants as Asked
 
 -- what a length handed back says
 abbrev pub length_says : Length → Outcome ℕ

@@ -11,7 +11,7 @@ use Rattle.lists.specs.Sums.{sum_over}
 use Rattle.lists.proofs.Numbers.{numbers-within}
 use Rattle.lists.proofs.Sums.{sum_same}
 use Rattle.matrix.specs.Shape.{weight_at, weight_of}
-use Rattle.difference.specs.Rows.{part, difference, Measure, weighing, plain}
+use Rattle.difference.specs.Rows.{part, difference, weighing, plain}
 use Rattle.difference.proofs.Laws.Weights.{weight_at-drop, part-alone, difference-weights, difference-alike}
 
 -- the part of the character at a place

@@ -6,7 +6,7 @@ use Prim.Native.Nat.{ℕ, zero, suc, ◌+◌, ◌*◌, ◌≤◌, ◌<◌, min}
 use native.Mathlib.Omega.{arith}
 use lib.IntN.{ℤ, pos}
 use lib.ListN.{length, get_or, take, drop}
-use Rattle.matrix.specs.Shape.{in_range, is_weight, weight_at}
+use Rattle.matrix.specs.Shape.{in_range, weight_at}
 use Rattle.lists.specs.Tests.{every}
 use Rattle.matrix.specs.Questions.{all_in_range, are_weights}
 use Rattle.difference.specs.Rows.{part, median, difference, most_difference, unweighted, most_unweighted}
