@@ -1,6 +1,6 @@
 -- The Prim Network (document 01, "The Prim Network"), over any difference d of two taxa. Taxa are the numbers 1 to n.
 -- Row 1 is placed first. `later` is the list of the taxa placed after it, in order of placing.
-use Rattle.std.specs.Prelude.{List, [], ◌∷◌, ◌++◌, map, ℕ, zero, suc, ◌+◌, ◌-◌}
+use Rattle.std.specs.Prelude.{List, [], ◌∷◌, ◌++◌, map, ℕ, zero, suc, ◌-◌}
 use Rattle.lists.specs.Sums.{sum_over}
 use Rattle.lists.specs.Least.{first_least}
 use Rattle.lists.specs.Numbers.{numbers}
