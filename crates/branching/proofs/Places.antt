@@ -1,6 +1,6 @@
 -- The test for a growing tree, place by place, is the test of the definition, for a list of 127 places and at most 64 taxa.
 use mathlib.Core.Path.{◌≡◌, refl, sym, ap, ◌∙◌}
-use mathlib.Core.Logic.{◌↔◌, ◌⊎◌, inl, inr, ⊎_elim, by_cases}
+use mathlib.Core.Logic.{◌↔◌, inl, inr, ⊎_elim, by_cases}
 use mathlib.Core.List.{List, [], ◌∷◌, ◌++◌, Memᴰ}
 use mathlib.Core.Bool.{Bool, true, false, cond, ◌&&◌, ◌||◌}
 use Prim.Native.Nat.{ℕ, ◌+◌, ◌-◌, ◌≤◌, ◌<◌, min}

@@ -7,7 +7,6 @@ use mathlib.Core.Bool.{true}
 use Prim.Native.Nat.{ℕ, zero, suc, ◌*◌, ◌-◌, ◌≤◌}
 use native.Mathlib.Omega.{arith}
 use native.Mathlib.Decide.{dec_le}
-use lib.ListN.{length}
 use lib.Seq.{take_all}
 use Rattle.lists.proofs.Every.{same_numbers_iff}
 use Rattle.lists.proofs.Both.{and_iff}

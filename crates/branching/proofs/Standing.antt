@@ -2,7 +2,7 @@
 -- placement leaves, which stands in the matrix that it leaves. So nothing that a placement hands back is refused by the next one.
 use Rattle.branching.specs.RowLengths.{node_interval}
 use mathlib.Core.Path.{◌≡◌, refl, sym, ap, ap₂, ◌∙◌}
-use mathlib.Core.Logic.{◌⊎◌, ⊎_elim, by_cases}
+use mathlib.Core.Logic.{⊎_elim, by_cases}
 use mathlib.Core.Bool.{true}
 use mathlib.Core.List.{List, [], ◌∷◌, ◌++◌}
 use Prim.Native.Nat.{ℕ, zero, suc, ◌+◌, ◌*◌, ◌-◌, ◌≤◌, ◌<◌}
