@@ -10,7 +10,6 @@ use lib.ListN.{length}
 use Rattle.matrix.specs.Shape.{row}
 use Rattle.matrix.specs.NodeRows.{rows_of}
 use Rattle.difference.specs.Rows.{difference, node_difference}
-use Rattle.branching.specs.declared.placement.Placement.{Placement}
 use Rattle.branching.specs.Ancestors.{ancestor}
 use Rattle.branching.specs.Nodes.{Unplaced}
 use Rattle.branching.specs.Facts.{Grown, GrowingTree, alone, several}

@@ -1,7 +1,7 @@
 -- The laws of medians hold of the difference of rows, so all that is proved from them holds of the Wagner tree.
 use mathlib.Core.Path.{◌≡◌}
 use mathlib.Core.List.{List}
-use Prim.Native.Nat.{ℕ, ◌-◌, ◌≤◌}
+use Prim.Native.Nat.{ℕ, ◌≤◌}
 use lib.IntN.{ℤ}
 use lib.ListN.{length}
 use Rattle.difference.specs.Rows.{difference}

@@ -1,11 +1,9 @@
 -- After a build the taxa have their rows as before, so what passed the questions on a lent matrix passes them again.
 use mathlib.Core.Path.{◌≡◌, sym, ap, ◌∙◌}
-use mathlib.Core.Bool.{true}
 use mathlib.Core.List.{List, []}
 use Prim.Native.Nat.{ℕ, suc, ◌≤◌, ◌<◌}
 use native.Mathlib.Omega.{arith}
 use lib.IntN.{ℤ}
-use lib.ListN.{length, get_or}
 use lib.Seq.{ext_get_or}
 use Rattle.matrix.specs.NodeRows.{rows_of}
 use Rattle.matrix.specs.Shape.{row}

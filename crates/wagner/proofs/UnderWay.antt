@@ -12,7 +12,7 @@ use Rattle.lists.specs.Sums.{sum_over}
 use Rattle.lists.proofs.Filled.{filled-snoc}
 use Rattle.lists.proofs.Stripes.{stripes-snoc}
 use Rattle.lists.proofs.Sums.{sum_snoc}
-use Rattle.matrix.specs.Shape.{row, row_start, columns}
+use Rattle.matrix.specs.Shape.{row_start, columns}
 use Rattle.matrix.specs.NodeRows.{rows_of, with_row, with_rows}
 use Rattle.matrix.specs.Questions.{LentMatrix, LentWeights}
 use Rattle.matrix.proofs.NodeRows.{length-rows_of}
@@ -28,7 +28,7 @@ use Rattle.branching.specs.Unasked.{no_placement, unasked}
 use Rattle.branching.proofs.Nodes.{node_nodes_in, no_branches-none, no_branches-places}
 use Rattle.branching.proofs.Unasked.{AsPlaced, unasked-placed, no_row}
 use Rattle.branching.proofs.Standing.{Standing, standing_placed, standing_test, last_is, Step, first, later, placed-step, added-most}
-use Rattle.branching.proofs.Standing.{placed-other, placed-rows, placed_standing}
+use Rattle.branching.proofs.Standing.{placed-rows, placed_standing}
 use Rattle.wagner.specs.declared.build.Building.{Building}
 use Rattle.wagner.specs.declared.order.Order.{Order}
 use Rattle.wagner.specs.Next.{next_by}
