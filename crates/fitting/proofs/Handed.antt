@@ -1,5 +1,5 @@
 -- What a fit hands back, told by the numbers in the lists and by assignments.
-use Rattle.std.proofs.Common.{◌≡◌, ℕ, suc, ◌+◌, ◌-◌, ◌*◌, ◌<◌, ◌≤◌, ◌↔◌, List, [], map, length, get_or, ℤ, pos, ◌≤ℤ◌, sym, refl, ap, ◌∙◌, ap₂, arith, le-leb}
+use Rattle.std.proofs.Common.{◌≡◌, ℕ, suc, ◌+◌, ◌-◌, ◌*◌, ◌<◌, ◌≤◌, ◌↔◌, List, [], map, length, get_or, ℤ, pos, ◌≤ℤ◌, sym, ap, ◌∙◌, ap₂, arith, le-leb}
 use borrow.Author.Tests.{lt-leb}
 use Rattle.lists.specs.Numbers.{numbers}
 use Rattle.lists.specs.Sums.{sum_over}

@@ -1,5 +1,5 @@
 -- The fit of a tree put together from what is written and from its branches; and when its lists have the matrix's shape.
-use Rattle.std.proofs.Common.{◌≡◌, ℕ, ◌-◌, ◌*◌, ◌^◌, ◌<◌, ◌≤◌, Bool, true, false, eqb, List, length, ℤ, sym, refl, ap, ◌∙◌, true≢false, arith, eq-eqb, eqb-true}
+use Rattle.std.proofs.Common.{◌≡◌, ℕ, ◌-◌, ◌*◌, ◌^◌, ◌<◌, ◌≤◌, true, false, eqb, List, length, ℤ, sym, refl, ap, ◌∙◌, true≢false, arith, eq-eqb, eqb-true}
 use mathlib.Core.Bool.{and-eq-true_iff}
 use Rattle.lists.specs.Sums.{sum_over}
 use Rattle.lists.specs.Numbers.{numbers}

@@ -24,7 +24,6 @@ use Rattle.fitting.specs.declared.characters.States.{States}
 use Rattle.fitting.specs.declared.calls.Fitted.{Fitted}
 use Rattle.fitting.specs.declared.calls.NodeStates.{NodeStates}
 use Rattle.fitting.specs.declared.calls.NodeStates.TheVariants.{Are}
-use Rattle.fitting.specs.declared.calls.NodeStates.TheVariants as NodeStates
 
 -- the state of node v in character j in a list of the matrix's shape
 abbrev pub state_at : List ℤ → ℕ → ℕ → ℤ

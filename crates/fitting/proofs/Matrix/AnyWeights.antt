@@ -2,7 +2,6 @@
 -- claim about the third rival is document 01's.
 use Rattle.std.proofs.Common.{◌≡◌, ℕ, ◌≤◌, true, ◌↔◌, List, ℤ, sym, arith}
 use Rattle.lists.specs.Numbers.{numbers}
-use Rattle.lists.specs.Sums.{sum_over}
 use Rattle.lists.proofs.Numbers.{numbers-within}
 use Rattle.lists.proofs.Sums.{sum_same}
 use Rattle.matrix.specs.Shape.{last_node, weight_of}
@@ -12,7 +11,7 @@ use Rattle.difference.proofs.Laws.Measure.{step-alike}
 use Rattle.branching.specs.Ancestors.{ancestor}
 use Rattle.branching.specs.Nodes.{other_nodes}
 use Rattle.branching.specs.Facts.{Branching}
-use Rattle.fitting.specs.Assignments.{branch_length, total, IsAssignment, IsLeast, Occurs}
+use Rattle.fitting.specs.Assignments.{branch_length, total, IsLeast, Occurs}
 use Rattle.fitting.specs.Fit.{chosen_state, fitted_total}
 use Rattle.fitting.specs.Rival.{FitIsLeast}
 use Rattle.fitting.proofs.Matrix.EachFitted.{lengths-total}

@@ -1,5 +1,5 @@
 -- The chosen states and the ranges of a matrix are those of the one clade of its branching, of two taxa or more.
-use Rattle.std.proofs.Common.{◌≡◌, ℕ, ◌-◌, ◌≤◌, List, ℤ, sym, ◌∙◌, subst, append-nil, arith}
+use Rattle.std.proofs.Common.{◌≡◌, ℕ, ◌≤◌, List, ℤ, sym, ◌∙◌, subst, append-nil, arith}
 use mathlib.Core.List.{flat_map, Memᴰ}
 use Rattle.fitting.specs.Sets.{only}
 use Rattle.fitting.specs.declared.spans.Span.{Span}

@@ -4,7 +4,7 @@ use native.Mathlib.Nat.{eq_of_mul-eq-mul_left}
 use Rattle.difference.specs.Rows.{apart, part}
 use Rattle.fitting.specs.Clades.{Clade, tip, fork}
 use Rattle.fitting.proofs.Clades.Cost.{cost}
-use Rattle.fitting.proofs.OneCharacter.CharacterFit.{CharacterFit, Attained}
+use Rattle.fitting.proofs.OneCharacter.CharacterFit.{CharacterFit}
 
 -- the cost of a clade in a character of weight w is w times that in a character of weight 1
 pub cost-weighed : (w : ℕ) (f : ℕ → ℤ) (y : ℤ) (t : Clade) → cost (part w) f y t ≡ w * cost apart f y t
