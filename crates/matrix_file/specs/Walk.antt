@@ -4,10 +4,8 @@ use Rattle.std.specs.Prelude.{◌≡◌, List, [], ◌∷◌, map, Bool, ℕ, ze
 use Rattle.matrix.specs.Outcomes.{Outcome, refused}
 use Rattle.matrix.specs.Refusals.{refusal_number}
 use Rattle.matrix.specs.declared.refusal.Asked.{Asked}
-use Rattle.matrix.specs.declared.refusal.Asked.TheVariants as Asked
 use Rattle.file_form.specs.declared.header.Header.{Header}
 use Rattle.matrix_file.specs.declared.answer.Read.{Read}
-use Rattle.matrix_file.specs.declared.answer.Read.TheVariants as Read
 use Rattle.matrix_file.specs.declared.answer.LinesAnswer.{LinesAnswer}
 use Rattle.matrix_file.specs.declared.answer.LinesAnswer.TheVariants.{Ended, Refused}
 use Rattle.matrix_file.specs.declared.bytes.Alphabet.{Alphabet}

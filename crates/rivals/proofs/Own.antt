@@ -14,7 +14,6 @@ use Rattle.file_form.specs.Written.{LentLists}
 use Rattle.file_form.specs.declared.header.Header.{Header}
 use Rattle.file_form.specs.declared.header.Kind.TheVariants.{Own}
 use Rattle.matrix_file.specs.declared.answer.Read.{Read}
-use Rattle.matrix_file.specs.declared.answer.Read.TheVariants as Read
 use Rattle.file_form.proofs.File.Accepted.{accepted_exactly}
 use Rattle.matrix_file.proofs.Lists.ReadLists.{read_accepting}
 use Rattle.difference.specs.Rows.{weighing}

@@ -18,7 +18,6 @@ use Rattle.file_form.specs.declared.header.Header.{Header}
 use Rattle.matrix_file.specs.Report.{ReadDone}
 use Rattle.file_form.specs.Written.{matrix_written, weights_written, LentLists}
 use Rattle.matrix_file.specs.declared.answer.Read.{Read}
-use Rattle.matrix_file.specs.declared.answer.Read.TheVariants as Read
 use Rattle.matrix_file.proofs.Lists.ReadLists.{job_row, job_lent, job_weighed, read_accepting}
 use Rattle.difference.specs.Rows.{weighing}
 use Rattle.difference.proofs.Laws.Measure.{measure_weights}

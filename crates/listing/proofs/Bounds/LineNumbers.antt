@@ -35,10 +35,10 @@ pub data LineWithin {A : Type 0} (most : ℕ) : Outcome A → Type 0 where
   some : {number line : ℕ} → line ≤ most → LineWithin most (refused number line)
 
 -- a line's questions and those that follow
-on_line : {A : Type 0} (most line : ℕ) (asked : Asked) (rest : Outcome A) → line ≤ most → (asked ≡ Passed → LineWithin most rest)
+on_line_within : {A : Type 0} (most line : ℕ) (asked : Asked) (rest : Outcome A) → line ≤ most → (asked ≡ Passed → LineWithin most rest)
     → LineWithin most (on_line line asked rest)
-on_line most line Passed rest h later = later refl
-on_line most line (Refused refusal) rest h later = some h
+on_line_within most line Passed rest h later = later refl
+on_line_within most line (Refused refusal) rest h later = some h
 
 -- the questions on the rows: no line behind the last row's, if none is given by what follows them
 rows-lines : {A : Type 0} (most : ℕ) (header : Header) (earlier : List (List ℕ)) (line left : ℕ) (lines : List (List ℕ))
@@ -50,7 +50,7 @@ rows-lines most header earlier line (suc left) [] follow h own = some {line = li
 rows-lines most header earlier line (suc left) (behind ∷ []) follow h own = some {line = line} (omega arith)
 rows-lines most header earlier line (suc left) (row ∷ next ∷ lines) follow h own =
     let same : suc line + left ≡ line + suc left = omega arith in
-    on_line most line (ask_row header earlier row) (ask_rows header (name_in row ∷ earlier) (suc line) left (next ∷ lines) follow) (omega arith)
+    on_line_within most line (ask_row header earlier row) (ask_rows header (name_in row ∷ earlier) (suc line) left (next ∷ lines) follow) (omega arith)
     (λ e. rows-lines most header (name_in row ∷ earlier) (suc line) left (next ∷ lines) follow (omega arith) (λ others. rw same (own others)))
 
 -- the questions on `C` lines: no line behind the last one's, if none is given by what follows them
@@ -62,7 +62,7 @@ branches-lines most line v (suc left) [] follow h own = some {line = line} (omeg
 branches-lines most line v (suc left) (behind ∷ []) follow h own = some {line = line} (omega arith)
 branches-lines most line v (suc left) (text ∷ next ∷ lines) follow h own =
     let same : suc line + left ≡ line + suc left = omega arith in
-    on_line most line (ask (branch_form v (fields_of text)) BranchForm Passed) (ask_branches (suc line) (suc v) left (next ∷ lines) follow) (omega arith)
+    on_line_within most line (ask (branch_form v (fields_of text)) BranchForm Passed) (ask_branches (suc line) (suc v) left (next ∷ lines) follow) (omega arith)
     (λ e. branches-lines most (suc line) (suc v) left (next ∷ lines) follow (omega arith) (λ others. rw same (own others)))
 
 -- the questions on what stands behind the rows of a job of at most 64 taxa
@@ -74,8 +74,8 @@ after_lines job line lines h low =
     let most = count_most job.kind job.n in
     branches-lines most_lines line 2 count lines (ask_end (on_line 0 tree (value job))) (omega arith)
     (λ others.
-    on_line most_lines (line + count) (ask (nothing_more others) FileGoesOn Passed) (on_line 0 tree (value job)) (omega arith)
-    (λ e. on_line most_lines 0 tree (value job) (omega arith) (λ passed. none)))
+    on_line_within most_lines (line + count) (ask (nothing_more others) FileGoesOn Passed) (on_line 0 tree (value job)) (omega arith)
+    (λ e. on_line_within most_lines 0 tree (value job) (omega arith) (λ passed. none)))
 
 -- line 1 that passes its questions has n and m within their limits
 first-limits : (lines : List (List ℕ)) → ask_first_line lines ≡ Passed → within_limits (header_in lines).n (header_in lines).m ≡ true
@@ -107,7 +107,7 @@ file-line file =
     let lines : List (List ℕ) = lines_of file in
     let header : Header = header_in lines in
     let first : Asked = ask_first_line lines in
-    on_line most_lines 0 (ask_length file) (ask_file lines) (omega arith) λ e.
+    on_line_within most_lines 0 (ask_length file) (ask_file lines) (omega arith) λ e.
     then_lines most_lines first (ask_weights header (drop 1 lines)) header (λ header. ask_behind header lines) (omega arith) λ passed.
     let inside : Limits header.n header.m =
     limits header.n header.m (first-limits lines passed) in

@@ -17,7 +17,7 @@ use Rattle.file_form.specs.Job.{Job}
 use Rattle.file_form.specs.Bytes.{line_feed, parts_at, first_part}
 use Rattle.file_form.specs.Lines.{lines_of, fields_of}
 use Rattle.file_form.specs.Branches.{branch_form, ask_branches}
-use Rattle.matrix_file.specs.Walk.{LinesPassed, BranchesAsked}
+use Rattle.matrix_file.specs.Walk.{BranchesAsked}
 use Rattle.file_form.proofs.Text.Parts.{parts_some}
 use Rattle.file_form.proofs.Text.PartsFrom.{parts_from, from-within, from_past, from_start, from_next, next-within}
 use Rattle.matrix_file.proofs.Lists.LinesWalk.{LinesLeft, lines_start, line-here, walk_on}

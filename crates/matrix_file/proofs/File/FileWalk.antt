@@ -11,7 +11,6 @@ use Rattle.matrix.specs.Refusals.{refusal_number}
 use Rattle.matrix.specs.declared.refusal.Refusal.{Refusal}
 use Rattle.matrix.specs.declared.refusal.Refusal.TheVariants.{FirstLine, UnknownOrder, BeyondLimits, FileGoesOn}
 use Rattle.matrix.specs.declared.refusal.Asked.{Asked}
-use Rattle.matrix.specs.declared.refusal.Asked.TheVariants as Asked
 use Rattle.matrix.specs.Outcomes.{ask, Outcome, value, refused, on_line, then_with}
 use Rattle.matrix.specs.Questions.{within_limits, one_to}
 use Rattle.matrix.proofs.Passing.{one_to-true}
@@ -19,7 +18,6 @@ use Rattle.file_form.specs.declared.header.Header.{Header}
 use Rattle.matrix_file.specs.declared.answer.Read.{Read}
 use Rattle.matrix_file.specs.declared.answer.Read.TheVariants.{Accepted, Refused}
 use Rattle.matrix_file.specs.declared.answer.LinesAnswer.{LinesAnswer}
-use Rattle.matrix_file.specs.declared.answer.LinesAnswer.TheVariants as LinesAnswer
 use Rattle.file_form.specs.Bytes.{line_feed, before_first, parts_at, part_length, first_part, behind_part}
 use Rattle.file_form.specs.Lines.{lines_of, fields_of}
 use Rattle.file_form.specs.Header.{header_lines, header_from, header_in, header_of}

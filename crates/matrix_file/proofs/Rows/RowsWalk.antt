@@ -12,7 +12,6 @@ use Rattle.matrix.specs.Refusals.{refusal_number}
 use Rattle.matrix.specs.declared.refusal.Refusal.{Refusal}
 use Rattle.matrix.specs.declared.refusal.Refusal.TheVariants.{LineMissing, FieldCount}
 use Rattle.matrix.specs.declared.refusal.Asked.{Asked}
-use Rattle.matrix.specs.declared.refusal.Asked.TheVariants as Asked
 use Rattle.matrix.specs.Outcomes.{Outcome, refused, on_line}
 use Rattle.file_form.specs.declared.header.Header.{Header}
 use Rattle.matrix_file.specs.declared.answer.LinesAnswer.TheVariants.{Ended, Refused}
