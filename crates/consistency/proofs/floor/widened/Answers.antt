@@ -1,0 +1,18 @@
+-- `consistency::floor::widened` meets its contract: it calls what the definition names. Assumes nothing.
+use mir.Syntax.{w32}
+use mathlib.Core.Path.{ap₂, ◌∙◌}
+use borrow.Author.Rules.{sfits_of}
+use mir.Facts.{to_z-of_z}
+use Rattle.difference.specs.Rows.{lower, higher}
+use Rattle.fitting.proofs.Bits.{of_bits}
+use Rattle.fitting.proofs.Sets.Distance.{span}
+use Rattle.consistency.proofs.floor.widened.Goals as goal
+
+pub returns : goal.returns
+returns c =
+    let ends = c.struct_told-1.given in
+    ap₂ span
+    (to_z-of_z {w = w32} (sfits_of c.lower.type_inv)
+    ∙ of_bits lower _ _ _ c.ranges.code (sfits_of ends.0.1) c.lower.ensures)
+    (to_z-of_z {w = w32} (sfits_of c.higher.type_inv)
+    ∙ of_bits higher _ _ _ c.ranges.code (sfits_of ends.1.0.1) c.higher.ensures)

@@ -1,0 +1,11 @@
+-- `matrix_file::bytes::behind_part` meets its contract: the rest from the place behind the first separator on. Assumes nothing.
+use native.Mathlib.Omega.{arith}
+use Rattle.file_form.proofs.Text.FirstPart.{part-within}
+use Rattle.file_form.proofs.Text.PartWalk.{behind}
+use Rattle.matrix_file.proofs.bytes.behind_part.Goals as goal
+
+pub overflow_add-end : goal.overflow_add-end
+overflow_add-end c = omega (arith, part-within c.args.separator c.args.text.now)
+
+pub returns : goal.returns
+returns c = behind _ _ _ _ c.part_length-end.ensures c.rest_from.ensures

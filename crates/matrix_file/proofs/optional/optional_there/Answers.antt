@@ -1,0 +1,9 @@
+-- `matrix_file::optional::optional_there` meets its contract: the first part of the first line is compared with the letter.
+-- Assumes nothing.
+use mathlib.Core.Path.{◌∙◌}
+use Rattle.matrix_file.proofs.File.OptionalWalk.{word_decides}
+use Rattle.matrix_file.proofs.optional.optional_there.Goals as goal
+
+pub returns : goal.returns
+returns c =
+    c.same_text.ensures ∙ word_decides _ _ _ _ c.first_part.ensures c.first_part-word.ensures
