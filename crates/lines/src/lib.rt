@@ -1,7 +1,6 @@
 // The bytes, fields and lines of a listing, put into a lent list.
 #![tactic(auto)]
 
-
 // The lines, one function for each kind.
 pub mod lines;
 

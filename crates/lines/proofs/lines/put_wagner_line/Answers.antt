@@ -1,0 +1,26 @@
+-- `lines::lines::put_wagner_line` meets its contract. Assumes nothing.
+use mathlib.Core.Path.{sym}
+use Rattle.file_form.specs.Text.{bytes}
+use Rattle.lines.specs.Kinds.{wagner_line}
+use Rattle.lines.proofs.Puts.{put_then, put_same}
+use Rattle.lines.proofs.LineFields.{behind, line_fields}
+use Rattle.lines.proofs.lines.put_wagner_line.Goals as goal
+
+pub returns : goal.returns
+unfolding wagner_line bytes behind
+returns c =
+    let e = c.before.before in
+    let h = c in
+    let g = c in
+    let f = c in
+    let d = c in
+    let b = c in
+    let a = c in
+    put_same (sym (line_fields _ _))
+    (put_then c.put_byte-a.ensures
+    (put_then c.put_tab_node-b.ensures
+    (put_then c.put_tab_node-c.ensures
+    (put_then c.put_tab_node-d.ensures
+    (put_then c.put_tab_node-e.ensures
+    (put_then c.put_tab_number-f.ensures
+    c.put_byte.ensures))))))

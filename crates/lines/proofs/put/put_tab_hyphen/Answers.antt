@@ -1,0 +1,11 @@
+-- `lines::put::put_tab_hyphen` meets its contract. Assumes nothing.
+use Rattle.file_form.specs.Text.{bytes}
+use Rattle.lines.specs.Lines.{hyphen}
+use Rattle.lines.proofs.Puts.{put_then}
+use Rattle.lines.proofs.put.put_tab_hyphen.Goals as goal
+
+pub returns : goal.returns
+unfolding hyphen bytes
+returns c =
+    let hyphen-put = c.before.before in
+    put_then c.put_byte-next.ensures c.put_byte.ensures
