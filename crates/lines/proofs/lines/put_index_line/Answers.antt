@@ -9,11 +9,6 @@ use Rattle.lines.proofs.lines.put_index_line.Goals as goal
 pub returns-in-Divided : goal.returns-in-Divided
 unfolding index_line bytes behind
 returns-in-Divided c =
-    let end = c.before.before in
-    let remainder = c in
-    let quotient = c in
-    let known = c in
-    let letter = c in
     put_same (sym (line_fields _ _) ∙ ap index_line (sym c.in-Divided.is))
     (put_then c.put_byte-a.ensures
     (put_then c.put_tab_number-b.ensures
@@ -23,11 +18,6 @@ returns-in-Divided c =
 pub returns-in-NoTotal : goal.returns-in-NoTotal
 unfolding index_line bytes behind
 returns-in-NoTotal c =
-    let end = c.before.before in
-    let second = c in
-    let first = c in
-    let told = c in
-    let letter = c in
     put_same (sym (line_fields _ _) ∙ ap index_line (sym c.in-NoTotal.is))
     (put_then c.put_byte-a.ensures
     (put_then c.put_tab_hyphen-b.ensures

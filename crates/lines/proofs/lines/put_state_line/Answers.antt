@@ -10,14 +10,6 @@ use Rattle.lines.proofs.lines.put_state_line.Goals as goal
 pub returns : goal.returns
 unfolding state_line bytes behind
 returns c =
-    let e = c.before.before in
-    let h = c in
-    let g = c in
-    let f = c in
-    let d = c in
-    let b = c in
-    let a = c in
-    let start = c in
     put_same (sym (line_fields _ _))
     (put_then c.put_byte-a.ensures
     (put_then c.put_tab_node-b.ensures

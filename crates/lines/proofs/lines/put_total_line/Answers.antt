@@ -8,9 +8,6 @@ use Rattle.lines.proofs.lines.put_total_line.Goals as goal
 pub returns : goal.returns
 unfolding total_text behind
 returns c =
-    let e = c.before.before in
-    let b = c in
-    let a = c in
     put_same (sym (line_fields _ _))
     (put_then c.put_byte-a.ensures
     (put_then c.put_tab_number-b.ensures

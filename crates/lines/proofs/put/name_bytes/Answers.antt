@@ -5,15 +5,12 @@ use Rattle.lines.proofs.put.name_bytes.Goals as goal
 
 pub returns-then-len-k : goal.returns-then-len-k
 returns-then-len-k c =
-    let start = c.before.before in
     name_beyond c.args.names.now c.args.k c.if-len-k.true
 
 pub returns-then-len-start-lt-NAME_SIZE : goal.returns-then-len-start-lt-NAME_SIZE
 returns-then-len-start-lt-NAME_SIZE c =
-    let start = c.before.before.before in
     name_rest c.args.names.now c.args.k c.if-len-start-lt-NAME_SIZE.true
 
 pub returns : goal.returns
 returns c =
-    let start = c.before.before.before in
     name_whole c.args.names.now c.args.k

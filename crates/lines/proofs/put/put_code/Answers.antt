@@ -10,10 +10,6 @@ use Rattle.lines.proofs.put.put_code.Goals as goal
 
 pub returns-then-code-lt0 : goal.returns-then-code-lt0
 returns-then-code-lt0 c =
-    let rest = c.before.before in
-    let sign = c in
-    let test = c in
-    let start = c in
     put_same
     (ap (λ n. minus ∷ digits_of n) c.apart-size.ensures
     ∙ code_below _ c.if-code-lt0.true
@@ -22,8 +18,5 @@ returns-then-code-lt0 c =
 
 pub returns : goal.returns
 returns c =
-    let whole = c.before.before in
-    let test = c in
-    let start = c in
     put_same (ap digits_of c.apart-size.ensures ∙ code-above _ c.if-code-lt0.false ∙ ap decimal (to_z-of_z c.ranges.code))
     c.put_number-2.ensures

@@ -7,6 +7,4 @@ use Rattle.lines.proofs.put.put_htu.Goals as goal
 pub returns : goal.returns
 unfolding htu_name bytes
 returns c =
-    let whole = c.before.before in
-    let one = c in
     put_then c.put_byte-next.ensures c.put_number.ensures

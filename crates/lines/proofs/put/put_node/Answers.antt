@@ -10,8 +10,6 @@ returns-then-v-eq0 c = put_same (node_none _ _ _ c.if-v-eq0.true) c.put_byte.ens
 
 pub returns-then-v-n : goal.returns-then-v-n
 returns-then-v-n c =
-    let test = c.before.before.before.before.before in
-    let start = c in
     put_same
     (ap (first_part 0) c.name_bytes.ensures
     ∙ node_lent c.args.n c.args.names.now c.args.v c.if-v-eq0.false c.if-v-n.true)

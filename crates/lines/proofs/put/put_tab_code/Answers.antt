@@ -5,7 +5,4 @@ use Rattle.lines.proofs.put.put_tab_code.Goals as goal
 
 pub returns : goal.returns
 returns c =
-    let whole = c.before.before in
-    let one = c in
-    let start = c in
     put_then c.put_byte-next.ensures (put_same (same_code c.ranges.code) c.put_code.ensures)

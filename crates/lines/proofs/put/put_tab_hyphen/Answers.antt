@@ -7,5 +7,4 @@ use Rattle.lines.proofs.put.put_tab_hyphen.Goals as goal
 pub returns : goal.returns
 unfolding hyphen bytes
 returns c =
-    let hyphen-put = c.before.before in
     put_then c.put_byte-next.ensures c.put_byte.ensures

@@ -4,5 +4,4 @@ use Rattle.lines.proofs.put.put_tab_mark.Goals as goal
 
 pub returns : goal.returns
 returns c =
-    let one = c.before.before.before.before.before.before.before in
     put_then c.put_byte-next.ensures (put_same c.mark_byte.ensures c.put_byte.ensures)

@@ -4,6 +4,4 @@ use Rattle.lines.proofs.put.put_tab_node.Goals as goal
 
 pub returns : goal.returns
 returns c =
-    let whole = c.before.before in
-    let one = c in
     put_then c.put_byte-next.ensures c.put_node.ensures
