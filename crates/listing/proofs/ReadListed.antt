@@ -18,7 +18,6 @@ use Rattle.matrix_file.specs.Report.{read_says, read_outcome, ReadDone}
 use Rattle.file_form.specs.Written.{names_size, weights_written, LentLists}
 use Rattle.file_form.specs.declared.header.Header.{Header}
 use Rattle.matrix_file.specs.declared.answer.Read.{Read}
-use Rattle.matrix_file.specs.declared.answer.Read.TheVariants as Read
 use Rattle.file_form.proofs.File.Outcomes.{then_refused}
 use Rattle.matrix_file.proofs.Lists.ReadLists.{job_lent, job_weighed, Accepting, read_accepting}
 use Rattle.matrix_file.proofs.Lists.ReadWalk.{full-lists, sized, full as outcome-full}

@@ -4,7 +4,6 @@ use Rattle.file_form.specs.declared.header.OrderWord.TheVariants as Word
 use Rattle.file_form.specs.Job.{Job}
 use Rattle.difference.specs.Rows.{Measure, weighing}
 use Rattle.wagner.specs.declared.order.Order.{Order}
-use Rattle.wagner.specs.declared.order.Order.TheVariants as Order
 
 -- `closest` is the order of that name; `advance`, and no word, is the order by advancement
 abbrev pub order_meant : OrderWord → Order
