@@ -1,5 +1,5 @@
 -- What the exported call for a fit of the Wagner tree hands back, from what the build and the fit answer.
-use mathlib.Core.Path.{◌≡◌, refl, sym, ◌∙◌, ap}
+use mathlib.Core.Path.{◌≡◌, sym, ◌∙◌, ap}
 use mathlib.Core.Bool.{true, and-eq-true_iff}
 use mathlib.Core.List.{List}
 use Prim.Native.Nat.{ℕ, ◌*◌, ◌-◌, ◌≤◌}
@@ -29,8 +29,6 @@ use Rattle.wagner.specs.Answers.{wagner_in, build_says, BuildDone}
 use Rattle.wagner.proofs.Lengths.{ours-branching}
 use Rattle.wagner.proofs.StillLent.{still_lent, same-taxa}
 use Rattle.fitting.specs.Calls.{states_written, lists_full, FitOf, TreeFitted}
-use Rattle.fitting.specs.Fit.{fitted_total}
-use Rattle.fitting.specs.Handing.{HandedBack}
 use Rattle.fitting.specs.declared.whole.Fit.{Fit}
 use Rattle.fitting.specs.declared.whole.Which.TheVariants.{Low, High, Chosen}
 use Rattle.fitting.proofs.Handed.{handed_back_lem}

@@ -1,14 +1,14 @@
 -- What the exported call for a listing hands back, from what the call below it answers.
-use mathlib.Core.Path.{◌≡◌, refl, sym, ap, ◌∙◌}
+use mathlib.Core.Path.{◌≡◌, sym, ap, ◌∙◌}
 use mathlib.Core.Logic.{by_cases}
 use mathlib.Core.List.{List, ◌++◌}
 use Prim.Native.Nat.{ℕ, ◌≤◌}
 use native.Mathlib.Omega.{arith}
 use native.Mathlib.Decide.{ℕ_discrete}
 use borrow.Author.Tests.{eq-eqb, ne_eqb}
-use lib.ListN.{length, take, drop, length-append}
+use lib.ListN.{length, drop, length-append}
 use lib.Seq.{length-take-le}
-use Rattle.matrix.specs.Outcomes.{Outcome, answered, asked_says, afterwards}
+use Rattle.matrix.specs.Outcomes.{answered}
 use Rattle.matrix.specs.declared.refusal.Refusal.TheVariants.{ListSize}
 use Rattle.matrix.specs.declared.refusal.Asked.TheVariants.{Passed, Refused}
 use Rattle.listing.specs.declared.call.Listed.{Listed}

@@ -4,7 +4,7 @@ use mathlib.Core.List.{List}
 use Prim.Native.Nat.{ℕ}
 use native.Mathlib.Omega.{arith}
 use lib.IntN.{ℤ}
-use Rattle.matrix.specs.Outcomes.{Outcome, value, refused, answered, asked_says, afterwards}
+use Rattle.matrix.specs.Outcomes.{value, refused, answered, asked_says}
 use Rattle.matrix.specs.Refusals.{refusal_number}
 use Rattle.matrix.specs.Questions.{ask_matrix}
 use Rattle.matrix.specs.declared.refusal.Refusal.{Refusal}
