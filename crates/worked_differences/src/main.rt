@@ -77,16 +77,34 @@ fn print_handout(rt: &impl Print, codes: &[i32], weights: &[u8]) -> io::Result<(
     print_length(rt, calls::difference(codes, weights, 5, 12, 3, 1))?;
     print_length(rt, calls::difference(codes, weights, 5, 12, 3, 2))?;
     print_length(rt, calls::difference(codes, weights, 5, 12, 1, 2))?;
-    print_length(rt, calls::interval_difference(codes, weights, 5, 12, 3, 2, 1))?;
-    print_length(rt, calls::interval_difference(codes, weights, 5, 12, 4, 2, 1))?;
-    print_length(rt, calls::interval_difference(codes, weights, 5, 12, 5, 2, 1))?;
+    print_length(
+        rt,
+        calls::interval_difference(codes, weights, 5, 12, 3, 2, 1),
+    )?;
+    print_length(
+        rt,
+        calls::interval_difference(codes, weights, 5, 12, 4, 2, 1),
+    )?;
+    print_length(
+        rt,
+        calls::interval_difference(codes, weights, 5, 12, 5, 2, 1),
+    )?;
     print_medians_of(rt, codes, weights, 5, 12, [5, 2, 1], 13)
 }
 
 // The difference, interval difference and medians of nodes 1, 2 and 3 of a matrix of three taxa.
-fn print_three(rt: &impl Print, codes: &[i32], weights: &[u8], m: usize, shown: usize) -> io::Result<()> {
+fn print_three(
+    rt: &impl Print,
+    codes: &[i32],
+    weights: &[u8],
+    m: usize,
+    shown: usize,
+) -> io::Result<()> {
     print_length(rt, calls::difference(codes, weights, 3, m, 1, 2))?;
-    print_length(rt, calls::interval_difference(codes, weights, 3, m, 1, 2, 3))?;
+    print_length(
+        rt,
+        calls::interval_difference(codes, weights, 3, m, 1, 2, 3),
+    )?;
     print_medians_of(rt, codes, weights, 3, m, [1, 2, 3], shown)
 }
 
@@ -112,7 +130,10 @@ fn equal_rows(rt: &impl Print, codes: &mut [i32], weights: &[u8]) -> io::Result<
     print_three(rt, codes, weights, 128, 2)?;
     write_row(codes, 2, &[5]);
     print_length(rt, calls::difference(codes, weights, 3, 128, 2, 2))?;
-    print_length(rt, calls::interval_difference(codes, weights, 3, 128, 2, 2, 2))
+    print_length(
+        rt,
+        calls::interval_difference(codes, weights, 3, 128, 2, 2, 2),
+    )
 }
 
 // Refusals of a matrix: its size, its limits, its taxa's codes, then its nodes.
@@ -136,9 +157,18 @@ fn print_refused(rt: &impl Print, codes: &[i32], weights: &[u8]) -> io::Result<(
 fn refused_htu(rt: &impl Print, codes: &mut [i32], weights: &[u8]) -> io::Result<()> {
     write_row(codes, 3, &[999]);
     write_row(codes, 5, &[0, -1000]);
-    print_length(rt, calls::interval_difference(codes, weights, 4, 1, 1, 5, 6))?;
-    print_length(rt, calls::interval_difference(codes, weights, 4, 2, 1, 5, 7))?;
-    print_length(rt, calls::interval_difference(codes, weights, 4, 2, 1, 5, 6))?;
+    print_length(
+        rt,
+        calls::interval_difference(codes, weights, 4, 1, 1, 5, 6),
+    )?;
+    print_length(
+        rt,
+        calls::interval_difference(codes, weights, 4, 2, 1, 5, 7),
+    )?;
+    print_length(
+        rt,
+        calls::interval_difference(codes, weights, 4, 2, 1, 5, 6),
+    )?;
     print_medians_of(rt, codes, weights, 4, 2, [1, 2, 5], 2)
 }
 
@@ -175,8 +205,14 @@ fn print_weighted(rt: &impl Print, codes: &[i32], weights: &[u8]) -> io::Result<
     print_length(rt, calls::difference(codes, weights, 4, 3, 1, 2))?;
     print_length(rt, calls::difference(codes, weights, 4, 3, 3, 4))?;
     print_length(rt, calls::difference(codes, weights, 4, 2, 4, 3))?;
-    print_length(rt, calls::interval_difference(codes, weights, 4, 3, 3, 1, 2))?;
-    print_length(rt, calls::interval_difference(codes, weights, 4, 3, 4, 2, 3))?;
+    print_length(
+        rt,
+        calls::interval_difference(codes, weights, 4, 3, 3, 1, 2),
+    )?;
+    print_length(
+        rt,
+        calls::interval_difference(codes, weights, 4, 3, 4, 2, 3),
+    )?;
     print_medians_of(rt, codes, weights, 4, 3, [4, 2, 3], 4)
 }
 
@@ -206,7 +242,10 @@ fn refused_weights(rt: &impl Print, codes: &mut [i32]) -> io::Result<()> {
 // Three characters are asked, then two: a weight behind the last character is not read.
 fn print_refused_weights(rt: &impl Print, codes: &[i32], weights: &[u8]) -> io::Result<()> {
     print_length(rt, calls::difference(codes, weights, 3, 3, 9, 9))?;
-    print_length(rt, calls::interval_difference(codes, weights, 2, 3, 1, 2, 2))?;
+    print_length(
+        rt,
+        calls::interval_difference(codes, weights, 2, 3, 1, 2, 2),
+    )?;
     print_medians_of(rt, codes, weights, 2, 3, [1, 2, 2], 2)?;
     print_length(rt, calls::difference(codes, weights, 3, 2, 1, 2))?;
     print_length(rt, calls::difference(codes, weights, 2, 2, 1, 2))
@@ -216,7 +255,10 @@ fn print_refused_weights(rt: &impl Print, codes: &[i32], weights: &[u8]) -> io::
 fn every_code(rt: &impl Print) -> io::Result<()> {
     print!(rt; "{}", difference::codes::apart(-2147483648, 2147483647))?;
     print_code(rt, difference::codes::median(-2147483648, 2147483647, -1))?;
-    print_code(rt, difference::codes::median(2147483647, -2147483648, 2147483647))?;
+    print_code(
+        rt,
+        difference::codes::median(2147483647, -2147483648, 2147483647),
+    )?;
     print_code(rt, difference::codes::median(-2147483648, -2147483648, 0))?;
     end_line(rt)
 }
@@ -231,7 +273,10 @@ fn run(rt: &impl Print, case: usize, code: i32) -> io::Result<()> {
         2 => about_zero(rt, &mut codes, &weights),
         3 => ends(rt, &mut codes, &weights),
         4 => equal_rows(rt, &mut codes, &weights),
-        5 => print_length(rt, calls::difference(&codes[..16127], &weights, 65, 0, 9, 9)),
+        5 => print_length(
+            rt,
+            calls::difference(&codes[..16127], &weights, 65, 0, 9, 9),
+        ),
         6 => refused_matrix(rt, &mut codes, &weights),
         7 => refused_htu(rt, &mut codes, &weights),
         8 => refused_row(rt, &codes, &weights),

@@ -41,7 +41,8 @@ fn own(
     let whole = fit_tree(codes, weights, n, m, tree, low, high, chosen);
     print_total(rt, Length::Is(whole.total))?;
     print_digests(rt, low, high, chosen)?;
-    show(rt,
+    show(
+        rt,
         codes,
         weights,
         n,
@@ -68,7 +69,8 @@ fn example(
     write_row(codes, 2, &[2, 1, 0]);
     write_row(codes, 3, &[2, 3, 1]);
     write_row(codes, 4, &[-1, 1, 2]);
-    show_all(rt,
+    show_all(
+        rt,
         codes,
         weights,
         4,
@@ -79,7 +81,8 @@ fn example(
         chosen,
         6,
     )?;
-    show_all(rt,
+    show_all(
+        rt,
         codes,
         weights,
         1,
@@ -90,8 +93,20 @@ fn example(
         chosen,
         1,
     )?;
-    show_all(rt, codes, weights, 2, 3, records_of(&[1]), low, high, chosen, 2)?;
-    show_all(rt,
+    show_all(
+        rt,
+        codes,
+        weights,
+        2,
+        3,
+        records_of(&[1]),
+        low,
+        high,
+        chosen,
+        2,
+    )?;
+    show_all(
+        rt,
         codes,
         weights,
         3,
@@ -118,7 +133,8 @@ fn unordered(
     write_row(codes, 3, &[-2, 2]);
     write_row(codes, 4, &[1, 0]);
     write_row(codes, 5, &[0, 4]);
-    show_all(rt,
+    show_all(
+        rt,
         codes,
         weights,
         5,

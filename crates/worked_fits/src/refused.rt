@@ -60,7 +60,8 @@ pub(crate) fn no_branchings(
     records[1] = branch(3, 6);
     records[5] = branch(1, 0);
     show(rt, codes, weights, 4, 3, records, low, high, chosen, 6)?;
-    show(rt,
+    show(
+        rt,
         codes,
         weights,
         4,
@@ -71,7 +72,8 @@ pub(crate) fn no_branchings(
         chosen,
         6,
     )?;
-    show(rt,
+    show(
+        rt,
         codes,
         weights,
         4,
@@ -82,7 +84,8 @@ pub(crate) fn no_branchings(
         chosen,
         6,
     )?;
-    show(rt,
+    show(
+        rt,
         codes,
         weights,
         4,
@@ -93,7 +96,8 @@ pub(crate) fn no_branchings(
         chosen,
         6,
     )?;
-    show(rt,
+    show(
+        rt,
         codes,
         weights,
         4,
@@ -104,7 +108,8 @@ pub(crate) fn no_branchings(
         chosen,
         6,
     )?;
-    show(rt,
+    show(
+        rt,
         codes,
         weights,
         4,
@@ -115,7 +120,8 @@ pub(crate) fn no_branchings(
         chosen,
         6,
     )?;
-    show(rt,
+    show(
+        rt,
         codes,
         weights,
         4,
@@ -129,8 +135,16 @@ pub(crate) fn no_branchings(
 }
 
 // The call for a fit, with lists of any size.
-fn try_fit(rt: &impl Print, codes: &[i32], weights: &[u8], low: &mut [i32], high: &mut [i32], chosen: &mut [i32]) -> io::Result<()> {
-    print_fit(rt,
+fn try_fit(
+    rt: &impl Print,
+    codes: &[i32],
+    weights: &[u8],
+    low: &mut [i32],
+    high: &mut [i32],
+    chosen: &mut [i32],
+) -> io::Result<()> {
+    print_fit(
+        rt,
         fit(
             codes,
             weights,
@@ -189,7 +203,8 @@ pub(crate) fn weights_refused(
     try_calls(rt, codes, &[1u8; 129])?;
     let records = records_of(&[6, 6, 5, 1, 5]);
     let no_tree = records_of(&[6, 6, 5, 1, 6]);
-    show(rt,
+    show(
+        rt,
         codes,
         &first_three(1, 0, 1),
         4,
@@ -200,7 +215,8 @@ pub(crate) fn weights_refused(
         chosen,
         6,
     )?;
-    show(rt,
+    show(
+        rt,
         codes,
         &first_three(1, 1, 10),
         4,
@@ -211,7 +227,8 @@ pub(crate) fn weights_refused(
         chosen,
         6,
     )?;
-    show(rt,
+    show(
+        rt,
         codes,
         &first_three(9, 1, 0),
         4,
@@ -222,7 +239,8 @@ pub(crate) fn weights_refused(
         chosen,
         6,
     )?;
-    show(rt,
+    show(
+        rt,
         codes,
         &first_three(0, 1, 1),
         65,
@@ -237,7 +255,8 @@ pub(crate) fn weights_refused(
     show_node(rt, codes, &first_three(255, 1, 1), 4, 3, no_tree, 7, 4)?;
     show_node(rt, codes, &first_three(9, 1, 0), 4, 2, records, 5, 1)?;
     write_row(codes, 4, &[-1, 1000, 2]);
-    show(rt,
+    show(
+        rt,
         codes,
         &first_three(1, 1, 0),
         4,
@@ -248,7 +267,8 @@ pub(crate) fn weights_refused(
         chosen,
         6,
     )?;
-    show(rt,
+    show(
+        rt,
         codes,
         &first_three(1, 1, 10),
         4,

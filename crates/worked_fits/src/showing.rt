@@ -104,8 +104,16 @@ fn listed(list: &[i32; 16128], v: usize, j: usize) -> i32 {
 }
 
 // The H line of node v in character j by what the three lists hold.
-fn show_listed(rt: &impl Print, low: &[i32; 16128], high: &[i32; 16128], chosen: &[i32; 16128], v: usize, j: usize) -> io::Result<()> {
-    print_states(rt,
+fn show_listed(
+    rt: &impl Print,
+    low: &[i32; 16128],
+    high: &[i32; 16128],
+    chosen: &[i32; 16128],
+    v: usize,
+    j: usize,
+) -> io::Result<()> {
+    print_states(
+        rt,
         v,
         j,
         States {
@@ -117,7 +125,14 @@ fn show_listed(rt: &impl Print, low: &[i32; 16128], high: &[i32; 16128], chosen:
 }
 
 // The H lines of node v by what the three lists hold, in characters 1 to m.
-fn show_row(rt: &impl Print, low: &[i32; 16128], high: &[i32; 16128], chosen: &[i32; 16128], m: usize, v: usize) -> io::Result<()> {
+fn show_row(
+    rt: &impl Print,
+    low: &[i32; 16128],
+    high: &[i32; 16128],
+    chosen: &[i32; 16128],
+    m: usize,
+    v: usize,
+) -> io::Result<()> {
     for j in 1..=128 {
         if j <= m {
             show_listed(rt, low, high, chosen, v, j)?;
@@ -170,7 +185,12 @@ pub(crate) fn print_fit(rt: &impl Print, fitted: Fitted, last: usize) -> io::Res
 }
 
 // The digests of the three lists.
-pub(crate) fn print_digests(rt: &impl Print, low: &[i32; 16128], high: &[i32; 16128], chosen: &[i32; 16128]) -> io::Result<()> {
+pub(crate) fn print_digests(
+    rt: &impl Print,
+    low: &[i32; 16128],
+    high: &[i32; 16128],
+    chosen: &[i32; 16128],
+) -> io::Result<()> {
     print_digest(rt, low)?;
     print_digest(rt, high)?;
     print_digest(rt, chosen)
@@ -189,7 +209,11 @@ pub(crate) fn show(
     chosen: &mut [i32; 16128],
     last: usize,
 ) -> io::Result<()> {
-    print_fit(rt, fit(codes, weights, n, m, records, low, high, chosen), last)?;
+    print_fit(
+        rt,
+        fit(codes, weights, n, m, records, low, high, chosen),
+        last,
+    )?;
     print_total(rt, total(codes, weights, n, m, records))?;
     print_digests(rt, low, high, chosen)
 }

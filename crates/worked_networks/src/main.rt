@@ -55,7 +55,13 @@ fn show(rt: &impl Print, codes: &[i32; 16128], n: usize, m: usize) -> io::Result
 }
 
 // The lines of a matrix of n taxa and m characters with other weights.
-fn show_weighted(rt: &impl Print, codes: &[i32; 16128], weights: [u8; 128], n: usize, m: usize) -> io::Result<()> {
+fn show_weighted(
+    rt: &impl Print,
+    codes: &[i32; 16128],
+    weights: [u8; 128],
+    n: usize,
+    m: usize,
+) -> io::Result<()> {
     print_answer(rt, network(codes, &weights, n, m))
 }
 

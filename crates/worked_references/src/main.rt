@@ -196,7 +196,13 @@ fn print_states(
 }
 
 // The H lines of the three characters of node v, and of one that the matrix does not have.
-fn print_node(rt: &impl Print, low: &[i32; 16128], high: &[i32; 16128], chosen: &[i32; 16128], v: usize) -> io::Result<()> {
+fn print_node(
+    rt: &impl Print,
+    low: &[i32; 16128],
+    high: &[i32; 16128],
+    chosen: &[i32; 16128],
+    v: usize,
+) -> io::Result<()> {
     print_states(rt, low, high, chosen, v, 1)?;
     print_states(rt, low, high, chosen, v, 2)?;
     print_states(rt, low, high, chosen, v, 3)?;
@@ -256,7 +262,12 @@ fn short_matrix(rt: &impl Print, weights: &[u8], tree: Tree, old: [Branch; 125])
 }
 
 // A finished tree written over other records, and trees and matrices that are refused.
-fn records(rt: &impl Print, codes: &mut [i32; 16128], weights: &[u8], tree: Tree) -> io::Result<[Branch; 125]> {
+fn records(
+    rt: &impl Print,
+    codes: &mut [i32; 16128],
+    weights: &[u8],
+    tree: Tree,
+) -> io::Result<[Branch; 125]> {
     let blank = other();
     let old = [blank; 125];
     let alone = Tree::alone();
@@ -295,16 +306,25 @@ fn short_list(
     low: &mut [i32; 16128],
     high: &mut [i32; 16128],
 ) -> io::Result<()> {
-    print_answer(rt, fitted(codes, weights, 4, 3, records, low, high, &mut [7i32; 3]))
+    print_answer(
+        rt,
+        fitted(codes, weights, 4, 3, records, low, high, &mut [7i32; 3]),
+    )
 }
 
 // The fit of other records, of the records written with a list that is too short, and of the records written.
-fn fits(rt: &impl Print, codes: &mut [i32; 16128], weights: &[u8], records: [Branch; 125]) -> io::Result<()> {
+fn fits(
+    rt: &impl Print,
+    codes: &mut [i32; 16128],
+    weights: &[u8],
+    records: [Branch; 125],
+) -> io::Result<()> {
     let mut low = [7i32; 16128];
     let mut high = [7i32; 16128];
     let mut chosen = [7i32; 16128];
     let blank = other();
-    show_fit(rt,
+    show_fit(
+        rt,
         codes,
         weights,
         3,
@@ -315,7 +335,16 @@ fn fits(rt: &impl Print, codes: &mut [i32; 16128], weights: &[u8], records: [Bra
     )?;
     short_list(rt, codes, weights, records, &mut low, &mut high)?;
     print_node(rt, &low, &high, &chosen, 5)?;
-    show_fit(rt, codes, weights, 3, records, &mut low, &mut high, &mut chosen)?;
+    show_fit(
+        rt,
+        codes,
+        weights,
+        3,
+        records,
+        &mut low,
+        &mut high,
+        &mut chosen,
+    )?;
     print_node(rt, &low, &high, &chosen, 4)?;
     print_node(rt, &low, &high, &chosen, 6)
 }
@@ -346,7 +375,8 @@ fn asked_of(rt: &impl Print, codes: &mut [i32; 16128], weights: &[u8], m: usize)
     let mut low = [7i32; 16128];
     let mut high = [7i32; 16128];
     let mut chosen = [7i32; 16128];
-    show_fit(rt,
+    show_fit(
+        rt,
         codes,
         weights,
         m,

@@ -38,7 +38,14 @@ fn print_branches(rt: &impl Print, records: [Branch; 125]) -> io::Result<()> {
 }
 
 // The lines of a finished tree: its placements, its length, its branch records.
-fn print_built(rt: &impl Print, built: WagnerTree, codes: &[i32; 16128], weights: &[u8; 128], n: usize, m: usize) -> io::Result<()> {
+fn print_built(
+    rt: &impl Print,
+    built: WagnerTree,
+    codes: &[i32; 16128],
+    weights: &[u8; 128],
+    n: usize,
+    m: usize,
+) -> io::Result<()> {
     let placements = built.placements;
     print_placements(rt, placements, built.count)?;
     print!(rt; "w")?;
@@ -54,7 +61,14 @@ fn print_built(rt: &impl Print, built: WagnerTree, codes: &[i32; 16128], weights
 }
 
 // The lines of a build, in an order of placing, from a matrix of n taxa and m characters with these weights.
-fn show(rt: &impl Print, codes: &mut [i32; 16128], weights: &[u8; 128], n: usize, m: usize, order: Order) -> io::Result<()> {
+fn show(
+    rt: &impl Print,
+    codes: &mut [i32; 16128],
+    weights: &[u8; 128],
+    n: usize,
+    m: usize,
+    order: Order,
+) -> io::Result<()> {
     let built = build(codes, weights, n, m, order);
     let asked = built.asked;
     match asked {
@@ -90,7 +104,12 @@ fn hand(
 }
 
 // Document 01's example, and the first one and two of its taxa.
-fn example(rt: &impl Print, codes: &mut [i32; 16128], weights: &[u8; 128], order: Order) -> io::Result<()> {
+fn example(
+    rt: &impl Print,
+    codes: &mut [i32; 16128],
+    weights: &[u8; 128],
+    order: Order,
+) -> io::Result<()> {
     write_row(codes, 1, &[0, 0, 0]);
     write_row(codes, 2, &[2, 1, 0]);
     write_row(codes, 3, &[2, 3, 1]);
@@ -124,7 +143,8 @@ fn handed_in(rt: &impl Print, codes: &mut [i32; 16128], weights: &[u8; 128]) -> 
     write_row(codes, 5, &[3, 3, 3]);
     write_row(codes, 6, &[4, 4, 4]);
     write_row(codes, 7, &[5, 5, 5]);
-    hand(rt,
+    hand(
+        rt,
         codes,
         weights,
         5,
@@ -132,7 +152,8 @@ fn handed_in(rt: &impl Print, codes: &mut [i32; 16128], weights: &[u8; 128]) -> 
         Tree::alone().link(4).hang(3, 4, 6).hang(2, 6, 7),
         5,
     )?;
-    hand(rt,
+    hand(
+        rt,
         codes,
         weights,
         5,
@@ -146,10 +167,27 @@ fn handed_in(rt: &impl Print, codes: &mut [i32; 16128], weights: &[u8; 128]) -> 
 // Trees that are none: two descendants of row 1, an HTU of another number, an HTU alone, an ancestor that is not in the tree.
 fn no_trees(rt: &impl Print, codes: &mut [i32; 16128], weights: &[u8; 128]) -> io::Result<()> {
     hand(rt, codes, weights, 4, 3, Tree::alone().link(2).link(4), 3)?;
-    hand(rt, codes, weights, 4, 3, Tree::alone().link(2).hang(4, 2, 6), 3)?;
+    hand(
+        rt,
+        codes,
+        weights,
+        4,
+        3,
+        Tree::alone().link(2).hang(4, 2, 6),
+        3,
+    )?;
     hand(rt, codes, weights, 4, 3, Tree::alone().link(5), 3)?;
-    hand(rt, codes, weights, 4, 3, Tree::alone().link(2).hang(4, 3, 5), 3)?;
-    hand(rt,
+    hand(
+        rt,
+        codes,
+        weights,
+        4,
+        3,
+        Tree::alone().link(2).hang(4, 3, 5),
+        3,
+    )?;
+    hand(
+        rt,
         codes,
         weights,
         4,
@@ -163,7 +201,12 @@ fn no_trees(rt: &impl Print, codes: &mut [i32; 16128], weights: &[u8; 128]) -> i
 }
 
 // Refusals of the matrix: n, then m, then a code of a taxon; then the code of an HTU of the tree; codes that are not read.
-fn refusals(rt: &impl Print, codes: &mut [i32; 16128], weights: &[u8; 128], order: Order) -> io::Result<()> {
+fn refusals(
+    rt: &impl Print,
+    codes: &mut [i32; 16128],
+    weights: &[u8; 128],
+    order: Order,
+) -> io::Result<()> {
     let tree = Tree::alone().link(2).hang(4, 2, 5);
     show(rt, codes, weights, 0, 3, order)?;
     show(rt, codes, weights, 65, 3, order)?;
@@ -220,7 +263,8 @@ fn weights_refused(rt: &impl Print, codes: &mut [i32; 16128], order: Order) -> i
     show(rt, codes, &first_three(9, 1, 0), 4, 2, order)?;
     show(rt, codes, &first_three(0, 1, 1), 65, 3, order)?;
     hand(rt, codes, &first_three(1, 1, 0), 4, 3, Tree::alone(), 3)?;
-    hand(rt,
+    hand(
+        rt,
         codes,
         &first_three(1, 1, 0),
         4,
@@ -229,12 +273,25 @@ fn weights_refused(rt: &impl Print, codes: &mut [i32; 16128], order: Order) -> i
         9,
     )?;
     hand(rt, codes, &first_three(0, 1, 1), 4, 129, Tree::alone(), 3)?;
-    hand(rt, codes, &first_three(1, 1, 0), 4, 2, Tree::alone().link(2), 3)?;
+    hand(
+        rt,
+        codes,
+        &first_three(1, 1, 0),
+        4,
+        2,
+        Tree::alone().link(2),
+        3,
+    )?;
     Ok(())
 }
 
 // Both ends of the range, and equal rows.
-fn ends(rt: &impl Print, codes: &mut [i32; 16128], weights: &[u8; 128], order: Order) -> io::Result<()> {
+fn ends(
+    rt: &impl Print,
+    codes: &mut [i32; 16128],
+    weights: &[u8; 128],
+    order: Order,
+) -> io::Result<()> {
     write_row(codes, 1, &[-999i32; 128]);
     write_row(codes, 2, &[999i32; 128]);
     write_row(codes, 3, &[0i32; 128]);
@@ -244,7 +301,12 @@ fn ends(rt: &impl Print, codes: &mut [i32; 16128], weights: &[u8; 128], order: O
 }
 
 // Matrices of few codes, where many intervals are equally near and many HTUs equal a node, and of codes over the whole range.
-fn generated(rt: &impl Print, matrix: &mut [i32; 16128], weights: &[u8; 128], order: Order) -> io::Result<()> {
+fn generated(
+    rt: &impl Print,
+    matrix: &mut [i32; 16128],
+    weights: &[u8; 128],
+    order: Order,
+) -> io::Result<()> {
     fill(matrix, [-2, -1, -1, 0, 0, 0, 1, 2], 1);
     show(rt, matrix, weights, 64, 1, order)?;
     show(rt, matrix, weights, 64, 4, order)?;
@@ -259,7 +321,12 @@ fn generated(rt: &impl Print, matrix: &mut [i32; 16128], weights: &[u8; 128], or
 
 // One to three taxa; two taxa equally near to the one interval, the lower row more advanced; a taxon that is closer and more advanced than
 // another; two taxa equally near to one interval each, that of the lower row with the higher lower end.
-fn nearness(rt: &impl Print, codes: &mut [i32; 16128], weights: &[u8; 128], order: Order) -> io::Result<()> {
+fn nearness(
+    rt: &impl Print,
+    codes: &mut [i32; 16128],
+    weights: &[u8; 128],
+    order: Order,
+) -> io::Result<()> {
     write_row(codes, 1, &[0, 0]);
     write_row(codes, 2, &[2, 0]);
     write_row(codes, 3, &[1, 3]);
@@ -281,7 +348,12 @@ fn nearness(rt: &impl Print, codes: &mut [i32; 16128], weights: &[u8; 128], orde
 
 // Equal rows; a taxon equally near to three intervals; one that a placement brings nearer than the one that was next; one that a placement
 // takes the nearest interval from, so that another is next.
-fn renewals(rt: &impl Print, codes: &mut [i32; 16128], weights: &[u8; 128], order: Order) -> io::Result<()> {
+fn renewals(
+    rt: &impl Print,
+    codes: &mut [i32; 16128],
+    weights: &[u8; 128],
+    order: Order,
+) -> io::Result<()> {
     write_row(codes, 1, &[0, 0]);
     write_row(codes, 2, &[0, 0]);
     write_row(codes, 3, &[0, 0]);
@@ -304,7 +376,12 @@ fn renewals(rt: &impl Print, codes: &mut [i32; 16128], weights: &[u8; 128], orde
 }
 
 // What is built in an order of placing, beside the example, every character alike.
-fn builds(rt: &impl Print, codes: &mut [i32; 16128], weights: &[u8; 128], order: Order) -> io::Result<()> {
+fn builds(
+    rt: &impl Print,
+    codes: &mut [i32; 16128],
+    weights: &[u8; 128],
+    order: Order,
+) -> io::Result<()> {
     refusals(rt, codes, weights, order)?;
     short(rt, order)?;
     ends(rt, codes, weights, order)?;
