@@ -44,10 +44,7 @@ fn print_number(rt: &impl Print, value: usize) -> io::Result<()> {
 fn magnitude(code: i32) -> u64
     requires { in_range code ≡ true }
 {
-    if code < 0 {
-        return (0 - code) as u64;
-    }
-    code as u64
+    code.unsigned_abs() as u64
 }
 
 // Prints a code behind a tab, or a mark where it is no code of a matrix.
