@@ -8,9 +8,12 @@
 ghost use Rattle.std.specs.Prelude.{◌≤◌, ◌<◌};
 
 use exports::calls::wagner_list;
-use libc::STDOUT_FILENO;
+use input::read_full;
 use listing::call::{Listed, OUTPUT_SIZE, list};
 use matrix::refusal::number;
+use std::io::Read;
+use std::rt::Files;
+use std::{fs, io};
 use worked_cases::lines::{end_line, print_field};
 
 // What the lent bytes hold before a call: no byte of a listing.
@@ -18,6 +21,9 @@ const LENT: u8 = 255;
 
 // The most bytes that are printed whole.
 const MOST_PRINTED: usize = 1500;
+
+// The most bytes that a file of a case may have.
+const MOST_READ: usize = 65536;
 
 // The two sums of the checksum Adler-32.
 #[derive(Drop)]
@@ -40,31 +46,19 @@ fn number_of(high: u8, middle: u8, low: u8) -> usize {
 
 // Makes every byte of a list the same.
 fn fill(bytes: &mut [u8], byte: u8) {
-    let mut i = 0;
-    while i < bytes.len() {
-        bytes[i] = byte;
-        i += 1;
-    }
+    bytes.fill(byte);
 }
 
 // How many of the lent bytes are as they were lent.
 fn kept(lent: &[u8]) -> usize {
-    let mut count = 0;
-    let mut i = 0;
-    while i < lent.len() {
-        if lent[i] == LENT {
-            count += 1;
-        }
-        i += 1;
-    }
-    count
+    lent.iter().filter(|byte| **byte == LENT).count()
 }
 
 // Prints how many of the lent bytes are as they were lent.
-fn print_kept(lent: &[u8]) {
-    io::write_all(STDOUT_FILENO, b"k");
-    print_field(kept(lent) as u64);
-    end_line();
+fn print_kept(rt: &impl Print, lent: &[u8]) -> io::Result<()> {
+    print!(rt; "k")?;
+    print_field(rt, kept(lent) as u64)?;
+    end_line(rt)
 }
 
 // The sums of a text with one byte more.
@@ -82,91 +76,95 @@ fn checksum(text: &[u8]) -> u64 {
         plain: 1,
         weighted: 0,
     };
-    let mut i = 0;
-    while i < text.len() {
-        sums = summed(sums, text[i]);
-        i += 1;
+    for byte in text {
+        sums = summed(sums, *byte);
     }
     (sums.weighted % 65521) * 65536 + sums.plain % 65521
 }
 
 // Prints a text, or its length and checksum.
-fn print_text(text: &[u8]) {
+fn print_text(rt: &impl Print, text: &[u8]) -> io::Result<()> {
     if text.len() <= MOST_PRINTED {
-        io::write_all(STDOUT_FILENO, text);
-        return;
+        return rt.write_all(text);
     }
-    io::write_all(STDOUT_FILENO, b"L");
-    print_field(text.len() as u64);
-    print_field(checksum(text));
-    end_line();
+    print!(rt; "L")?;
+    print_field(rt, text.len() as u64)?;
+    print_field(rt, checksum(text))?;
+    end_line(rt)
 }
 
 // Prints what the call writes for a file, and how many of the lent bytes stay; they are then as before.
-fn print_file(file: &[u8], out: &mut [u8]) {
+fn print_file(rt: &impl Print, file: &[u8], out: &mut [u8]) -> io::Result<()> {
     let length = wagner_list(file, out);
-    print_text(&out[..length]);
-    print_kept(out);
+    print_text(rt, &out[..length])?;
+    print_kept(rt, out)?;
     fill(out, LENT);
+    Ok(())
 }
 
 // Prints what the two calls answer to bytes of another number than the full size, and how many of these stay.
-fn print_refused(out: &mut [u8]) {
+fn print_refused(rt: &impl Print, out: &mut [u8]) -> io::Result<()> {
     let file = b"W\t1\t1\nA\t0\n";
-    io::write_all(STDOUT_FILENO, b"R");
+    print!(rt; "R")?;
     match list(file, out) {
-        Listed::Written(_) => print_field(0),
-        Listed::Refused(refusal) => print_field(number(refusal)),
+        Listed::Written(_) => print_field(rt, 0)?,
+        Listed::Refused(refusal) => print_field(rt, number(refusal))?,
     }
-    print_field(wagner_list(file, out) as u64);
-    end_line();
-    print_kept(out);
+    print_field(rt, wagner_list(file, out) as u64)?;
+    end_line(rt)?;
+    print_kept(rt, out)
 }
 
 // Lends few bytes.
-fn print_few() {
+fn print_few(rt: &impl Print) -> io::Result<()> {
     let mut out = [LENT; 40];
-    print_refused(&mut out);
+    print_refused(rt, &mut out)
 }
 
 // Lends one byte less than the full size.
-fn print_short() {
-    let mut out = [LENT; OUTPUT_SIZE - 1];
-    print_refused(&mut out);
+fn print_short(rt: &(impl Print + AllocGlobal)) -> io::Result<()> {
+    let mut out = vec![in rt.alloc(); LENT; OUTPUT_SIZE - 1]?;
+    print_refused(rt, &mut out)
 }
 
 // Lends one byte more than the full size.
-fn print_long() {
-    let mut out = [LENT; OUTPUT_SIZE + 1];
-    print_refused(&mut out);
+fn print_long(rt: &(impl Print + AllocGlobal)) -> io::Result<()> {
+    let mut out = vec![in rt.alloc(); LENT; OUTPUT_SIZE + 1]?;
+    print_refused(rt, &mut out)
 }
 
 // Reads the bytes that are kept of a file into the front of memory of its length and prints its listing; answers whether they were there.
-fn read_case(cases: i32, kept: usize, file: &mut [u8], out: &mut [u8]) -> bool {
+fn read_case(
+    rt: &impl Print,
+    cases: &mut impl Read,
+    kept: usize,
+    file: &mut [u8],
+    out: &mut [u8],
+) -> io::Result<bool> {
     fill(file, b'x');
     if file.len() < kept {
-        return false;
+        return Ok(false);
     }
-    if io::read_full(cases, &mut file[..kept]) < kept {
-        return false;
+    if read_full(cases, &mut file[..kept]) < kept {
+        return Ok(false);
     }
-    print_file(file, out);
-    true
+    print_file(rt, file, out)?;
+    Ok(true)
 }
 
 // Reads one case and prints its listing; answers whether there was one.
-fn next_case(cases: i32, out: &mut [u8]) -> bool {
+fn next_case(rt: &impl Print, cases: &mut impl Read, out: &mut [u8]) -> io::Result<bool> {
     let mut head = [0u8; 6];
-    if io::read_full(cases, &mut head) < 6 {
-        return false;
+    if read_full(cases, &mut head) < 6 {
+        return Ok(false);
     }
     let length = number_of(head[0], head[1], head[2]);
-    if 65536 < length {
-        return false;
+    if MOST_READ < length {
+        return Ok(false);
     }
     let kept = number_of(head[3], head[4], head[5]);
-    let mut file = io::large_buffer();
-    read_case(cases, kept, &mut file[..length], out)
+    let mut file = [0u8; MOST_READ];
+    read_case(rt, cases, kept, &mut file[..length], out)
 }
 
 // How many turns are left after one: none if there was no case.
@@ -181,29 +179,24 @@ fn turns_left(there: bool, turns: usize) -> usize
 }
 
 // Prints the listings of all cases.
-fn print_cases(out: &mut [u8]) {
-    let path = b"cases";
-    let cases = os::open_read(path);
-    if cases < 0 {
-        os::fail(path);
-        return;
-    }
+fn print_cases(rt: &(impl Print + Files), out: &mut [u8]) -> io::Result<()> {
+    let mut cases = fs::open(rt, "cases")?;
     let mut turns: usize = 10000;
     while turns > 0 {
-        turns = turns_left(next_case(cases, out), turns);
+        turns = turns_left(next_case(rt, &mut cases, out)?, turns);
     }
-    libc::close(cases);
+    Ok(())
 }
 
 // Lends the full size for the listings of all cases.
-fn print_listings() {
-    let mut out = [LENT; OUTPUT_SIZE];
-    print_cases(&mut out);
+fn print_listings(rt: &(impl Print + Files + AllocGlobal)) -> io::Result<()> {
+    let mut out = vec![in rt.alloc(); LENT; OUTPUT_SIZE]?;
+    print_cases(rt, &mut out)
 }
 
-fn main() {
-    print_few();
-    print_short();
-    print_long();
-    print_listings();
+fn main(rt: HostRuntime) -> io::Result<()> {
+    print_few(&rt)?;
+    print_short(&rt)?;
+    print_long(&rt)?;
+    print_listings(&rt)
 }

@@ -11,13 +11,14 @@ ghost use Rattle.matrix.specs.Shape.{in_range};
 use branching::lent::record_count;
 use branching::numbers::RECORD;
 use file_form::header::{Kind, OrderWord};
-use libc::STDOUT_FILENO;
+use input::read_full;
 use matrix::questions::in_range;
 use matrix::refusal::{Refusal, number};
 use matrix::rows::row;
 use matrix::weights::weight_at;
 use matrix_file::answer::Read;
 use matrix_file::reading::read;
+use std::{fs, io};
 
 // What the lent lists hold before a read: no code, neither a weight nor a byte of a name, and no number of a branch record.
 const NO_CODE: i32 = 7777;
@@ -26,72 +27,65 @@ const NO_BYTE: u8 = 255;
 
 const NO_NUMBER: usize = 7777;
 
+// The most bytes that a case may have.
+const MOST_READ: usize = 65536;
+
 fn wide(byte: u8) -> usize
     ensures { result ≤ 255 }
 {
     byte as usize
 }
 
-fn print_number(value: usize) {
-    io::print_decimal(STDOUT_FILENO, value as u64);
+fn print_number(rt: &impl Print, value: usize) -> io::Result<()> {
+    print!(rt; "{value}")
 }
 
 // How far a code from -999 to 999 is from zero.
 fn magnitude(code: i32) -> u64
     requires { in_range code ≡ true }
 {
-    if code < 0 {
-        return (0 - code) as u64;
-    }
-    code as u64
+    code.unsigned_abs() as u64
 }
 
 // Prints a code behind a tab, or a mark where it is no code of a matrix.
-fn print_code(code: i32) {
+fn print_code(rt: &impl Print, code: i32) -> io::Result<()> {
     if !in_range(code) {
-        io::write_all(STDOUT_FILENO, b"\t?");
-        return;
+        return print!(rt; "\t?");
     }
     if code < 0 {
-        io::write_all(STDOUT_FILENO, b"\t-");
+        print!(rt; "\t-")?;
     } else {
-        io::write_all(STDOUT_FILENO, b"\t");
+        print!(rt; "\t")?;
     }
-    io::print_decimal(STDOUT_FILENO, magnitude(code));
+    print!(rt; "{}", magnitude(code))
 }
 
-fn print_codes(codes: &[i32]) {
-    let mut j = 0;
-    while j < codes.len() {
-        print_code(codes[j]);
-        j += 1;
+fn print_codes(rt: &impl Print, codes: &[i32]) -> io::Result<()> {
+    for code in codes {
+        print_code(rt, *code)?;
     }
-    io::write_all(STDOUT_FILENO, b"\n");
+    print!(rt; "\n")
 }
 
 // Prints a name without the zeros behind it.
-fn print_name(name: &[u8]) {
-    let mut i = 0;
-    while i < name.len() {
-        if name[i] == 0 {
-            break;
-        }
-        i += 1;
+fn print_name(rt: &impl Print, name: &[u8]) -> io::Result<()> {
+    match name.iter().position(|byte| *byte == 0) {
+        Some(end) => rt.write_all(&name[..end]),
+        None => rt.write_all(name),
     }
-    io::write_all(STDOUT_FILENO, &name[..i]);
 }
 
 // Prints the row of taxon v: its name and its codes.
-fn print_row(matrix: &[i32], names: &[u8], m: usize, v: usize)
+fn print_row(rt: &impl Print, matrix: &[i32], names: &[u8], m: usize, v: usize) -> io::Result<()>
     requires { (1 ≤ v) × (v ≤ 64) }
 {
     let start = (v - 1) * 16;
     let end = start + 16;
     if names.len() < end {
-        return;
+        return Ok(());
     }
-    print_name(&names[start..end]);
-    print_codes(row(matrix, m, v));
+    print_name(rt, &names[start..end])?;
+    print_codes(rt, row(matrix, m, v))
 }
 
 // At most 64.
@@ -104,204 +98,180 @@ fn at_most_64(n: usize) -> usize
     64
 }
 
-fn print_rows(matrix: &[i32], names: &[u8], n: usize, m: usize) {
+fn print_rows(rt: &impl Print, matrix: &[i32], names: &[u8], n: usize, m: usize) -> io::Result<()> {
     let last = at_most_64(n);
-    let mut v = 1;
-    while v <= last {
-        print_row(matrix, names, m, v);
-        v += 1;
+    for v in 1..=last {
+        print_row(rt, matrix, names, m, v)?;
     }
+    Ok(())
 }
 
 // Prints the first m weights, each behind a tab.
-fn print_weights(weights: &[u8], m: usize) {
-    let mut j = 0;
-    while j < m {
-        io::write_all(STDOUT_FILENO, b"\t");
-        print_number(wide(weight_at(weights, j)));
-        j += 1;
+fn print_weights(rt: &impl Print, weights: &[u8], m: usize) -> io::Result<()> {
+    for j in 0..m {
+        print!(rt; "\t")?;
+        print_number(rt, wide(weight_at(weights, j)))?;
     }
-    io::write_all(STDOUT_FILENO, b"\n");
+    print!(rt; "\n")
 }
 
 // Prints numbers, each behind a tab.
-fn print_numbers(numbers: &[usize]) {
-    let mut i = 0;
-    while i < numbers.len() {
-        io::write_all(STDOUT_FILENO, b"\t");
-        print_number(numbers[i]);
-        i += 1;
+fn print_numbers(rt: &impl Print, numbers: &[usize]) -> io::Result<()> {
+    for number in numbers {
+        print!(rt; "\t")?;
+        print_number(rt, *number)?;
     }
-    io::write_all(STDOUT_FILENO, b"\n");
+    print!(rt; "\n")
 }
 
 // Prints the record at a place, the first at place 0, as it stands.
-fn print_record(branches: &[usize], place: usize)
+fn print_record(rt: &impl Print, branches: &[usize], place: usize) -> io::Result<()>
     requires { place ≤ 124 }
 {
     let start = place * RECORD;
     let end = start + RECORD;
     if branches.len() < end {
-        return;
+        return Ok(());
     }
-    io::write_all(STDOUT_FILENO, b"C");
-    print_numbers(&branches[start..end]);
+    print!(rt; "C")?;
+    print_numbers(rt, &branches[start..end])
 }
 
 // Prints the branch records of n taxa.
-fn print_records(branches: &[usize], n: usize) {
+fn print_records(rt: &impl Print, branches: &[usize], n: usize) -> io::Result<()> {
     let count = record_count(n);
-    let mut i = 0;
-    while i < count {
-        print_record(branches, i);
-        i += 1;
+    for i in 0..count {
+        print_record(rt, branches, i)?;
     }
+    Ok(())
 }
 
 // Prints the branch records that a file of n taxa brings: a `W` file brings none.
-fn print_branching(kind: Kind, branches: &[usize], n: usize) {
+fn print_branching(rt: &impl Print, kind: Kind, branches: &[usize], n: usize) -> io::Result<()> {
     match kind {
-        Kind::Wagner => {}
-        Kind::Own => print_records(branches, n),
+        Kind::Wagner => Ok(()),
+        Kind::Own => print_records(rt, branches, n),
     }
 }
 
 // Prints the word of a kind.
-fn print_kind(kind: Kind) {
+fn print_kind(rt: &impl Print, kind: Kind) -> io::Result<()> {
     match kind {
-        Kind::Wagner => {
-            io::write_all(STDOUT_FILENO, b"W");
-        }
-        Kind::Own => {
-            io::write_all(STDOUT_FILENO, b"F");
-        }
+        Kind::Wagner => print!(rt; "W"),
+        Kind::Own => print!(rt; "F"),
     }
 }
 
 // Prints `V` if a file has such a line, else a hyphen.
-fn print_weighed(weighed: bool) {
+fn print_weighed(rt: &impl Print, weighed: bool) -> io::Result<()> {
     if weighed {
-        io::write_all(STDOUT_FILENO, b"V");
-        return;
+        return print!(rt; "V");
     }
-    io::write_all(STDOUT_FILENO, b"-");
+    print!(rt; "-")
 }
 
 // How many codes are as they were lent.
 fn codes_kept(matrix: &[i32]) -> usize {
-    let mut kept = 0;
-    let mut i = 0;
-    while i < matrix.len() {
-        if matrix[i] == NO_CODE {
-            kept += 1;
-        }
-        i += 1;
-    }
-    kept
+    matrix.iter().filter(|code| **code == NO_CODE).count()
 }
 
 // How many weights, or bytes of names, are as they were lent.
 fn bytes_kept(list: &[u8]) -> usize {
-    let mut kept = 0;
-    let mut i = 0;
-    while i < list.len() {
-        if list[i] == NO_BYTE {
-            kept += 1;
-        }
-        i += 1;
-    }
-    kept
+    list.iter().filter(|byte| **byte == NO_BYTE).count()
 }
 
 // How many numbers of branch records are as they were lent.
 fn numbers_kept(branches: &[usize]) -> usize {
-    let mut kept = 0;
-    let mut i = 0;
-    while i < branches.len() {
-        if branches[i] == NO_NUMBER {
-            kept += 1;
-        }
-        i += 1;
-    }
-    kept
+    branches
+        .iter()
+        .filter(|number| **number == NO_NUMBER)
+        .count()
 }
 
-fn print_kept(matrix: &[i32], weights: &[u8], names: &[u8], branches: &[usize]) {
-    io::write_all(STDOUT_FILENO, b"k\t");
-    print_number(codes_kept(matrix));
-    io::write_all(STDOUT_FILENO, b"\t");
-    print_number(bytes_kept(weights));
-    io::write_all(STDOUT_FILENO, b"\t");
-    print_number(bytes_kept(names));
-    io::write_all(STDOUT_FILENO, b"\t");
-    print_number(numbers_kept(branches));
-    io::write_all(STDOUT_FILENO, b"\n");
+fn print_kept(
+    rt: &impl Print,
+    matrix: &[i32],
+    weights: &[u8],
+    names: &[u8],
+    branches: &[usize],
+) -> io::Result<()> {
+    print!(rt; "k\t")?;
+    print_number(rt, codes_kept(matrix))?;
+    print!(rt; "\t")?;
+    print_number(rt, bytes_kept(weights))?;
+    print!(rt; "\t")?;
+    print_number(rt, bytes_kept(names))?;
+    print!(rt; "\t")?;
+    print_number(rt, numbers_kept(branches))?;
+    print!(rt; "\n")
 }
 
-fn print_refusal(refusal: Refusal, line: usize) {
-    io::write_all(STDOUT_FILENO, b"R\t");
-    io::print_decimal(STDOUT_FILENO, number(refusal));
-    io::write_all(STDOUT_FILENO, b"\t");
-    print_number(line);
-    io::write_all(STDOUT_FILENO, b"\n");
+fn print_refusal(rt: &impl Print, refusal: Refusal, line: usize) -> io::Result<()> {
+    print!(rt; "R\t{}", number(refusal))?;
+    print!(rt; "\t")?;
+    print_number(rt, line)?;
+    print!(rt; "\n")
 }
 
 // Prints the word for the order behind a tab, if line 1 carries one.
-fn print_order(order: OrderWord) {
+fn print_order(rt: &impl Print, order: OrderWord) -> io::Result<()> {
     match order {
-        OrderWord::Unsaid => {}
-        OrderWord::Advance => {
-            io::write_all(STDOUT_FILENO, b"\tadvance");
-        }
-        OrderWord::Closest => {
-            io::write_all(STDOUT_FILENO, b"\tclosest");
-        }
+        OrderWord::Unsaid => Ok(()),
+        OrderWord::Advance => print!(rt; "\tadvance"),
+        OrderWord::Closest => print!(rt; "\tclosest"),
     }
 }
 
-fn print_answer(answer: Read, matrix: &[i32], weights: &[u8], names: &[u8], branches: &[usize]) {
+fn print_answer(
+    rt: &impl Print,
+    answer: Read,
+    matrix: &[i32],
+    weights: &[u8],
+    names: &[u8],
+    branches: &[usize],
+) -> io::Result<()> {
     match answer {
-        Read::Refused { refusal, line } => print_refusal(refusal, line),
+        Read::Refused { refusal, line } => print_refusal(rt, refusal, line)?,
         Read::Accepted(header) => {
             let kind = header.kind;
-            print_kind(kind);
-            io::write_all(STDOUT_FILENO, b"\t");
-            print_number(header.n);
-            io::write_all(STDOUT_FILENO, b"\t");
-            print_number(header.m);
+            print_kind(rt, kind)?;
+            print!(rt; "\t")?;
+            print_number(rt, header.n)?;
+            print!(rt; "\t")?;
+            print_number(rt, header.m)?;
             let order = header.order;
-            print_order(order);
-            io::write_all(STDOUT_FILENO, b"\n");
-            print_weighed(header.weighed);
-            print_weights(weights, header.m);
-            print_rows(matrix, names, header.n, header.m);
-            print_branching(kind, branches, header.n);
+            print_order(rt, order)?;
+            print!(rt; "\n")?;
+            print_weighed(rt, header.weighed)?;
+            print_weights(rt, weights, header.m)?;
+            print_rows(rt, matrix, names, header.n, header.m)?;
+            print_branching(rt, kind, branches, header.n)?;
         }
     }
-    print_kept(matrix, weights, names, branches);
+    print_kept(rt, matrix, weights, names, branches)
 }
 
-fn print_case(file: &[u8]) {
+fn print_case(rt: &impl Print, file: &[u8]) -> io::Result<()> {
     let mut matrix = [NO_CODE; 16128];
     let mut weights = [NO_BYTE; 128];
     let mut names = [NO_BYTE; 1024];
     let mut branches = [NO_NUMBER; 375];
     let answer = read(file, &mut matrix, &mut weights, &mut names, &mut branches);
-    print_answer(answer, &matrix, &weights, &names, &branches);
+    print_answer(rt, answer, &matrix, &weights, &names, &branches)
 }
 
 // Reads a file into names that are a byte too short.
-fn print_short() {
+fn print_short(rt: &impl Print) -> io::Result<()> {
     let mut matrix = [NO_CODE; 16128];
     let mut weights = [NO_BYTE; 128];
     let mut names = [NO_BYTE; 1023];
     let mut branches = [NO_NUMBER; 375];
     let answer = read(b"", &mut matrix, &mut weights, &mut names, &mut branches);
-    print_answer(answer, &matrix, &weights, &names, &branches);
+    print_answer(rt, answer, &matrix, &weights, &names, &branches)
 }
 
 // Reads a file into a matrix that is a code too long.
-fn print_long() {
+fn print_long(rt: &impl Print) -> io::Result<()> {
     let mut matrix = [NO_CODE; 16129];
     let mut weights = [NO_BYTE; 128];
     let mut names = [NO_BYTE; 1024];
@@ -313,11 +283,11 @@ fn print_long() {
         &mut names,
         &mut branches,
     );
-    print_answer(answer, &matrix, &weights, &names, &branches);
+    print_answer(rt, answer, &matrix, &weights, &names, &branches)
 }
 
 // Reads a file into weights that are one too short.
-fn print_few() {
+fn print_few(rt: &impl Print) -> io::Result<()> {
     let mut matrix = [NO_CODE; 16128];
     let mut weights = [NO_BYTE; 127];
     let mut names = [NO_BYTE; 1024];
@@ -329,11 +299,11 @@ fn print_few() {
         &mut names,
         &mut branches,
     );
-    print_answer(answer, &matrix, &weights, &names, &branches);
+    print_answer(rt, answer, &matrix, &weights, &names, &branches)
 }
 
 // Reads a file into branch records that are a number too short.
-fn print_cut() {
+fn print_cut(rt: &impl Print) -> io::Result<()> {
     let mut matrix = [NO_CODE; 16128];
     let mut weights = [NO_BYTE; 128];
     let mut names = [NO_BYTE; 1024];
@@ -345,47 +315,43 @@ fn print_cut() {
         &mut names,
         &mut branches,
     );
-    print_answer(answer, &matrix, &weights, &names, &branches);
+    print_answer(rt, answer, &matrix, &weights, &names, &branches)
 }
 
 // Reads a file into a part of memory of its length and prints what was read; answers whether it was there whole.
-fn read_case(cases: i32, file: &mut [u8]) -> bool {
-    let got = io::read_full(cases, file);
+fn read_case(rt: &impl Print, cases: &mut impl io::Read, file: &mut [u8]) -> io::Result<bool> {
+    let got = read_full(cases, file);
     if got < file.len() {
-        return false;
+        return Ok(false);
     }
-    print_case(file);
-    true
+    print_case(rt, file)?;
+    Ok(true)
 }
 
 // Reads one case and prints it; answers whether there was one.
-fn next_case(cases: i32) -> bool {
+fn next_case(rt: &impl Print, cases: &mut impl io::Read) -> io::Result<bool> {
     let mut size = [0u8; 3];
-    if io::read_full(cases, &mut size) < 3 {
-        return false;
+    if read_full(cases, &mut size) < 3 {
+        return Ok(false);
     }
     let length = wide(size[0]) * 65536 + wide(size[1]) * 256 + wide(size[2]);
-    if 65536 < length {
-        return false;
+    if MOST_READ < length {
+        return Ok(false);
     }
-    let mut file = io::large_buffer();
-    read_case(cases, &mut file[..length])
+    let mut file = [0u8; MOST_READ];
+    read_case(rt, cases, &mut file[..length])
 }
 
-fn main() {
-    print_short();
-    print_long();
-    print_few();
-    print_cut();
-    let path = b"cases";
-    let cases = os::open_read(path);
-    if cases < 0 {
-        os::fail(path);
-        return;
+fn main(rt: HostRuntime) -> io::Result<()> {
+    print_short(&rt)?;
+    print_long(&rt)?;
+    print_few(&rt)?;
+    print_cut(&rt)?;
+    let mut cases = fs::open(&rt, "cases")?;
+    for _ in 0..10000 {
+        if !next_case(&rt, &mut cases)? {
+            break;
+        }
     }
-    let mut turns: usize = 10000;
-    while turns > 0 && next_case(cases) {
-        turns -= 1;
-    }
-    libc::close(cases);
+    Ok(())
 }

@@ -2,7 +2,8 @@
 #![tactic(auto)]
 
 use exports::calls::wagner_list;
-use libc::{STDIN_FILENO, STDOUT_FILENO};
+use input::read_full;
+use std::io;
 
 // One byte more than a file may have: enough to know that it is too long.
 const READ_SIZE: usize = 45001;
@@ -11,14 +12,14 @@ const READ_SIZE: usize = 45001;
 const OUTPUT_SIZE: usize = 1048576;
 
 // Reads a file into one lent list, writes what is printed for it into the other, and prints that.
-fn run(file: &mut [u8], out: &mut [u8]) {
-    let got = io::read_full(STDIN_FILENO, file);
+fn run(rt: &(impl Input + Print), file: &mut [u8], out: &mut [u8]) -> io::Result<()> {
+    let got = read_full(&mut rt.reader(), file);
     let length = wagner_list(&file[..got], out);
-    io::write_all(STDOUT_FILENO, &out[..length]);
+    rt.write_all(&out[..length])
 }
 
-fn main() {
-    let mut file = [0u8; READ_SIZE];
-    let mut out = [0u8; OUTPUT_SIZE];
-    run(&mut file, &mut out);
+fn main(rt: HostRuntime) -> io::Result<()> {
+    let mut file = vec![in rt.alloc(); 0u8; READ_SIZE]?;
+    let mut out = vec![in rt.alloc(); 0u8; OUTPUT_SIZE]?;
+    run(&rt, &mut file, &mut out)
 }

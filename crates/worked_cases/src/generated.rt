@@ -14,10 +14,8 @@ fn chosen(codes: [i32; 8], number: u64) -> i32 {
 // Fills a matrix with such codes.
 pub fn fill(matrix: &mut [i32; 16128], codes: [i32; 8], seed: u64) {
     let mut number = seed;
-    let mut i = 0;
-    while i < 16128 {
+    for i in 0..16128 {
         number = following(number);
         matrix[i] = chosen(codes, number);
-        i += 1;
     }
 }

@@ -1,54 +1,48 @@
 // Fields and lines on standard output.
-use difference::codes::apart;
-use libc::STDOUT_FILENO;
 use matrix::refusal;
 use matrix::refusal::Refusal;
+use std::io;
 
 // A field of a line: a tab and a number.
-pub fn print_field(number: u64) {
-    io::write_all(STDOUT_FILENO, b"\t");
-    io::print_decimal(STDOUT_FILENO, number);
+pub fn print_field(rt: &impl Print, number: u64) -> io::Result<()> {
+    print!(rt; "\t{number}")
 }
 
 // The end of a line.
-pub fn end_line() {
-    io::write_all(STDOUT_FILENO, b"\n");
+pub fn end_line(rt: &impl Print) -> io::Result<()> {
+    print!(rt; "\n")
 }
 
 // The rest of a line of three numbers, behind its letter.
-pub fn print_three(first: usize, second: usize, third: u64) {
-    print_field(first as u64);
-    print_field(second as u64);
-    print_field(third);
-    end_line();
+pub fn print_three(rt: &impl Print, first: usize, second: usize, third: u64) -> io::Result<()> {
+    print_field(rt, first as u64)?;
+    print_field(rt, second as u64)?;
+    print_field(rt, third)?;
+    end_line(rt)
 }
 
 // The R line of a refusal, of a call that reads no file.
-pub fn print_refusal(why: Refusal) {
-    io::write_all(STDOUT_FILENO, b"R");
-    print_field(refusal::number(why));
-    print_field(0);
-    end_line();
+pub fn print_refusal(rt: &impl Print, why: Refusal) -> io::Result<()> {
+    print!(rt; "R")?;
+    print_field(rt, refusal::number(why))?;
+    print_field(rt, 0)?;
+    end_line(rt)
 }
 
 // A field of a line: a tab and a state.
-pub fn print_state(state: i32) {
-    io::write_all(STDOUT_FILENO, b"\t");
-    if state < 0 {
-        io::write_all(STDOUT_FILENO, b"-");
-    }
-    io::print_decimal(STDOUT_FILENO, apart(state, 0));
+pub fn print_state(rt: &impl Print, state: i32) -> io::Result<()> {
+    print!(rt; "\t{state}")
 }
 
 // The T line of node v's branch: its fitted length and its mark.
-pub fn print_fitted(v: usize, length: u64, marked: bool) {
-    io::write_all(STDOUT_FILENO, b"T");
-    print_field(v as u64);
-    print_field(length);
+pub fn print_fitted(rt: &impl Print, v: usize, length: u64, marked: bool) -> io::Result<()> {
+    print!(rt; "T")?;
+    print_field(rt, v as u64)?;
+    print_field(rt, length)?;
     if marked {
-        io::write_all(STDOUT_FILENO, b"\t+");
+        print!(rt; "\t+")?;
     } else {
-        io::write_all(STDOUT_FILENO, b"\t-");
+        print!(rt; "\t-")?;
     }
-    end_line();
+    end_line(rt)
 }

@@ -19,11 +19,9 @@ fn chosen(number: u64) -> u8 {
 pub fn generated(seed: u64) -> [u8; 128] {
     let mut weights = [1u8; 128];
     let mut number = seed;
-    let mut j = 0;
-    while j < 128 {
+    for j in 0..128 {
         number = following(number);
         weights[j] = chosen(number);
-        j += 1;
     }
     weights
 }

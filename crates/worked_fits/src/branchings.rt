@@ -26,10 +26,8 @@ fn record_at(ancestors: &[usize], i: usize) -> Branch {
 pub(crate) fn records_of(ancestors: &[usize]) -> [Branch; 125] {
     let none = branch(0, 0);
     let mut records = [none; 125];
-    let mut i = 0;
-    while i < 125 {
+    for i in 0..125 {
         records[i] = record_at(ancestors, i);
-        i += 1;
     }
     records
 }
@@ -76,13 +74,11 @@ fn renumbered_record(record: Branch, n: usize, before: Branch) -> Branch {
 pub(crate) fn shuffled(records: [Branch; 125], n: usize) -> [Branch; 125] {
     let none = branch(0, 0);
     let mut other = [none; 125];
-    let mut i = 0;
-    while i < 125 {
+    for i in 0..125 {
         let record = records[i];
         let place = place_of(renumbered(record.node, n));
         let before = other[place];
         other[place] = renumbered_record(record, n, before);
-        i += 1;
     }
     other
 }
