@@ -1,3 +1,2 @@
 // The small table of document 01: examples that the checker computes.
 #![tactic(auto)]
-
