@@ -1,5 +1,6 @@
--- What proofs by hand over references share: a list that is written one element at a time, a local array as the row of its elements, and a
--- loop that counts; and a branch record, a tree and a lent list as the machine holds them.
+-- A list that is written one element at a time, which the loops over references use. The others are laws for proofs by hand over such
+-- functions: a local array as the row of its elements, a loop that counts, and a branch record, a tree and a lent list as the machine holds
+-- them.
 --     front_none, front_more     nothing is written yet; the next element is
 --     apart, together            a local's cell of type [T; n] and what the array owns, against the row of its elements
 --     Upto, Nearer               a loop's count up to k, ordered by what is left
