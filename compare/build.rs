@@ -1,4 +1,4 @@
-//! Links the archive of the proved library.
+//! Links the archive of the proved library, which `tools/archive.sh` makes.
 
 use std::path::Path;
 use std::process::exit;
@@ -9,7 +9,7 @@ fn main() {
     println!("cargo:rerun-if-changed={}", archive.display());
     if !archive.exists() {
         eprintln!("target/staticlib/libexports.a is missing.");
-        eprintln!("Make it in the root of the repository with: rt staticlib exports");
+        eprintln!("Make it in the root of the repository with: sh tools/archive.sh");
         exit(1);
     }
     println!(

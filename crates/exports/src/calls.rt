@@ -1,4 +1,4 @@
-// The exported calls.
+// The calls that `exports_c` exports.
 ghost use Rattle.std.specs.Prelude.{◌≡◌, true, length};
 ghost use Rattle.matrix.specs.Outcomes.{value};
 ghost use Rattle.matrix.specs.Questions.{ask_matrix};
@@ -27,8 +27,7 @@ use wagner::order::Order;
 
 // Writes the listing of a file's bytes, or the line of its refusal, into the front of lent bytes, and answers how many bytes that are: 0 if
 // not exactly 1,048,576 are lent, and then nothing is written.
-#[unsafe(no_mangle)]
-pub extern "C" fn wagner_list(file: &[u8], out: &mut [u8]) -> usize
+pub fn wagner_list(file: &[u8], out: &mut [u8]) -> usize
     ensures { ListExported file.now out.old out.new result }
 {
     match list(file, out) {
@@ -65,8 +64,7 @@ fn accepted(header: Header) -> FileRead
 
 // Reads a file into a lent matrix and lent lists of weights, names and branch records, three numbers for each of 125: the branching of an
 // `F` file is handed back with length 0.
-#[unsafe(no_mangle)]
-pub extern "C" fn wagner_read(
+pub fn wagner_read(
     file: &[u8],
     matrix: &mut [i32],
     weights: &mut [u8],
@@ -91,8 +89,7 @@ pub extern "C" fn wagner_read(
 }
 
 // The length of the Prim Network of a lent matrix, by the weights of its characters.
-#[unsafe(no_mangle)]
-pub extern "C" fn wagner_network(matrix: &[i32], weights: &[u8], n: usize, m: usize) -> Measured
+pub fn wagner_network(matrix: &[i32], weights: &[u8], n: usize, m: usize) -> Measured
     ensures { result ≡ network_exported matrix.now weights.now n m }
 {
     let answer = network(matrix, weights, n, m);
@@ -119,14 +116,7 @@ fn build_in(matrix: &mut [i32], weights: &[u8], n: usize, m: usize, order: Order
 
 // Builds the Wagner tree of a lent matrix by the weights of its characters, in the order of placing with a number, 1 by advancement or 2
 // the closest first: the codes of the HTUs are written into their rows, and the length of the tree comes back.
-#[unsafe(no_mangle)]
-pub extern "C" fn wagner_build(
-    matrix: &mut [i32],
-    weights: &[u8],
-    n: usize,
-    m: usize,
-    order: u64,
-) -> Measured
+pub fn wagner_build(matrix: &mut [i32], weights: &[u8], n: usize, m: usize, order: u64) -> Measured
     ensures { BuildExported (order_numbered order) (ask_build matrix.old weights.now n m order)
         matrix.old matrix.new weights.now n m result }
 {
@@ -167,8 +157,7 @@ fn fit_in(
 // Builds the Wagner tree of a lent matrix by the weights of its characters, in the order of placing with a number, and fits it: the codes
 // of the HTUs are written into their rows, the lowest, the highest and the chosen state of each HTU in each character into three lists of
 // the matrix's shape, and the fitted total comes back.
-#[unsafe(no_mangle)]
-pub extern "C" fn wagner_fit(
+pub fn wagner_fit(
     matrix: &mut [i32],
     weights: &[u8],
     n: usize,
@@ -206,8 +195,7 @@ pub extern "C" fn wagner_fit(
 }
 
 // The floor of a lent matrix, by the weights of its characters.
-#[unsafe(no_mangle)]
-pub extern "C" fn wagner_floor(matrix: &[i32], weights: &[u8], n: usize, m: usize) -> Measured
+pub fn wagner_floor(matrix: &[i32], weights: &[u8], n: usize, m: usize) -> Measured
     ensures { result ≡ floor_exported matrix.now weights.now n m }
 {
     match floor(matrix, weights, n, m) {
@@ -218,8 +206,7 @@ pub extern "C" fn wagner_floor(matrix: &[i32], weights: &[u8], n: usize, m: usiz
 
 // The consistency index of a branching that is lent as 375 numbers, three for each of 125 records: a node, its immediate ancestor, and a
 // length, which is not read.
-#[unsafe(no_mangle)]
-pub extern "C" fn wagner_index(
+pub fn wagner_index(
     matrix: &[i32],
     weights: &[u8],
     n: usize,
