@@ -206,6 +206,7 @@ pub fn wagner_floor(matrix: &[i32], weights: &[u8], n: usize, m: usize) -> Measu
 
 // The consistency index of a branching that is lent as 375 numbers, three for each of 125 records: a node, its immediate ancestor, and a
 // length, which is not read.
+#[tactic(auto, using(crate::proofs::IndexSaid::index_unsized))]
 pub fn wagner_index(
     matrix: &[i32],
     weights: &[u8],
