@@ -1,5 +1,6 @@
 -- What holds of the lengths that the calls hand back: of a difference its largest value, of an interval difference that it is the
 -- difference from the medians.
+use Rattle.std.specs.Prelude.{Ok}
 use mathlib.Core.Path.{◌≡◌, refl}
 use mathlib.Core.List.Memᴰ
 use mathlib.Core.List.{List, [], ◌∷◌}
@@ -10,14 +11,13 @@ use lib.ListN.{length}
 use Rattle.matrix.specs.Shape.{row}
 use Rattle.matrix.specs.Outcomes.{value}
 use Rattle.matrix.specs.Questions.{ask_nodes}
-use Rattle.matrix.specs.declared.refusal.Asked.TheVariants.{Passed}
 use Rattle.matrix.proofs.Passing.{nodes_passed, node_passed}
 use Rattle.difference.specs.Rows.{difference, most_difference, medians}
 use Rattle.difference.specs.Calls.{difference_answer, interval_answer}
 use Rattle.difference.proofs.Laws.Rows.{difference_limit, interval-median}
 
 -- a difference that is handed back is at most 2,301,696
-pub call_most : (codes : List ℤ) (weights : List ℕ) (n m a b : ℕ) → ask_nodes codes weights n m (a ∷ b ∷ []) ≡ Passed
+pub call_most : (codes : List ℤ) (weights : List ℕ) (n m a b : ℕ) → ask_nodes codes weights n m (a ∷ b ∷ []) ≡ Ok tt
     → difference weights (row codes m a) (row codes m b) ≤ most_difference
 call_most codes weights n m a b e =
     let passed = nodes_passed codes weights n m (a ∷ b ∷ []) e in
@@ -26,13 +26,13 @@ call_most codes weights n m a b e =
     difference_limit weights (row codes m a) (row codes m b) (rw at_a.0 passed.weighted.known) at_a.1 at_b.1 (omega (arith, at_a.0, passed.matrix.characters))
 
 -- and it is what the call answers
-pub call_difference : (codes : List ℤ) (weights : List ℕ) (n m a b : ℕ) → ask_nodes codes weights n m (a ∷ b ∷ []) ≡ Passed
+pub call_difference : (codes : List ℤ) (weights : List ℕ) (n m a b : ℕ) → ask_nodes codes weights n m (a ∷ b ∷ []) ≡ Ok tt
     → difference_answer codes weights n m a b ≡ value (difference weights (row codes m a) (row codes m b))
 unfolding difference_answer
 call_difference codes weights n m a b e = rw e
 
 -- an interval difference that is handed back is the difference from the medians
-pub call_interval : (codes : List ℤ) (weights : List ℕ) (n m b c d : ℕ) → ask_nodes codes weights n m (b ∷ c ∷ d ∷ []) ≡ Passed
+pub call_interval : (codes : List ℤ) (weights : List ℕ) (n m b c d : ℕ) → ask_nodes codes weights n m (b ∷ c ∷ d ∷ []) ≡ Ok tt
     → interval_answer codes weights n m b c d ≡ value (difference weights (row codes m b) (medians (row codes m b) (row codes m c) (row codes m d)))
 unfolding interval_answer
 call_interval codes weights n m b c d e =

@@ -1,4 +1,5 @@
 -- Computed: which question of a call on a matrix of two taxa and one character refuses, and that the earlier one does where two would.
+use Rattle.std.specs.Prelude.{Ok, Err}
 use mathlib.Core.Path.{◌≡◌, refl}
 use mathlib.Core.List.{List, [], ◌∷◌, map}
 use Prim.Native.Nat.{ℕ}
@@ -8,20 +9,19 @@ use Rattle.lists.specs.Numbers.{numbers}
 use Rattle.lists.specs.Tests.{every}
 use Rattle.matrix.specs.Shape.{matrix_size, columns, row, in_range, is_weight, weight_at, weight_of, last_node}
 use Rattle.matrix.specs.declared.refusal.Refusal.TheVariants.{BeyondLimits, CodeRange, ListSize, NotThere, WeightForm}
-use Rattle.matrix.specs.Outcomes.{Outcome, value, refused, asked_says}
+use Rattle.matrix.specs.Outcomes.{Outcome, value, refused, result_says, asked_says}
 use Rattle.matrix.specs.Questions.{one_to, within_limits, all_in_range, rows_in_range, are_weights, ask_matrix, nodes_exist, htu_in_range, htus_in_range}
 use Rattle.matrix.specs.Questions.{ask_nodes}
 use Rattle.difference.specs.Rows.{apart, part, lower, higher, median, medians, difference, interval_by, weighing}
-use Rattle.difference.specs.Calls.{length_says, difference_answer, interval_answer, ask_medians}
-use Rattle.difference.specs.declared.calls.Length.TheVariants.{Is, Refused}
+use Rattle.difference.specs.Calls.{difference_answer, interval_answer, ask_medians}
 
 -- what a length handed back says: the length; or the number of the refusal, with line 0
-length-says : length_says (Is 7)
-    ∷ length_says (Refused ListSize)
-    ∷ length_says (Refused BeyondLimits)
-    ∷ length_says (Refused CodeRange)
-    ∷ length_says (Refused NotThere)
-    ∷ length_says (Refused WeightForm)
+length-says : result_says {A = ℕ} (Ok 7)
+    ∷ result_says (Err ListSize)
+    ∷ result_says (Err BeyondLimits)
+    ∷ result_says (Err CodeRange)
+    ∷ result_says (Err NotThere)
+    ∷ result_says (Err WeightForm)
     ∷ []
     ≡ value 7 ∷ refused 12 0 ∷ refused 4 0 ∷ refused 10 0 ∷ refused 13 0 ∷ refused 16 0 ∷ []
 length-says = refl

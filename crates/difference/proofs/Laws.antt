@@ -6,4 +6,5 @@ pub mod Codes
 pub mod Weights
 pub mod Rows
 pub mod Parts
+pub mod Sums
 pub mod Measure

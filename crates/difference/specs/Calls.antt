@@ -2,19 +2,10 @@
 use Rattle.std.specs.Prelude.{◌≡◌, List, [], ◌∷◌, ℕ, eqb, ℤ, length}
 use Rattle.lists.specs.Over.{over}
 use Rattle.matrix.specs.Shape.{columns, row}
-use Rattle.matrix.specs.Refusals.{refusal_number}
-use Rattle.matrix.specs.Outcomes.{Outcome, value, refused, answered, asked_says, ask, afterwards}
+use Rattle.matrix.specs.Outcomes.{Asked, Outcome, answered, asked_says, ask, afterwards}
 use Rattle.matrix.specs.Questions.{ask_nodes}
 use Rattle.matrix.specs.declared.refusal.Refusal.TheVariants.{ListSize}
-use Rattle.matrix.specs.declared.refusal.Asked.{Asked}
 use Rattle.difference.specs.Rows.{difference, medians, interval_difference}
-use Rattle.difference.specs.declared.calls.Length.{Length}
-use Rattle.difference.specs.declared.calls.Length.TheVariants.{Is, Refused}
-
--- what a length handed back says
-abbrev pub length_says : Length → Outcome ℕ
-length_says (Is length) = value length
-length_says (Refused refusal) = refused (refusal_number refusal) 0
 
 -- the difference of nodes a and b
 unfoldable pub difference_answer : List ℤ → List ℕ → ℕ → ℕ → ℕ → ℕ → Outcome ℕ
@@ -33,7 +24,7 @@ ask_medians codes weights n m a b c out = ask (eqb (length out) columns) ListSiz
 
 -- the call for medians answers its questions; the lent row then has the medians over its first m codes, or is as before
 pub record MediansAnswer (codes : List ℤ) (weights : List ℕ) (n m a b c : ℕ) (old new : List ℤ) (r : Asked) : Type 0 where
-  pub says : asked_says r ≡ asked_says (ask_medians codes weights n m a b c old)
+  pub says : r ≡ ask_medians codes weights n m a b c old
   pub lent : new
       ≡ afterwards (asked_says (ask_medians codes weights n m a b c old))
       (over 0 (medians (row codes m a) (row codes m b) (row codes m c)) old) old

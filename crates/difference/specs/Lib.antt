@@ -2,3 +2,4 @@
 pub mod Rows
 pub mod Answers
 pub mod Calls
+pub mod Nodes

@@ -12,6 +12,8 @@ use native.Mathlib.Omega.{arith}
 use borrow.Author.Tests.{not-true, not-false}
 use lib.ListN.{length, get_or, drop, drop_of_length-le}
 use lib.Seq.{drop-cons}
+use Rattle.std.specs.List.{list_all, range_with_len}
+use Rattle.lists.specs.Numbers.{numbers}
 use Rattle.lists.specs.Tests.{every, same_numbers}
 use Rattle.lists.proofs.Both.{and_left, and_right, and_both, eqb_iff, and_iff}
 
@@ -88,6 +90,13 @@ module _ {A : Type 0} (test : A → Bool) (d : A) where
     pub every_passes : length xs ≤ j → true ≡ every test xs
     unfolding every
     every_passes h = sym (inv ∙ ap (every test) (drop_of_length-le xs h))
+
+-- a test of the numbers behind those of a range is that test of the numbers from the second on
+pub every_behind : (test : ℕ → Bool) (first count : ℕ)
+    → list_all (λ i. test (i + 1)) (range_with_len first count) ≡ every test (numbers (suc first) count)
+unfolding every numbers
+every_behind test first zero = refl
+every_behind test first (suc count) = rw add-one (ap (λ rest. test (suc first) && rest) (every_behind test (suc first) count))
 
 -- two lists pass the test exactly if they are equal
 pub same_numbers_iff : (xs ys : List ℕ) → (same_numbers xs ys ≡ true) ↔ (xs ≡ ys)

@@ -6,6 +6,8 @@ pub mod Maps
 pub mod Sums
 pub mod Numbers
 pub mod Least
+pub mod Picked
+pub mod Arrays
 pub mod Over
 pub mod Stripes
 pub mod Filled

@@ -79,3 +79,9 @@ module _ {A : Type 0} (f : ℕ → A) where
   -- and beyond its end
   pub map-beyond : (z : A) (a k i : ℕ) → k ≤ i → get_or (map f (numbers a k)) i z ≡ z
   map-beyond z a k i h = get_or-eq_default (map f (numbers a k)) z (omega (arith, length_map_numbers a k))
+
+  -- made from the numbers behind those of a row
+  pub map_behind : (by a k : ℕ) → map (λ i. f (i + by)) (numbers a k) ≡ map f (numbers (a + by) k)
+  unfolding numbers
+  map_behind by a zero = refl
+  map_behind by a (suc k) = ap (λ rest. f (a + by) ∷ rest) (map_behind by (suc a) k ∙ ap (λ (b : ℕ). map f (numbers b k)) (suc-add a by))

@@ -64,6 +64,12 @@ module _ {A : Type 0} where
   over-fits (suc place) xs [] h = absurd (omega arith)
   over-fits (suc place) xs (o ∷ old) h = rw (suc-add place (length xs)) (ap (λ rest. o ∷ rest) (over-fits place xs old (omega arith)))
 
+  -- the same where a part of the list is exchanged for as many items
+  pub over-part_put : (place count : ℕ) (xs old : List A) → length xs ≡ count → place + count ≤ length old
+      → put_mid place (place + count - place) old xs ≡ over place xs old
+  over-part_put place count xs old e h =
+      rw (Post-is place (place + count) old (omega arith), sym e) (sym (over-fits place xs old (omega arith)))
+
   -- and there it is read back
   pub over_item : (place : ℕ) (xs old : List A) → place + length xs ≤ length old → take (length xs) (drop place (over place xs old)) ≡ xs
   over_item place xs old h =

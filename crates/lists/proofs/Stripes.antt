@@ -10,6 +10,10 @@ use Rattle.lists.specs.Over.{over, stripes}
 use Rattle.lists.proofs.Numbers.{numbers-snoc, length_map_numbers}
 use Rattle.lists.proofs.Over.{length_over, over-inside, over-before, over-behind, over_nothing, over-snoc}
 
+-- a place in an item is that in the item before it, a width further
+next_stripe : (width place k i : ℕ) → place + suc k * width + i ≡ place + width + k * width + i
+next_stripe width place k i = omega arith
+
 module _ {A : Type 0} where
   -- no item is wider than its place
   abbrev pub Narrow : ℕ → List (List A) → Type 0
@@ -51,8 +55,7 @@ module _ {A : Type 0} where
         ∙ stripes-before none (place + width) items (over place item old) (place + i) (omega (arith, narrow 0))
         ∙ over-inside none place item old i h (omega arith)
     stripes-inside none place (item ∷ items) old narrow (suc k) i h room =
-        let there : place + suc k * width + i ≡ place + width + k * width + i = omega arith in
-        ap (λ p. get_or (stripes width (place + width) items (over place item old)) p none) there
+        ap (λ p. get_or (stripes width (place + width) items (over place item old)) p none) (next_stripe width place k i)
         ∙ stripes-inside none (place + width) items (over place item old) (λ j. narrow (suc j)) k i h
         (omega (arith, length_over place item old))
 
@@ -66,11 +69,10 @@ module _ {A : Type 0} where
         stripes-before none (place + width) items (over place item old) (place + 0 * width + i) (omega arith)
         ∙ over-behind none place item old (place + 0 * width + i) (omega arith)
     stripes-else none place (item ∷ items) old narrow (suc k) i h l =
-        let there : place + suc k * width + i ≡ place + width + k * width + i = omega arith in
-        ap (λ p. get_or (stripes width (place + width) items (over place item old)) p none) there
+        ap (λ p. get_or (stripes width (place + width) items (over place item old)) p none) (next_stripe width place k i)
         ∙ stripes-else none (place + width) items (over place item old) (λ j. narrow (suc j)) k i h l
         ∙ over-behind none place item old (place + width + k * width + i) (omega (arith, narrow 0))
-        ∙ ap (λ p. get_or old p none) (sym there)
+        ∙ ap (λ p. get_or old p none) (sym (next_stripe width place k i))
 
     -- behind the last item all stays
     pub stripes-behind : (none : A) (place : ℕ) (items : List (List A)) (old : List A) → Narrow width items → (i : ℕ)

@@ -1,6 +1,6 @@
 -- The choice that settles a tie. A key gives each item a number, as a difference or an advancement; of a list the first item with the
 -- least key is chosen.
-use Rattle.std.specs.Prelude.{List, [], ◌∷◌, Bool, cond, ℕ, ◌-◌, leb}
+use Rattle.std.specs.Prelude.{List, [], ◌∷◌, Bool, cond, ℕ, ◌-◌, leb, Option, Some, None}
 use Rattle.lists.specs.Filters.{keep}
 use Rattle.lists.specs.Numbers.{numbers}
 
@@ -10,6 +10,11 @@ first_least key x [] = x
 first_least key x (y ∷ ys) =
     let z = first_least key y ys in
     cond (leb (key x) (key z)) x z
+
+-- of a list, the first item with the least key, if there is one
+abbrev pub least_item : {A : Type 0} → (A → ℕ) → List A → Option A
+least_item key [] = None
+least_item key (x ∷ xs) = Some (first_least key x xs)
 
 -- of a list of numbers, the first with the least key, and 0 if there is none
 unfoldable pub least_of : (ℕ → ℕ) → List ℕ → ℕ

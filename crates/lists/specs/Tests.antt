@@ -1,10 +1,10 @@
 -- Tests of lists: every element passes a test; a number is one of a list; two lists are the same.
 use Rattle.std.specs.Prelude.{List, [], ◌∷◌, Bool, true, false, ◌&&◌, ◌||◌, ℕ, eqb}
+use Rattle.std.specs.List.{list_all}
 
 -- every element of a list passes a test
 unfoldable pub every : {A : Type 0} → (A → Bool) → List A → Bool
-every test [] = true
-every test (x ∷ xs) = test x && every test xs
+every test list = list_all test list
 
 -- a number is one of a list
 unfoldable pub among : ℕ → List ℕ → Bool

@@ -1,4 +1,5 @@
 -- Computed: the numbers of all refusals, what answers say, what lent memory then holds, sizes, and the questions put to weights.
+use Rattle.std.specs.Prelude.{Ok, Err}
 use mathlib.Core.Path.{◌≡◌, refl}
 use mathlib.Core.Bool.{true, false}
 use mathlib.Core.List.{List, [], ◌∷◌, map}
@@ -10,13 +11,11 @@ use Rattle.lists.specs.Tests.{every}
 use Rattle.matrix.specs.Shape.{matrix_size, columns, row, in_range, is_weight, weight_at, weight_of}
 use Rattle.matrix.specs.Questions.{one_to, within_limits, all_in_range, rows_in_range, are_weights, ask_matrix}
 use Rattle.matrix.specs.Refusals.{refusal_number}
-use Rattle.matrix.specs.Outcomes.{ask, and_then, Outcome, value, refused, on_line, answered, asked_says, afterwards}
+use Rattle.matrix.specs.Outcomes.{Asked, ask, and_then, Outcome, value, refused, on_line, answered, asked_says, afterwards}
 use Rattle.matrix.specs.declared.refusal.Refusal.{Refusal}
 use Rattle.matrix.specs.declared.refusal.Refusal.TheVariants.{FileTooLong, FileEmpty, FirstLine, BeyondLimits, LineMissing}
 use Rattle.matrix.specs.declared.refusal.Refusal.TheVariants.{NameForm, NameTaken, FieldCount, CodeForm, CodeRange, FileGoesOn}
 use Rattle.matrix.specs.declared.refusal.Refusal.TheVariants.{ListSize, NotThere, NotBranching, UnknownOrder, WeightForm, BranchForm}
-use Rattle.matrix.specs.declared.refusal.Asked.{Asked}
-use Rattle.matrix.specs.declared.refusal.Asked.TheVariants.{Passed, Refused}
 
 -- every refusal, in the order of the papers' numbers
 abbrev all : List Refusal
@@ -45,16 +44,16 @@ pub record Examples : Type 0 where
   -- the numbers of the refusals are 1 to 17
   pub numbers : map refusal_number all ≡ 1 ∷ 2 ∷ 3 ∷ 4 ∷ 5 ∷ 6 ∷ 7 ∷ 8 ∷ 9 ∷ 10 ∷ 11 ∷ 12 ∷ 13 ∷ 14 ∷ 15 ∷ 16 ∷ 17 ∷ []
   -- the first "no" ends the questions
-  pub first : ask false ListSize (ask false CodeRange Passed) ≡ Refused ListSize
-  pub later : and_then (ask true ListSize Passed) (ask false CodeRange Passed) ≡ Refused CodeRange
+  pub first : ask false ListSize (ask false CodeRange (Ok tt)) ≡ Err ListSize
+  pub later : and_then (ask true ListSize (Ok tt)) (ask false CodeRange (Ok tt)) ≡ Err CodeRange
   -- a call that reads no file gives line 0, a line of a file gives its own
-  pub call : ◌≡◌ {A = Outcome ℕ} (answered (Refused NotThere) 7) (refused 13 0)
-  pub passed : ◌≡◌ {A = Outcome ℕ} (answered Passed 7) (value 7)
-  pub says : asked_says (Refused CodeRange) ≡ refused 10 0
-  pub line : ◌≡◌ {A = Outcome ℕ} (on_line 3 (Refused NameForm) (value 7)) (refused 6 3)
+  pub call : ◌≡◌ {A = Outcome ℕ} (answered (Err NotThere) 7) (refused 13 0)
+  pub passed : ◌≡◌ {A = Outcome ℕ} (answered (Ok tt) 7) (value 7)
+  pub says : asked_says (Err CodeRange) ≡ refused 10 0
+  pub line : ◌≡◌ {A = Outcome ℕ} (on_line 3 (Err NameForm) (value 7)) (refused 6 3)
   -- lent memory is as written if nothing was refused, as before if something was
-  pub written : ◌≡◌ {A = ℕ} (afterwards (asked_says Passed) 5 4) 5
-  pub kept : ◌≡◌ {A = ℕ} (afterwards (asked_says (Refused ListSize)) 5 4) 4
+  pub written : ◌≡◌ {A = ℕ} (afterwards (asked_says (Ok tt)) 5 4) 5
+  pub kept : ◌≡◌ {A = ℕ} (afterwards (asked_says (Err ListSize)) 5 4) 4
 
 -- they are as said
 pub examples : Examples
@@ -96,9 +95,9 @@ pub record SizeExamples : Type 0 where
   -- items are counted from 1 to the last
   pub counted : map (one_to 3) (0 ∷ 1 ∷ 3 ∷ 4 ∷ []) ≡ false ∷ true ∷ true ∷ false ∷ []
   -- 16,128 codes pass, fewer and more are 12
-  pub full : sized 16128 ≡ Passed
-  pub fewer : sized 16127 ≡ Refused ListSize
-  pub more : sized 16129 ≡ Refused ListSize
+  pub full : sized 16128 ≡ Ok tt
+  pub fewer : sized 16127 ≡ Err ListSize
+  pub more : sized 16129 ≡ Err ListSize
 
 -- they are as said
 pub size_examples : SizeExamples
@@ -114,13 +113,13 @@ pub record WeightExamples : Type 0 where
   -- each character has its own weight, and one without has weight 1
   pub own : map (weight_of (3 ∷ 2 ∷ [])) (1 ∷ 2 ∷ 3 ∷ []) ≡ 3 ∷ 2 ∷ 1 ∷ []
   -- 128 weights pass, fewer and more are 12
-  pub full : ask_matrix zeros (ones 128) 2 1 ≡ Passed
-  pub fewer : ask_matrix zeros (ones 127) 2 1 ≡ Refused ListSize
-  pub more : ask_matrix zeros (ones 129) 2 1 ≡ Refused ListSize
+  pub full : ask_matrix zeros (ones 128) 2 1 ≡ Ok tt
+  pub fewer : ask_matrix zeros (ones 127) 2 1 ≡ Err ListSize
+  pub more : ask_matrix zeros (ones 129) 2 1 ≡ Err ListSize
   -- 4 comes before 16 and before 10, and 16 before 10
-  pub limits_first : ask_matrix zeros bad_weight 65 1 ≡ Refused BeyondLimits
-  pub limits_before : ask_matrix bad_code (ones columns) 65 1 ≡ Refused BeyondLimits
-  pub weights_before : ask_matrix bad_code bad_weight 2 1 ≡ Refused WeightForm
+  pub limits_first : ask_matrix zeros bad_weight 65 1 ≡ Err BeyondLimits
+  pub limits_before : ask_matrix bad_code (ones columns) 65 1 ≡ Err BeyondLimits
+  pub weights_before : ask_matrix bad_code bad_weight 2 1 ≡ Err WeightForm
 
 -- they are as said
 pub weight_examples : WeightExamples

@@ -1,4 +1,5 @@
 -- What passed questions tell, and which matrices pass them.
+use Rattle.std.specs.Prelude.{Ok, Err}
 use mathlib.Core.Path.{◌≡◌, refl, ◌∙◌}
 use mathlib.Core.Bool.{Bool, true, false, and-eq-true_iff}
 use mathlib.Core.List.{List, Memᴰ}
@@ -13,24 +14,18 @@ use Rattle.lists.proofs.Both.{or_cases}
 use Rattle.matrix.proofs.Row.{row-length}
 use Rattle.lists.specs.Numbers.{numbers}
 use Rattle.matrix.specs.Shape.{columns, matrix_size, row, last_node}
-use Rattle.matrix.specs.Outcomes.{ask, and_then}
+use Rattle.matrix.specs.Outcomes.{Asked, ask, and_then}
 use Rattle.matrix.specs.Questions.{one_to, within_limits, all_in_range, rows_in_range, are_weights, ask_matrix, LentMatrix, LentWeights}
 use Rattle.matrix.specs.Questions.{nodes_exist, htu_in_range, htus_in_range, ask_nodes}
 use Rattle.matrix.specs.declared.refusal.Refusal.{Refusal}
 use Rattle.matrix.specs.declared.refusal.Refusal.TheVariants.{BeyondLimits, CodeRange, ListSize, NotThere, WeightForm}
-use Rattle.matrix.specs.declared.refusal.Asked.{Asked}
-use Rattle.matrix.specs.declared.refusal.Asked.TheVariants.{Passed, Refused}
 use Rattle.lists.proofs.Every.{every_at, every-from, every_iff}
 use Rattle.lists.proofs.Numbers.{length-numbers, get_or-numbers}
 
--- a refusal is no pass
-refused_not_passed : (r : Refusal) → Refused r ≡ Passed → ⊥
-refused_not_passed r e = let z : ◌≡◌ {A = ℕ} 0 1 = cc in omega arith
-
 -- questions that pass: the first is answered "yes", and the rest pass
-pub ask_passed : (b : Bool) (r : Refusal) (rest : Asked) → ask b r rest ≡ Passed → (b ≡ true) × (rest ≡ Passed)
+pub ask_passed : (b : Bool) (r : Refusal) (rest : Asked) → ask b r rest ≡ Ok tt → (b ≡ true) × (rest ≡ Ok tt)
 ask_passed true r rest e = (refl, e)
-ask_passed false r rest e = absurd (refused_not_passed r e)
+ask_passed false r rest e = cc
 
 -- an item that is one of `last` lies between 1 and `last`
 pub one_to-true : (last item : ℕ) → one_to last item ≡ true → (1 ≤ item) × (item ≤ last)
@@ -64,17 +59,17 @@ rows_in_range-from codes m n h = every-from (λ u. all_in_range (row codes m u))
 
 -- the questions pass a lent matrix of n taxa and m characters with its weights, and nothing else
 pub matrix_passes : (codes : List ℤ) (weights : List ℕ) (n m : ℕ)
-    → (ask_matrix codes weights n m ≡ Passed) ↔ (LentMatrix codes n m × LentWeights weights m)
+    → (ask_matrix codes weights n m ≡ Ok tt) ↔ (LentMatrix codes n m × LentWeights weights m)
 unfolding ask_matrix within_limits
 matrix_passes codes weights n m = (passed, passes)
   where
-    passed : ask_matrix codes weights n m ≡ Passed → LentMatrix codes n m × LentWeights weights m
+    passed : ask_matrix codes weights n m ≡ Ok tt → LentMatrix codes n m × LentWeights weights m
     passed e =
         let size = ask_passed (eqb (length codes) matrix_size) ListSize _ e in
         let weights-size = ask_passed (eqb (length weights) columns) ListSize _ size.1 in
         let limits = ask_passed (within_limits n m) BeyondLimits _ weights-size.1 in
         let weights_known = ask_passed (are_weights weights m) WeightForm _ limits.1 in
-        let codes-known = ask_passed (rows_in_range codes m n) CodeRange Passed weights_known.1 in
+        let codes-known = ask_passed (rows_in_range codes m n) CodeRange (Ok tt) weights_known.1 in
         let both = (and-eq-true_iff (one_to 64 n) (one_to 128 m)).0 limits.0 in
         let taxa = one_to-true 64 n both.0 in
         let characters = one_to-true 128 m both.1 in (
@@ -89,7 +84,7 @@ matrix_passes codes weights n m = (passed, passes)
           record { full = eqb-true _ _ weights-size.0; known = weights_known.0 },
         )
 
-    passes : LentMatrix codes n m × LentWeights weights m → ask_matrix codes weights n m ≡ Passed
+    passes : LentMatrix codes n m × LentWeights weights m → ask_matrix codes weights n m ≡ Ok tt
     passes (l, w) =
         rw (
           eq-eqb (length codes) matrix_size l.full,
@@ -101,11 +96,11 @@ matrix_passes codes weights n m = (passed, passes)
         )
 
 -- a matrix that passed is a lent one
-pub matrix_passed : (codes : List ℤ) (weights : List ℕ) (n m : ℕ) → ask_matrix codes weights n m ≡ Passed → LentMatrix codes n m
+pub matrix_passed : (codes : List ℤ) (weights : List ℕ) (n m : ℕ) → ask_matrix codes weights n m ≡ Ok tt → LentMatrix codes n m
 matrix_passed codes weights n m e = ((matrix_passes codes weights n m).0 e).0
 
 -- and its weights are lent ones
-pub weights_passed : (codes : List ℤ) (weights : List ℕ) (n m : ℕ) → ask_matrix codes weights n m ≡ Passed → LentWeights weights m
+pub weights_passed : (codes : List ℤ) (weights : List ℕ) (n m : ℕ) → ask_matrix codes weights n m ≡ Ok tt → LentWeights weights m
 weights_passed codes weights n m e = ((matrix_passes codes weights n m).0 e).1
 
 -- what passed questions on a lent matrix and some nodes tell
@@ -116,18 +111,18 @@ pub record NodesPassed (codes : List ℤ) (weights : List ℕ) (n m : ℕ) (node
   pub htus : htus_in_range codes n m nodes ≡ true
 
 -- earlier questions that pass, with those that follow: both pass
-pub and_then_passed : (first rest : Asked) → and_then first rest ≡ Passed → (first ≡ Passed) × (rest ≡ Passed)
-and_then_passed Passed rest e = (refl, e)
-and_then_passed (Refused r) rest e = absurd (refused_not_passed r e)
+pub and_then_passed : (first rest : Asked) → and_then first rest ≡ Ok tt → (first ≡ Ok tt) × (rest ≡ Ok tt)
+and_then_passed (Ok _) rest e = (refl, e)
+and_then_passed (Err r) rest e = cc
 
 -- questions on a lent matrix and some nodes that pass tell that
-pub nodes_passed : (codes : List ℤ) (weights : List ℕ) (n m : ℕ) (nodes : List ℕ) → ask_nodes codes weights n m nodes ≡ Passed
+pub nodes_passed : (codes : List ℤ) (weights : List ℕ) (n m : ℕ) (nodes : List ℕ) → ask_nodes codes weights n m nodes ≡ Ok tt
     → NodesPassed codes weights n m nodes
 unfolding ask_nodes
 nodes_passed codes weights n m nodes e =
     let both = and_then_passed (ask_matrix codes weights n m) _ e in
     let existing = ask_passed (nodes_exist n nodes) NotThere _ both.1 in
-    let known = ask_passed (htus_in_range codes n m nodes) CodeRange Passed existing.1 in
+    let known = ask_passed (htus_in_range codes n m nodes) CodeRange (Ok tt) existing.1 in
     let lent = (matrix_passes codes weights n m).0 both.0 in
     record { matrix = lent.0; weighted = lent.1; exist = existing.0; htus = known.0 }
 

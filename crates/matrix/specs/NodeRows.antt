@@ -1,9 +1,8 @@
 -- The rows of the nodes, by node number, and a matrix with rows written into it.
-use Rattle.std.specs.Prelude.{◌≡◌, List, [], map, ℕ, ◌-◌, ◌≤◌, ℤ, length, get_or, take}
+use Rattle.std.specs.Prelude.{List, [], map, ℕ, ◌-◌, ℤ, get_or}
 use Rattle.lists.specs.Numbers.{numbers}
 use Rattle.lists.specs.Over.{over, stripes}
 use Rattle.matrix.specs.Shape.{columns, row_start, row}
-use Rattle.matrix.specs.declared.rows.RowCopy.{RowCopy}
 
 -- the row of node v
 unfoldable pub row_of : List (List ℤ) → ℕ → List ℤ
@@ -20,8 +19,3 @@ with_row codes v r = over (row_start v) r codes
 -- the matrix with rows written so for nodes v, v+1, ..
 unfoldable pub with_rows : List ℤ → ℕ → List (List ℤ) → List ℤ
 with_rows codes v rows = stripes columns (row_start v) rows codes
-
--- a copy of the row of node v: its first `count` codes are the row's, at most 128
-pub record CopyOf (codes : List ℤ) (m v : ℕ) (copy : RowCopy) : Type 0 where
-  pub is : take copy.count copy.codes ≡ take columns (row codes m v)
-  pub within : copy.count ≤ length copy.codes

@@ -1,12 +1,10 @@
 -- The questions put to a lent matrix, in document 01's order: a "no" ends them with its refusal.
-use Rattle.std.specs.Prelude.{List, Bool, true, ◌&&◌, ◌||◌, ◌≡◌, ℕ, ◌≤◌, leb, eqb, ℤ, length, take}
+use Rattle.std.specs.Prelude.{List, Bool, true, ◌&&◌, ◌||◌, ◌≡◌, ℕ, ◌≤◌, leb, eqb, ℤ, length, take, Ok}
 use Rattle.lists.specs.Numbers.{numbers}
 use Rattle.lists.specs.Tests.{every}
-use Rattle.matrix.specs.Outcomes.{ask, and_then}
+use Rattle.matrix.specs.Outcomes.{Asked, ask, and_then}
 use Rattle.matrix.specs.Shape.{most_taxa, most_characters, columns, matrix_size, row, in_range, is_weight, last_node}
 use Rattle.matrix.specs.declared.refusal.Refusal.TheVariants.{BeyondLimits, CodeRange, ListSize, NotThere, WeightForm}
-use Rattle.matrix.specs.declared.refusal.Asked.{Asked}
-use Rattle.matrix.specs.declared.refusal.Asked.TheVariants.{Passed}
 
 -- an item, counted from 1, is one of `last`
 unfoldable pub one_to : ℕ → ℕ → Bool
@@ -34,7 +32,7 @@ ask_matrix codes weights n m =
     ask (eqb (length codes) matrix_size) ListSize
     (ask (eqb (length weights) columns) ListSize
     (ask (within_limits n m) BeyondLimits
-    (ask (are_weights weights m) WeightForm (ask (rows_in_range codes m n) CodeRange Passed))))
+    (ask (are_weights weights m) WeightForm (ask (rows_in_range codes m n) CodeRange (Ok tt)))))
 
 -- a lent matrix of n taxa and m characters: what the questions above let pass
 pub record LentMatrix (codes : List ℤ) (n m : ℕ) : Type 0 where
@@ -66,4 +64,4 @@ htus_in_range codes n m nodes = every (htu_in_range codes n m) nodes
 unfoldable pub ask_nodes : List ℤ → List ℕ → ℕ → ℕ → List ℕ → Asked
 ask_nodes codes weights n m nodes =
     and_then (ask_matrix codes weights n m)
-    (ask (nodes_exist n nodes) NotThere (ask (htus_in_range codes n m nodes) CodeRange Passed))
+    (ask (nodes_exist n nodes) NotThere (ask (htus_in_range codes n m nodes) CodeRange (Ok tt)))

@@ -3,55 +3,32 @@ ghost use Rattle.std.specs.Prelude.{◌≡◌};
 ghost use Rattle.matrix.specs.Refusals.{refusal_number};
 
 // Why an input is refused. `refusal_number` gives the number of each.
-#[derive(Clone, Copy)]
+#[derive(Clone, Copy, PartialEq, Eq)]
 pub enum Refusal {
-    FileTooLong,
-    FileEmpty,
-    FirstLine,
-    BeyondLimits,
-    LineMissing,
-    NameForm,
-    NameTaken,
-    FieldCount,
-    CodeForm,
-    CodeRange,
-    FileGoesOn,
-    ListSize,
-    NotThere,
-    NotBranching,
-    UnknownOrder,
-    WeightForm,
-    BranchForm,
+    FileTooLong = 1,
+    FileEmpty = 2,
+    FirstLine = 3,
+    BeyondLimits = 4,
+    LineMissing = 5,
+    NameForm = 6,
+    NameTaken = 7,
+    FieldCount = 8,
+    CodeForm = 9,
+    CodeRange = 10,
+    FileGoesOn = 11,
+    ListSize = 12,
+    NotThere = 13,
+    NotBranching = 14,
+    UnknownOrder = 15,
+    WeightForm = 16,
+    BranchForm = 17,
 }
 
-// What the questions put to an input answer: nothing refuses it, or the first "no".
-#[derive(Clone, Copy)]
-pub enum Asked {
-    Passed,
-    Refused(Refusal),
-}
-
+// Kept: no plainer, callers name what the cast gives.
 // The number of a refusal.
+// Kept: no plainer, `u64::from(refusal)` would not say which number it is, and would stand beside this function, which is promised.
 pub fn number(refusal: Refusal) -> u64
     ensures { result ≡ refusal_number refusal }
 {
-    match refusal {
-        Refusal::FileTooLong => 1,
-        Refusal::FileEmpty => 2,
-        Refusal::FirstLine => 3,
-        Refusal::BeyondLimits => 4,
-        Refusal::LineMissing => 5,
-        Refusal::NameForm => 6,
-        Refusal::NameTaken => 7,
-        Refusal::FieldCount => 8,
-        Refusal::CodeForm => 9,
-        Refusal::CodeRange => 10,
-        Refusal::FileGoesOn => 11,
-        Refusal::ListSize => 12,
-        Refusal::NotThere => 13,
-        Refusal::NotBranching => 14,
-        Refusal::UnknownOrder => 15,
-        Refusal::WeightForm => 16,
-        Refusal::BranchForm => 17,
-    }
+    refusal as u64
 }

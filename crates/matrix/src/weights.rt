@@ -3,37 +3,28 @@ ghost use Rattle.std.specs.Prelude.{◌≡◌};
 ghost use Rattle.matrix.specs.Shape.{is_weight, weight_at};
 ghost use Rattle.matrix.specs.Questions.{are_weights};
 
-use crate::rows::least;
 use crate::{HEAVIEST, LIGHTEST};
 
 // Whether a weight is from 1 to 9.
+#[tactic(auto, using(crate::proofs::Between::nat_between), unfolding(crate::specs::Shape::is_weight))]
 pub fn is_weight(weight: u8) -> bool
     ensures { result ≡ is_weight weight }
 {
-    LIGHTEST <= weight && weight <= HEAVIEST
+    (LIGHTEST..=HEAVIEST).contains(&weight)
 }
 
 // Whether the first m of the lent weights are from 1 to 9.
+#[tactic(auto, unfolding(crate::specs::Questions::are_weights, lists::specs::Tests::every))]
 pub fn are_weights(weights: &[u8], m: usize) -> bool
     ensures { result ≡ are_weights weights.now m }
 {
-    let count = least(m, weights.len());
-    let mut j = 0;
-    while j < count {
-        if !is_weight(weights[j]) {
-            return false;
-        }
-        j += 1;
-    }
-    true
+    weights.iter().take(m).all(|weight| is_weight(*weight))
 }
 
 // The weight at a place, counted from 0: that of character place + 1, and 1 past the end of the list.
+#[tactic(auto, unfolding(crate::specs::Shape::weight_at))]
 pub fn weight_at(weights: &[u8], place: usize) -> u8
     ensures { result ≡ weight_at weights.now place }
 {
-    if place < weights.len() {
-        return weights[place];
-    }
-    LIGHTEST
+    weights.get(place).copied().unwrap_or(LIGHTEST)
 }

@@ -1,20 +1,19 @@
 // A number that stands for a whole list of the matrix's size.
-use crate::lines::{end_line, print_field};
+use crate::SIZE;
 use difference::codes::apart;
 use std::io;
 
+// Digests are below it: 2 ^ 31.
+const MODULUS: u64 = 2147483648;
+
 // A number that any changed code of a list changes, as far as such a number can.
-fn digest(codes: &[i32; 16128]) -> u64 {
-    let mut sum = 0u64;
-    for i in 0..16128 {
-        sum = (sum % 2147483648) * 31 + apart(codes[i], -1000) % 4096;
-    }
-    sum % 2147483648
+fn digest(codes: &[i32; SIZE]) -> u64 {
+    codes.iter().fold(0, |sum: u64, code| {
+        ((sum % MODULUS) * 31 + apart(*code, -1000) % 4096) % MODULUS
+    })
 }
 
 // The D line of a list.
-pub fn print_digest(rt: &impl Print, codes: &[i32; 16128]) -> io::Result<()> {
-    print!(rt; "D")?;
-    print_field(rt, digest(codes))?;
-    end_line(rt)
+pub fn print_digest(rt: &impl Print, codes: &[i32; SIZE]) -> io::Result<()> {
+    println!(rt; "D\t{}", digest(codes))
 }

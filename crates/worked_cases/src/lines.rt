@@ -1,48 +1,31 @@
 // Fields and lines on standard output.
 use matrix::refusal;
 use matrix::refusal::Refusal;
-use std::io;
+use std::{fmt, io};
 
-// A field of a line: a tab and a number.
-pub fn print_field(rt: &impl Print, number: u64) -> io::Result<()> {
-    print!(rt; "\t{number}")
+// A field of a line: a tab and a number or a word.
+pub fn print_field(rt: &impl Print, field: impl fmt::Display + Drop) -> io::Result<()> {
+    print!(rt; "\t{field}")
 }
 
 // The end of a line.
 pub fn end_line(rt: &impl Print) -> io::Result<()> {
-    print!(rt; "\n")
+    println!(rt; "")
 }
 
 // The rest of a line of three numbers, behind its letter.
 pub fn print_three(rt: &impl Print, first: usize, second: usize, third: u64) -> io::Result<()> {
-    print_field(rt, first as u64)?;
-    print_field(rt, second as u64)?;
-    print_field(rt, third)?;
-    end_line(rt)
+    println!(rt; "\t{first}\t{second}\t{third}")
 }
 
 // The R line of a refusal, of a call that reads no file.
 pub fn print_refusal(rt: &impl Print, why: Refusal) -> io::Result<()> {
-    print!(rt; "R")?;
-    print_field(rt, refusal::number(why))?;
-    print_field(rt, 0)?;
-    end_line(rt)
+    println!(rt; "R\t{}\t0", refusal::number(why))
 }
 
-// A field of a line: a tab and a state.
-pub fn print_state(rt: &impl Print, state: i32) -> io::Result<()> {
-    print!(rt; "\t{state}")
-}
-
+// Kept: no plainer, the mark of a branch is a `bool` where it is found.
 // The T line of node v's branch: its fitted length and its mark.
 pub fn print_fitted(rt: &impl Print, v: usize, length: u64, marked: bool) -> io::Result<()> {
-    print!(rt; "T")?;
-    print_field(rt, v as u64)?;
-    print_field(rt, length)?;
-    if marked {
-        print!(rt; "\t+")?;
-    } else {
-        print!(rt; "\t-")?;
-    }
-    end_line(rt)
+    let mark = if marked { '+' } else { '-' };
+    println!(rt; "T\t{v}\t{length}\t{mark}")
 }

@@ -1,5 +1,4 @@
 // Lines of trees and branch records, nodes by number.
-use crate::lines::{end_line, print_field, print_three};
 use branching::branch::Branch;
 use branching::placement::Placement;
 use branching::tree::Tree;
@@ -7,40 +6,38 @@ use std::io;
 
 // The W line of a placement: taxon, lower end, upper end, HTU, length added.
 pub fn print_placement(rt: &impl Print, placement: Placement) -> io::Result<()> {
-    print!(rt; "W")?;
-    print_field(rt, placement.taxon as u64)?;
-    print_field(rt, placement.lower as u64)?;
-    print_field(rt, placement.upper as u64)?;
-    print_field(rt, placement.htu as u64)?;
-    print_field(rt, placement.added)?;
-    end_line(rt)
+    let Placement {
+        taxon,
+        lower,
+        upper,
+        htu,
+        added,
+    } = placement;
+    println!(rt; "W\t{taxon}\t{lower}\t{upper}\t{htu}\t{added}")
 }
 
-// The A line of a node: its immediate ancestor.
-fn print_ancestor(rt: &impl Print, tree: Tree, v: usize) -> io::Result<()> {
-    let above = tree.ancestor(v);
-    if above == 0 {
-        return Ok(());
-    }
-    print!(rt; "A")?;
-    print_field(rt, v as u64)?;
-    print_field(rt, above as u64)?;
-    end_line(rt)
-}
-
-// The A lines of a tree, for the nodes that have an ancestor.
+// Kept: no plainer, 0 stands for no ancestor in the tree's own list.
+// The A lines of a tree: each node that has an immediate ancestor, and this one.
 pub fn print_tree(rt: &impl Print, tree: Tree) -> io::Result<()> {
     for v in 0..127 {
-        print_ancestor(rt, tree, v)?;
+        let above = tree.ancestor(v);
+        if above != 0 {
+            println!(rt; "A\t{v}\t{above}")?;
+        }
     }
     Ok(())
 }
 
+// Kept: no plainer, a record of zeros stands for none in a list of records.
 // The B line of a branch record: node, immediate ancestor, length. A record of zeros has none.
 pub fn print_branch(rt: &impl Print, branch: Branch) -> io::Result<()> {
-    if branch.node == 0 {
+    let Branch {
+        node,
+        ancestor,
+        length,
+    } = branch;
+    if node == 0 {
         return Ok(());
     }
-    print!(rt; "B")?;
-    print_three(rt, branch.node, branch.ancestor, branch.length)
+    println!(rt; "B\t{node}\t{ancestor}\t{length}")
 }

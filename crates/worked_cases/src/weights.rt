@@ -10,18 +10,13 @@ pub fn first_three(first: u8, second: u8, third: u8) -> [u8; 128] {
     weights
 }
 
-// One of the weights 1 to 9, by a number.
-fn chosen(number: u64) -> u8 {
-    (1 + (number / 65536) % 9) as u8
-}
-
-// Such weights from a sequence of pseudo-random numbers.
+// Weights from 1 to 9 by a sequence of pseudo-random numbers.
 pub fn generated(seed: u64) -> [u8; 128] {
     let mut weights = [1u8; 128];
     let mut number = seed;
-    for j in 0..128 {
+    for weight in &mut weights {
         number = following(number);
-        weights[j] = chosen(number);
+        *weight = (1 + (number / 65536) % 9) as u8;
     }
     weights
 }

@@ -9,10 +9,11 @@ use native.Mathlib.Omega.{arith}
 use borrow.Author.Tests.{leb-true}
 use lib.Dec.{T, leb→le}
 use lib.IntN.{ℤ, pos, negsuc, nat_abs, sub_ℕ, ◌-ℤ◌, +ℤ_idr}
-use lib.Signed.{◌≤ℤ◌, ≤ℤ_refl, le_z, non_neg, pos-nat_abs}
+use lib.Signed.{◌≤ℤ◌, ≤ℤ_refl, le_z, lt_z, non_neg, pos-nat_abs}
+use Rattle.std.specs.Int.{int_min, int_max}
 use Rattle.matrix.specs.Shape.{in_range}
 use Rattle.difference.specs.Rows.{apart, lower, higher, median}
-use Rattle.difference.proofs.Laws.Order.{le_z-true, le_z-false, ≤ℤ-total, cond-keeps, median-keeps}
+use Rattle.difference.proofs.Laws.Order.{le_z-true, le_z-false, lt_z-true, lt_z-false, ≤ℤ-total, cond-keeps, median-keeps}
 use Rattle.difference.proofs.Laws.Places.{place, sub_cases, everywhere, place_le, le_place, apart-place, lower-place, higher-place}
 use Rattle.difference.proofs.Laws.Places.{median-place}
 
@@ -65,6 +66,20 @@ higher-most a b = ⊎_elim
     (λ (h : a ≤ℤ b). rw (higher_second a b h) (h, ≤ℤ_refl b))
     (λ (h : b ≤ℤ a). rw (higher-first a b h) (≤ℤ_refl a, h))
     (≤ℤ-total a b)
+
+-- std's lesser of two codes is the lower one
+pub int_min_lower : (a b : ℤ) → int_min a b ≡ lower a b
+int_min_lower a b =
+    cond-keeps (λ z. z ≡ lower a b) (lt_z b a) b a
+    (λ e. sym (lower_second a b (lt_z-true b a e)))
+    (λ e. sym (lower-first a b (lt_z-false b a e)))
+
+-- and std's greater one the higher one
+pub int_max_higher : (a b : ℤ) → int_max a b ≡ higher a b
+int_max_higher a b =
+    cond-keeps (λ z. z ≡ higher a b) (lt_z b a) a b
+    (λ e. sym (higher-first a b (lt_z-true b a e)))
+    (λ e. sym (higher_second a b (lt_z-false b a e)))
 
 -- ---- the difference of two codes
 

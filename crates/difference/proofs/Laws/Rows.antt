@@ -53,6 +53,11 @@ difference_triangle weights (x ∷ a) (y ∷ b) [] l = omega arith
 difference_triangle weights (x ∷ a) (y ∷ b) (z ∷ c) l =
     omega (arith, part_triangle (weight_at weights 0) x y z, difference_triangle (drop 1 weights) a b c (omega arith))
 
+-- of a row with codes in range the first is in range, and so are the others
+in_range-cons : (x : ℤ) (xs : List ℤ) → all_in_range (x ∷ xs) ≡ true → (in_range x ≡ true) × (all_in_range xs ≡ true)
+unfolding all_in_range every
+in_range-cons x xs h = (and-eq-true_iff (in_range x) (all_in_range xs)).0 h
+
 -- rows with codes in range differ by at most 9 times 1998 a character
 pub difference-most : (weights : List ℕ) (xs ys : List ℤ) → are_weights weights (length xs) ≡ true → all_in_range xs ≡ true
     → all_in_range ys ≡ true → difference weights xs ys ≤ 17982 * length xs
@@ -61,12 +66,10 @@ difference-most weights [] ys w h k = omega arith
 difference-most weights (x ∷ xs) [] w h k = omega arith
 difference-most weights (x ∷ xs) (y ∷ ys) w h k =
     let first = are_weights-first weights (length xs) w in
-    let hx = (and-eq-true_iff (in_range x) (all_in_range xs)).0 h in
-    let hy = (and-eq-true_iff (in_range y) (all_in_range ys)).0 k in
     omega (
       arith,
-      part-in_range (weight_at weights 0) x y first.0 hx.0 hy.0,
-      difference-most (drop 1 weights) xs ys first.1 hx.1 hy.1,
+      part-in_range (weight_at weights 0) x y first.0 (in_range-cons x xs h).0 (in_range-cons y ys k).0,
+      difference-most (drop 1 weights) xs ys first.1 (in_range-cons x xs h).1 (in_range-cons y ys k).1,
     )
 
 -- rows of at most 128 codes in range differ by at most 2,301,696
@@ -80,9 +83,7 @@ unfolding unweighted all_in_range every
 unweighted-most [] ys h k = omega arith
 unweighted-most (x ∷ xs) [] h k = omega arith
 unweighted-most (x ∷ xs) (y ∷ ys) h k =
-    let hx = (and-eq-true_iff (in_range x) (all_in_range xs)).0 h in
-    let hy = (and-eq-true_iff (in_range y) (all_in_range ys)).0 k in
-    omega (arith, apart-in_range x y hx.0 hy.0, unweighted-most xs ys hx.1 hy.1)
+    omega (arith, apart-in_range x y (in_range-cons x xs h).0 (in_range-cons y ys k).0, unweighted-most xs ys (in_range-cons x xs h).1 (in_range-cons y ys k).1)
 
 -- and rows of at most 128 codes in range by at most 255,744
 pub unweighted_limit : (xs ys : List ℤ) → all_in_range xs ≡ true → all_in_range ys ≡ true → length xs ≤ 128
@@ -150,11 +151,8 @@ medians-in_range [] ys zs h k l = refl
 medians-in_range (x ∷ xs) [] zs h k l = refl
 medians-in_range (x ∷ xs) (y ∷ ys) [] h k l = refl
 medians-in_range (x ∷ xs) (y ∷ ys) (z ∷ zs) h k l =
-    let hx = (and-eq-true_iff (in_range x) (all_in_range xs)).0 h in
-    let hy = (and-eq-true_iff (in_range y) (all_in_range ys)).0 k in
-    let hz = (and-eq-true_iff (in_range z) (all_in_range zs)).0 l in
     (and-eq-true_iff (in_range (median x y z)) (all_in_range (medians xs ys zs))).1
-    (median-in_range x y z hx.0 hy.0 hz.0, medians-in_range xs ys zs hx.1 hy.1 hz.1)
+    (median-in_range x y z (in_range-cons x xs h).0 (in_range-cons y ys k).0 (in_range-cons z zs l).0, medians-in_range xs ys zs (in_range-cons x xs h).1 (in_range-cons y ys k).1 (in_range-cons z zs l).1)
 
 -- the medians over one more character have that character's median besides
 pub medians_take_suc : (j : ℕ) (xs ys zs : List ℤ) → j < length xs → j < length ys → j < length zs

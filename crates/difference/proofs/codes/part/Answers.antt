@@ -1,4 +1,4 @@
--- `difference::codes::part` meets its contract: a weight of 8 bits times two codes of 32 bits apart fits 64. Assumes nothing.
+-- `difference::codes::part` meets its contract: a weight of 8 bits times two codes of 32 bits apart fits 64.
 use mathlib.Core.Path.{◌≡◌, ap₂}
 use Prim.Native.Nat.{◌*◌}
 use native.Mathlib.Omega.{arith}
@@ -9,12 +9,9 @@ use Rattle.difference.proofs.Laws.Weights.{part-most}
 use Rattle.difference.proofs.codes.part.Goals as goal
 
 -- the product is the part of the character
-product : (c : goal.After-apart)
-    → c.times.result * c.apart.result ≡ part c.args.weight c.args.a c.args.b
+product : (c : goal.After-apart) → c.from.result * c.apart.result ≡ part c.args.weight c.args.a c.args.b
 unfolding part
-product c =
-    ap₂ ◌*◌ c.times.ensures
-    (rw (to_z-of_z c.ranges.a, to_z-of_z c.ranges.b) at c.apart.ensures)
+product c = ap₂ ◌*◌ c.from.ensures (rw (to_z-of_z c.ranges.a, to_z-of_z c.ranges.b) at c.apart.ensures)
 
 pub overflow_mul-result : goal.overflow_mul-result
 overflow_mul-result c =

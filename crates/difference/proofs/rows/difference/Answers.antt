@@ -1,91 +1,36 @@
--- What the check leaves of `difference::rows::difference`.
-use mathlib.Core.Path.{◌≡◌, refl, sym, ap, ap₂, ◌∙◌}
-use mathlib.Core.List.{List}
-use Prim.Native.Nat.{ℕ, ◌+◌, ◌≤◌, ◌<◌, min}
-use native.Mathlib.Numerals.{add-one}
+-- `difference::rows::difference` meets its contract: the parts of the pairs, by place, make the difference, and each is at most 2 ^ 40.
+use mathlib.Core.Path.{◌∙◌}
 use native.Mathlib.Omega.{arith}
-use borrow.Author.Rules.{sfits_of}
-use lib.IntN.{ℤ, pos}
-use lib.ListN.{length, get_or, take}
-use lib.Signed.{nat_abs-le}
-use mir.Syntax.{w32}
-use mir.Facts.{to_z-of_z}
-use Rattle.matrix.specs.Shape.{weight_at}
-use Rattle.difference.specs.Rows.{part, difference}
-use Rattle.difference.proofs.Laws.Weights.{part-most}
-use Rattle.difference.proofs.Laws.Rows.{difference_take_suc}
-use Rattle.difference.proofs.Laws.Parts.{difference-within}
+use Rattle.std.proofs.Common.{rules, tests}
+use Rattle.std.proofs.lemmas.Iterator.{YieldsList-from_map}
+use Rattle.std.proofs.lemmas.Iterator.Consumers.{YieldsList-at, sum_by_from_yields_List}
+use Rattle.std.proofs.lemmas.Iterator.Adapters.{fits_from_length, at_most_from_yields_List}
+use Rattle.difference.proofs.Pairs.{pairs, length-pairs, pairs_yielded, sum_bounded}
+use Rattle.difference.proofs.Laws.Sums.{part_at, parts-difference}
 use Rattle.difference.proofs.rows.difference.Goals as goal
 
--- one character more
-one_more : (j : ℕ) (weights : List ℕ) (xs ys : List ℤ) → j < length xs → j < length ys
-    → difference weights (take (j + 1) xs) (take (j + 1) ys)
-    ≡ difference weights (take j xs) (take j ys) + part (weight_at weights j) (get_or xs j (pos 0)) (get_or ys j (pos 0))
-one_more j weights xs ys hx hy = rw add-one (difference_take_suc j weights xs ys hx hy)
-
--- the place, the weights and the two rows, in a turn of the loop
-abbrev at : goal.After-part-sum → ℕ
-at c = c.loop-j.j
-
-abbrev weights-of : goal.After-part-sum → List ℕ
-weights-of c = c.args.weights.now
-
-abbrev row-x : goal.After-part-sum → List ℤ
-row-x c = c.args.xs.now
-
-abbrev row-y : goal.After-part-sum → List ℤ
-row-y c = c.args.ys.now
-
--- what is added is the part of character j
-added : (c : goal.After-part-sum)
-    → c.part-sum.result ≡ part (weight_at (weights-of c) (at c)) (get_or (row-x c) (at c) (pos 0)) (get_or (row-y c) (at c) (pos 0))
-added c =
-    rw (
-      to_z-of_z {w = w32} (sfits_of c.part-arg-1.given),
-      to_z-of_z {w = w32} (sfits_of c.part-arg-in-loop-j-1.given),
-      c.weight_at.ensures,
-    )
-    at c.part-sum.ensures
-
--- it is at most 2 ^ 40
-added-most : (c : goal.After-part-sum) → c.part-sum.result ≤ 1099511627776
-added-most c =
-    let x = get_or (row-x c) (at c) (pos 0) in
-    let y = get_or (row-y c) (at c) (pos 0) in
-    let light : weight_at (weights-of c) (at c) ≤ 256 = omega (arith, c.weight_at.ensures, c.weight_at.type_inv) in
-    rw (added c)
-    (part-most (weight_at (weights-of c) (at c)) x y light (nat_abs-le x c.part-arg-1.given)
-    (nat_abs-le y c.part-arg-in-loop-j-1.given))
-
--- the place is within both rows
-within_x : (c : goal.After-part-sum) → at c < length (row-x c)
-within_x c = omega arith
-
-within_y : (c : goal.After-part-sum) → at c < length (row-y c)
-within_y c = omega arith
-
-pub loop-j-init : goal.loop-j-init
-unfolding difference
-loop-j-init c = (omega arith, (refl, omega arith))
-
-pub overflow_add-sum : goal.overflow_add-sum
-overflow_add-sum c = omega (arith, added-most c)
-
-pub loop-j-preserved : goal.loop-j-preserved
-loop-j-preserved c =
-    let inv = c.loop-j.invariant in (
-      omega arith,
-      (
-        ap₂ ◌+◌ inv.1.0 (added c) ∙ sym (one_more (at c) (weights-of c) (row-x c) (row-y c) (within_x c) (within_y c)),
-        omega (arith, added-most c),
-      ),
-    )
+pub sum-requires-clause-fits : goal.sum-requires-clause-fits
+sum-requires-clause-fits c =
+    fits_from_length {s = c.map.result} _ _ 128 18446744073709551616
+    (at_most_from_yields_List
+    (YieldsList-at c.map.ensures.source (pairs_yielded c.enumerate.result 128 c.args.xs.now c.args.ys.now (cc) (cc) (cc) c.enumerate.ensures.count))
+    (length-pairs 128 c.args.xs.now c.args.ys.now))
+    c.map.ensures.closure
+    (omega arith)
+    (λ x r q k. search rules)
 
 pub returns : goal.returns
 returns c =
-    let end : c.loop-j.j ≡ c.least-count.result = omega arith in
-    let count = c.least-count.ensures ∙ ap (min 128) c.least.ensures in
+    let xs = c.args.xs.now in
+    let ys = c.args.ys.now in
+    let yielded =
+    YieldsList-at c.map.ensures.source (pairs_yielded c.enumerate.result 128 xs ys (cc) (cc) (cc) c.enumerate.ensures.count) in
     record {
-      is = rw end at c.loop-j.invariant.1.0 ∙ difference-within 128 _ _ _ _ count;
-      most = omega arith;
+      is =
+          sum_by_from_yields_List (part_at c.args.weights.now) (pairs 128 xs ys) c.map.result _ c.sum.ensures.ran
+          (YieldsList-from_map _ (part_at c.args.weights.now) yielded c.map.ensures.closure (λ x r q k. search (rules, tests)))
+          ∙ parts-difference c.args.weights.now 0 128 xs ys;
+      most =
+          sum_bounded c.map.result _ 128 1099511627776 c.sum.result (c.sum.ensures.runs tt)
+          (at_most_from_yields_List yielded (length-pairs 128 xs ys)) c.map.ensures.closure (λ x r q k. search rules) (omega arith);
     }

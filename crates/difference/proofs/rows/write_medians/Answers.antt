@@ -6,7 +6,7 @@ use native.Mathlib.Numerals.{add-one}
 use native.Mathlib.Omega.{arith}
 use borrow.Author.Rules.{sfits_of}
 use lib.IntN.{ℤ, pos}
-use lib.ListN.{length, get_or, take, set, length-take, length-set}
+use lib.ListN.{length, get_or, take, set, length-take}
 use mir.Syntax.{w32}
 use mir.Facts.{to_z-of_z}
 use Rattle.lists.specs.Over.{over}
@@ -38,36 +38,24 @@ finish count xs ys zs old e =
 
 pub loop-j-init : goal.loop-j-init
 unfolding medians over
-loop-j-init c = (omega arith, refl, refl)
-
-pub bounds-out-j : goal.bounds-out-j
-bounds-out-j c = omega arith
+loop-j-init c = refl
 
 pub loop-j-preserved : goal.loop-j-preserved
 loop-j-preserved c =
-    let place = c.loop-j in
-    let args = c.args in
-    let in-x : place.j < length args.xs.now = omega arith in
-    let in-y : place.j < length args.ys.now = omega arith in
-    let in-z : place.j < length args.zs.now = omega arith in (
-      omega arith,
-      simp length-set place.invariant.1,
-      one_more place.j args.xs.now args.ys.now args.zs.now place.out args.out.now _ in-x in-y in-z place.invariant.2
-          (to_z-of_z {w = w32} (sfits_of c.median.type_inv)
-          ∙ rw (
-            to_z-of_z {w = w32} (sfits_of c.median-arg-1.given),
-            to_z-of_z {w = w32} (sfits_of c.median-arg-in-loop-j-1.given),
-            to_z-of_z {w = w32} (sfits_of c.median-arg-in-loop-j-2-1.given),
-          ) at c.median.ensures),
-    )
-
-pub shape_of-out : goal.shape_of-out
-shape_of-out c = c.loop-j.invariant.1
+    let j = c.loop-j.j in
+    let given = c.args in
+    let in-x : j < length given.xs.now = omega arith in
+    let in-y : j < length given.ys.now = omega arith in
+    let in-z : j < length given.zs.now = omega arith in
+    one_more j given.xs.now given.ys.now given.zs.now c.loop-j.out given.out.now _ in-x in-y in-z c.loop-j.invariant
+    (to_z-of_z {w = w32} (sfits_of c.median.type_inv)
+    ∙ rw (
+      to_z-of_z {w = w32} (sfits_of c.median-arg-1.given),
+      to_z-of_z {w = w32} (sfits_of c.median-arg-in-loop-j-1.given),
+      to_z-of_z {w = w32} (sfits_of c.median-arg-in-loop-j-2-1.given),
+    ) at c.median.ensures)
 
 pub returns : goal.returns
 returns c =
-    let end : c.loop-j.j ≡ c.least-count.result = omega arith in
-    let count =
-    c.least-count.ensures
-    ∙ ap (min _) (c.least-2.ensures ∙ ap (min _) c.least.ensures) in
-    rw end at c.loop-j.invariant.2 ∙ finish _ _ _ _ _ count
+    let end : c.loop-j.j ≡ c.min-count.result = omega arith in
+    rw end at c.loop-j.invariant ∙ finish _ _ _ _ _ (omega arith)

