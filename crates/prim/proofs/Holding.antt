@@ -1,5 +1,5 @@
 -- Laws of the links that a network handed back holds: place by place, and with one more link.
-use mathlib.Core.Path.{◌≡◌, refl, ap}
+use mathlib.Core.Path.{◌≡◌, refl, ap, ◌∙◌}
 use mathlib.Core.List.{List, [], ◌∷◌, ◌++◌}
 use Prim.Native.Nat.{ℕ, suc, ◌+◌, ◌<◌}
 use native.Mathlib.Omega.{arith}
@@ -38,10 +38,10 @@ length-snoc ls l = simp length-append (omega arith)
 -- a link stored behind those that a network holds: it holds that one besides
 module _ (ls : List Link) (r : Network) (l : Link) (h : Holds ls r) (room : r.count < 63) where
   -- the network with that link
-  pub holds-next : Holds (ls ++ (l ∷ []))
-      (record { count = r.count + 1; links = set r.links r.count l; total = r.total + l.length })
-  holds-next = record {
-    list = rw h.list (filled-snoc no_link most_links r.count ls l h.count room);
-    count = rw (length-snoc ls l) (let count : r.count ≡ length ls = h.count in omega arith);
-    total = rw (network_length-snoc ls l) (ap (λ (t : ℕ). t + l.length) h.total);
+  pub holds-next : (next : Network) → next.count ≡ r.count + 1 → next.links ≡ set r.links r.count l → next.total ≡ r.total + l.length
+      → Holds (ls ++ (l ∷ [])) next
+  holds-next next count links total = record {
+    list = links ∙ rw h.list (filled-snoc no_link most_links r.count ls l h.count room);
+    count = rw (length-snoc ls l) (let before : r.count ≡ length ls = h.count in omega arith);
+    total = total ∙ rw (network_length-snoc ls l) (ap (λ (t : ℕ). t + l.length) h.total);
   }

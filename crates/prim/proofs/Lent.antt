@@ -1,5 +1,6 @@
 -- The Prim Network of a lent matrix by the weights of its characters: how far its taxa can be apart, that no connected network is
 -- shorter, and which weights decide it.
+use Rattle.std.specs.Prelude.{Result, Ok, Err, IsOkAnd}
 use mathlib.Core.Path.{◌≡◌}
 use mathlib.Core.List.{List}
 use Prim.Native.Nat.{ℕ, ◌≤◌, ◌<◌}
@@ -9,14 +10,15 @@ use lib.ListN.{length}
 use Rattle.difference.specs.Rows.{node_difference, difference, unweighted, most_difference}
 use Rattle.matrix.specs.Shape.{row, weight_at}
 use Rattle.matrix.specs.Questions.{LentMatrix, LentWeights, ask_matrix}
-use Rattle.matrix.specs.declared.refusal.Asked.TheVariants.{Passed}
+use Rattle.matrix.specs.declared.refusal.Refusal.{Refusal}
+use Rattle.matrix.proofs.Answering.{answers-passed}
 use Rattle.matrix.proofs.Row.{row-most, row-length}
 use Rattle.difference.proofs.Laws.Rows.{difference-sym, difference_limit}
 use Rattle.difference.proofs.Laws.Weights.{difference-weights, difference-alike}
 use Rattle.prim.specs.Network.{network}
 use Rattle.prim.specs.Rival.{IsTaxon, Connected, Shortest, links_length}
 use Rattle.prim.specs.Answers.{Holds, NetworkAnswer}
-use Rattle.prim.specs.declared.answer.Answer.{Answer}
+use Rattle.prim.specs.declared.answer.Network.{Network}
 use Rattle.prim.proofs.Shortest.{shortest}
 use Rattle.prim.proofs.Agreement.{network_agrees}
 
@@ -40,16 +42,17 @@ module _ (codes : List ℤ) (weights : List ℕ) (n m : ℕ) where
   pub matrix_shortest : Shortest (node_difference (difference weights) (row codes m)) n
   matrix_shortest = shortest (node_difference (difference weights) (row codes m)) (taxa-sym codes weights m) n
 
-  -- where the questions pass, the network handed back holds the Prim Network
-  pub answer_holds : (r : Answer) → NetworkAnswer codes weights n m r → ask_matrix codes weights n m ≡ Passed
-      → Holds (network (node_difference (difference weights) (row codes m)) n) r.network
-  answer_holds r a pass = rw pass at a.network
+  -- where the questions pass, a network is handed back that holds the Prim Network
+  pub answer_holds : (r : Result Network Refusal) → NetworkAnswer codes weights n m r → ask_matrix codes weights n m ≡ Ok tt
+      → IsOkAnd r (Holds (network (node_difference (difference weights) (row codes m)) n))
+  answer_holds = answers-passed (ask_matrix codes weights n m) (Holds (network (node_difference (difference weights) (row codes m)) n))
 
-  -- and no connected network of the taxa is shorter than the total handed back
-  pub answer_least : (r : Answer) → NetworkAnswer codes weights n m r → ask_matrix codes weights n m ≡ Passed
-      → (links : List (ℕ × ℕ)) → Connected n links
-      → r.network.total ≤ links_length (node_difference (difference weights) (row codes m)) links
-  answer_least r a pass links c = rw (answer_holds r a pass).total (matrix_shortest.least links c)
+  -- and no connected network of the taxa is shorter than its total
+  pub answer_least : (r : Result Network Refusal) → NetworkAnswer codes weights n m r → ask_matrix codes weights n m ≡ Ok tt
+      → IsOkAnd r (λ found. (links : List (ℕ × ℕ)) → Connected n links
+      → found.total ≤ links_length (node_difference (difference weights) (row codes m)) links)
+  answer_least (Ok found) a pass = λ links c. rw (a.1).total (matrix_shortest.least links c)
+  answer_least (Err refusal) a pass = cc
 
 -- two differences that agree on rows of at most m codes have the same Prim Network
 rows_decide : (by by' : List ℤ → List ℤ → ℕ) (codes : List ℤ) (n m : ℕ)

@@ -7,8 +7,8 @@ pub mod Connected
 pub mod Links
 pub mod Shortest
 pub mod Lent
-pub mod Choosing
-pub mod Keeping
+pub mod InPlace
+pub mod Waiting
 pub mod Holding
 pub mod Growth
 pub mod Rings

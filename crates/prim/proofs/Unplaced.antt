@@ -164,7 +164,7 @@ pub length_unplaced_next : (n : ℕ) (later : List ℕ) (v : ℕ) → Memᴰ v (
     → length (unplaced n later) ≡ suc (length (unplaced n (later ++ (v ∷ []))))
 unfolding unplaced
 length_unplaced_next n later v m =
-    let h : (2 ≤ v) × (v ≤ n) × ¬ Memᴰ v later = (mem-unplaced n later v).0 m in
+    let h = (mem-unplaced n later v).0 m in
     length_without_added later v 2 (n - 1) h.2 h.0 (omega arith)
 
 -- at the start the taxa 2 to n are unplaced
@@ -185,7 +185,7 @@ not-placed n later v t out =
 -- an unplaced taxon is not placed
 pub not-unplaced : (n : ℕ) (later : List ℕ) (v : ℕ) → Memᴰ v (unplaced n later) → IsTaxon n v × ¬ IsPlaced later v
 not-unplaced n later v m =
-    let h : (2 ≤ v) × (v ≤ n) × ¬ Memᴰ v later = (mem-unplaced n later v).0 m in
+    let h = (mem-unplaced n later v).0 m in
     ((omega arith, h.1), λ k. out h (mathlib.Core.List.Memᴰ.cases_cons k))
   where
     out : (2 ≤ v) × (v ≤ n) × ¬ Memᴰ v later → (v ≡ 1) ⊎ Memᴰ v later → ⊥

@@ -1,13 +1,13 @@
 -- What the call for the Prim Network of a lent matrix answers.
-use Rattle.std.specs.Prelude.{◌≡◌, List, [], ℕ, ℤ, length}
+use Rattle.std.specs.Prelude.{◌≡◌, List, ℕ, ℤ, length, Result}
 use Rattle.matrix.specs.Shape.{row}
 use Rattle.difference.specs.Rows.{node_difference, difference}
 use Rattle.lists.specs.Filled.{filled}
-use Rattle.matrix.specs.Outcomes.{asked_says, afterwards}
+use Rattle.matrix.specs.Outcomes.{Answers}
 use Rattle.matrix.specs.Questions.{ask_matrix}
+use Rattle.matrix.specs.declared.refusal.Refusal.{Refusal}
 use Rattle.prim.specs.Network.{Link, network_length, network}
 use Rattle.prim.specs.declared.answer.Network.{Network}
-use Rattle.prim.specs.declared.answer.Answer.{Answer}
 
 -- a link of zeros
 abbrev pub no_link : Link
@@ -24,11 +24,9 @@ pub record Holds (links : List Link) (r : Network) : Type 0 where
   pub count : r.count ≡ length links
   pub total : r.total ≡ network_length links
 
--- the answer for a lent matrix of n taxa and m characters with its weights: what the questions say, and the Prim Network by the weighted
--- difference, or no link on a refusal
-pub record NetworkAnswer (codes : List ℤ) (weights : List ℕ) (n m : ℕ) (r : Answer) : Type 0 where
-  pub says : asked_says r.asked ≡ asked_says (ask_matrix codes weights n m)
-  pub network :
-      Holds
-      (afterwards (asked_says (ask_matrix codes weights n m)) (network (node_difference (difference weights) (row codes m)) n) [])
-      r.network
+-- the answer for a lent matrix of n taxa and m characters with its weights: its questions, and the Prim Network by the weighted difference
+abbrev pub NetworkAnswer : List ℤ → List ℕ → ℕ → ℕ → Result Network Refusal → Type 0
+NetworkAnswer codes weights n m r =
+    Answers (ask_matrix codes weights n m)
+    (Holds (network (node_difference (difference weights) (row codes m)) n))
+    r

@@ -1,4 +1,5 @@
 -- What the check leaves of `prim::network::grow`.
+use mathlib.Core.Path.{sym, ◌∙◌}
 use mathlib.Core.List.{List}
 use Prim.Native.Nat.{ℕ, ◌≤◌}
 use native.Mathlib.Omega.{arith}
@@ -7,6 +8,7 @@ use Rattle.matrix.specs.Shape.{row}
 use Rattle.difference.specs.Rows.{node_difference, difference, most_difference}
 use Rattle.matrix.specs.Questions.{LentMatrix, LentWeights}
 use Rattle.prim.proofs.Growth.{grown-start, grown_end, grown_room, grown-next}
+use Rattle.prim.proofs.Waiting.{start-keeps}
 use Rattle.prim.proofs.Lent.{taxa-most}
 use Rattle.prim.proofs.network.grow.Goals as goal
 
@@ -16,34 +18,20 @@ near : (codes : List ℤ) (weights : List ℕ) (n m : ℕ) → LentMatrix codes 
 near codes weights n m (lent, weighted) v low high =
     let some = lent.taxon in taxa-most codes weights n m v 1 lent weighted (low, high) (omega arith)
 
-pub start-taxa-requires : goal.start-taxa-requires
-start-taxa-requires c = (c.requires.0.taxa, c.requires.0.characters)
-
-pub loop-placed-init : goal.loop-placed-init
-loop-placed-init c =
-    let keeps = c.start-taxa.ensures in
+pub loop-link-init : goal.loop-link-init
+loop-link-init c =
     let lent = c.requires.0 in
-    grown-start _ _ _ _ lent.taxon keeps c.no_links-network.ensures
+    grown-start _ _ _ _ lent.taxon (start-keeps _ _ lent.taxon lent.taxa _ c.start-waiting.ensures) c.default-network.ensures
 
-pub next_taxon-v-requires : goal.next_taxon-v-requires
-next_taxon-v-requires c = c.requires.0.taxa
+pub push-requires : goal.push-requires
+push-requires c =
+    grown_room _ _ _ _ c.loop-link.invariant c.requires.0.taxa (near _ _ _ _ c.requires) c.in-Some.link
+    (sym c.next_link.ensures ∙ c.in-Some.is)
 
-pub with_link-network-requires : goal.with_link-network-requires
-with_link-network-requires c =
-    let loop = c.loop-placed in
-    grown_room _ _ c.requires.0.taxa (near _ _ _ _ c.requires) _ _ _ c.loop-placed-test.true loop.invariant _
-    c.next_taxon-v.ensures
-
-pub place-taxa-requires : goal.place-taxa-requires
-place-taxa-requires c =
-    let lent = c.requires.0 in
-    (c.loop-placed.invariant.keeps.size, lent.taxa, lent.characters, c.next_taxon-v.ensures.among)
-
-pub loop-placed-preserved : goal.loop-placed-preserved
-loop-placed-preserved c =
-    let loop = c.loop-placed in
-    grown-next _ _ c.requires.0.taxa (near _ _ _ _ c.requires) _ _ _ c.loop-placed-test.true loop.invariant
-    _ c.next_taxon-v.ensures _ _ c.with_link-network.ensures c.place-taxa.ensures
+pub loop-link-preserved : goal.loop-link-preserved
+loop-link-preserved c =
+    grown-next _ _ _ _ c.loop-link.invariant c.requires.0.taxa (near _ _ _ _ c.requires) c.in-Some.link
+    (sym c.next_link.ensures ∙ c.in-Some.is) _ _ c.push.ensures c.place.ensures
 
 pub returns : goal.returns
-returns c = grown_end _ _ _ _ _ c.loop-placed-test.false c.loop-placed.invariant
+returns c = grown_end _ _ _ _ c.loop-link.invariant (sym c.next_link.ensures ∙ c.in_default.is)

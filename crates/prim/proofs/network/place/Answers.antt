@@ -1,27 +1,30 @@
 -- What the check leaves of `prim::network::place`.
-use mathlib.Core.Path.{refl}
-use native.Mathlib.Nat.{le_refl}
+use mathlib.Core.Path.{refl, ap, ◌∙◌}
+use mathlib.Core.List.{List}
+use Prim.Native.Nat.{◌<◌}
 use native.Mathlib.Omega.{arith}
-use lib.ListN.{length-set}
-use Rattle.prim.proofs.Keeping.{passed_none, passed_next, place-keeps}
+use lib.ListN.{length, set, get_or}
+use Rattle.std.specs.Prelude.{Option, None, option_and_then}
+use Rattle.difference.specs.Nodes.{between}
+use Rattle.prim.specs.Network.{Link}
+use Rattle.prim.specs.Growing.{moved_link}
+use Rattle.prim.proofs.InPlace.{changed_more, changed_all}
 use Rattle.prim.proofs.network.place.Goals as goal
 
-pub loop-u-init : goal.loop-u-init
-loop-u-init c = (omega arith, omega arith, simp length-set c.requires.0, passed_none _ _)
+pub loop-kept-init : goal.loop-kept-init
+loop-kept-init c = refl
 
-pub loop-u-preserved : goal.loop-u-preserved
-loop-u-preserved c =
-    let inv = c.loop-u.invariant in
-    let now = c.loop-u.taxa in
-    let u = c.loop-u.u in (
-      omega arith,
-      omega arith,
-      simp length-set inv.2,
-      passed_next _ _ now u _ inv.0 (omega arith) (rw (inv.3.left u (le_refl u)) at c.compared.ensures) inv.3,
-    )
+pub loop-kept-preserved : goal.loop-kept-preserved
+loop-kept-preserved c =
+    let step = option_and_then (moved_link (between c.args.nodes.now) c.args.v) in
+    let i = c.loop-kept.kept-index in
+    let within : i < length c.args.waiting.now = omega arith in
+    ap (λ (value : Option Link). set c.loop-kept.waiting i value) c.moved.ensures
+    ∙ ap (λ (list : List (Option Link)). set list i (step (get_or list i None))) c.loop-kept.invariant
+    ∙ changed_more step None c.args.waiting.now i within
 
 pub returns : goal.returns
 returns c =
-    let a = c.args in
-    let inv = c.loop-u.invariant in
-    place-keeps _ a.n a.v a.taxa c.loop-u.taxa _ refl (omega arith) _ inv.3 inv.2 c.loop-u-test.false
+    let all = c.told-waiting in
+    c.loop-kept.invariant
+    ∙ changed_all (option_and_then (moved_link (between c.args.nodes.now) c.args.v)) c.args.waiting.now c.loop-kept.kept-index (omega arith)

@@ -1,19 +1,10 @@
--- `prim::network::place` meets its contract. The loop's invariant: each taxon passed is compared with the one placed. Assumes nothing.
+-- `prim::network::place` meets its contract. The loop's invariant: what is kept of the taxa passed is changed.
 use mathlib.Core.Path.{◌≡◌}
-use Prim.Native.Nat.{◌-◌, ◌≤◌}
-use lib.ListN.{length}
-use Rattle.matrix.specs.Shape.{row}
-use Rattle.difference.specs.Rows.{node_difference, difference}
-use Rattle.prim.specs.Growing.{kept_at, Compared}
-use Rattle.prim.proofs.Keeping.{Passed}
+use Rattle.std.specs.Prelude.{option_and_then}
+use Rattle.difference.specs.Nodes.{between}
+use Rattle.prim.proofs.InPlace.{changed}
+use Rattle.prim.specs.Growing.{moved_link}
 use Rattle.prim.proofs.network.place.Given as goal
 
-abbrev pub invariant-loop-u : goal.invariant-loop-u
-invariant-loop-u l =
-    (2 ≤ l.u)
-    × (l.u ≤ 65)
-    × (length l.taxa ≡ 65)
-    × Passed (λ x k. Compared (node_difference (difference l.weights) (row l.matrix l.m)) x l.v (kept_at l.initial.taxa x) k) l.initial.taxa l.taxa l.u
-
-abbrev pub decreases-loop-u : goal.decreases-loop-u
-decreases-loop-u l = 65 - l.u
+abbrev pub invariant-loop-kept : goal.invariant-loop-kept
+invariant-loop-kept l = l.waiting ≡ changed (option_and_then (moved_link (between l.nodes) l.v)) l.kept-index l.initial.waiting
