@@ -83,14 +83,27 @@ within_more below u h w = go (eqb below.first 0) (eqb below.second 0)
 abbrev pub BelowTo : List ℕ → ℕ → List Below → Type 0
 BelowTo tree u below = (v : ℕ) → 1 ≤ v → v ≤ 126 → below_at below v ≡ first_two (descendants tree (numbers 2 (u - 2)) v)
 
--- before the first node none are kept
-pub below-start : (tree : List ℕ) → BelowTo tree 2 (replicate 127 (record { first = 0; second = 0 }))
-unfolding numbers descendants keep first_two
-below-start tree v l h = get_d_replicate (record { first = 0; second = 0 }) 127 v
+-- no descendants
+module _ (none : Below) (zeros : (none.first ≡ 0) × (none.second ≡ 0)) where
+  -- both are 0
+  none_is : none ≡ record { first = 0; second = 0 }
+  none_is = made none.first none.second zeros.0 zeros.1
+    where
+      made : (a b : ℕ) → a ≡ 0 → b ≡ 0 → ◌≡◌ {A = Below} (record { first = a; second = b }) (record { first = 0; second = 0 })
+      made a b e f = cc
 
--- and each of these is 0
-pub none_within : PlacesBelow (replicate 127 (record { first = 0; second = 0 }))
-none_within v = rw (get_d_replicate {A = Below} (record { first = 0; second = 0 }) 127 v) (omega arith, omega arith)
+  -- so it stands at every place
+  each_is : (v : ℕ) → below_at (replicate 127 none) v ≡ record { first = 0; second = 0 }
+  each_is v = ap (λ (b : Below). below_at (replicate 127 b) v) none_is ∙ get_d_replicate (record { first = 0; second = 0 }) 127 v
+
+  -- before the first node none are kept
+  pub below-start : (tree : List ℕ) → BelowTo tree 2 (replicate 127 none)
+  unfolding numbers descendants keep first_two
+  below-start tree v l h = each_is v
+
+  -- and each of these is 0
+  pub none_within : PlacesBelow (replicate 127 none)
+  none_within v = rw (each_is v) (omega arith, omega arith)
 
 -- the descendants kept when node u has been gone through besides
 module _ (tree : List ℕ) (below : List Below) (u above : ℕ) (size : length below ≡ 127) (low : 2 ≤ u) (place : PlaceOf

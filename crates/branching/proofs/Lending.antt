@@ -1,7 +1,7 @@
 -- Branch records written and read one by one: what the loops over them know, and what is written when they end.
 use mathlib.Core.Path.{◌≡◌, refl, sym, ap, ap₂, ◌∙◌}
 use mathlib.Core.Logic.{by_cases, ◌≢◌}
-use mathlib.Core.List.{List, ◌∷◌, map}
+use mathlib.Core.List.{List, [], ◌∷◌, ◌++◌, map}
 use mathlib.Core.Bool.{Bool, true, false, ◌&&◌, ◌||◌}
 use Prim.Native.Nat.{ℕ, zero, suc, ◌+◌, ◌*◌, ◌-◌, ◌≤◌, ◌<◌, min}
 use native.Mathlib.Numerals.{add-one}
@@ -9,9 +9,9 @@ use native.Mathlib.Nat.{min-eq_left, min-eq_right}
 use native.Mathlib.Omega.{arith}
 use native.Mathlib.Decide.{dec_le}
 use lib.Dec.{eqb}
-use lib.ListN.{length, get_or, set, take, drop, length-map, length-take, drop_of_length-le, get_or-map}
-use lib.Seq.{drop-cons, take-suc, take_all, get_or-take, ext_get_or}
-use borrow.Author.Tests.{eq-eqb, ne_eqb}
+use lib.ListN.{length, get_or, set, take, drop, length-map, length-take, get_or-map}
+use lib.Seq.{take-suc, take_all, ext_get_or}
+use Rattle.std.specs.List.{list_all, enumerate_from}
 use Rattle.lists.specs.Numbers.{numbers}
 use Rattle.lists.specs.Tests.{same_numbers}
 use Rattle.lists.specs.Filters.{keep}
@@ -66,6 +66,16 @@ module _ (d : ℕ → ℕ → ℕ) (n : ℕ) (tree : List ℕ) (old : List Branc
   unfolding with_records
   written_all count size is = over-part 0 count (branch_records d n tree) old (omega (arith, records-count))
 
+-- records written over the first of a list, with the others put behind them, are written over the list
+pub over_front : (k : ℕ) (xs old : List Branch) → length xs ≤ k → over 0 xs (take k old) ++ drop k old ≡ over 0 xs old
+unfolding over
+over_front zero [] old h = refl
+over_front zero (x ∷ xs) old h = absurd (omega arith)
+over_front (suc k) [] [] h = refl
+over_front (suc k) [] (o ∷ old) h = ap (λ (rest : List Branch). o ∷ rest) (over_front k [] old (omega arith))
+over_front (suc k) (x ∷ xs) [] h = refl
+over_front (suc k) (x ∷ xs) (o ∷ old) h = ap (λ (rest : List Branch). x ∷ rest) (over_front k xs old (omega arith))
+
 -- one more node gets its place in a tree that is filled up to 127 places: the next immediate ancestor stands behind those that are there
 pub places-next : (above : List ℕ) (i : ℕ) → i < length above → length above ≤ 125
     → set (filled 127 0 (tree_with (take i above))) (i + 2) (get_or above i 0) ≡ filled 127 0 (tree_with (take (i + 1) above))
@@ -81,10 +91,19 @@ ancestors_given records = map (λ (branch : Branch). branch.ancestor) records
 abbrev pub ancestors_to : ℕ → List Branch → List ℕ
 ancestors_to i records = tree_with (take i (ancestors_given records))
 
--- what is left of the records from i on names the nodes from i + 2 on
-abbrev pub named_from : List Branch → ℕ → ℕ → Bool
-named_from records n i =
-    same_numbers (map (λ (branch : Branch). branch.node) (drop i (take (2 * n - 3) records))) (numbers (i + 2) (2 * n - 3 - i))
+-- a record names the node of its place
+abbrev pub names_place : ℕ × Branch → Bool
+names_place p = eqb p.1.node (p.0 + 2)
+
+-- records that stand from a place on name the nodes of their places exactly if they name these nodes in order
+pub named_from : (i : ℕ) (records : List Branch) → list_all names_place (enumerate_from i records)
+    ≡ same_numbers (map (λ (branch : Branch). branch.node) records) (numbers (i + 2) (length records))
+unfolding same_numbers numbers
+named_from i [] = refl
+named_from i (branch ∷ rest) =
+    let next : i + 1 + 2 ≡ suc (i + 2) = omega arith in
+    ap (λ (t : Bool). eqb branch.node (i + 2) && t)
+    (named_from (i + 1) rest ∙ ap (λ (k : ℕ). same_numbers (map (λ (b : Branch). b.node) rest) (numbers k (length rest))) next)
 
 module _ (records : List Branch) (size : length records ≡ 125) where
   -- one more record is read into the places
@@ -114,50 +133,13 @@ module _ (records : List Branch) (size : length records ≡ 125) where
       (sym (map-take (λ (branch : Branch). branch.ancestor) count records)
       ∙ ap ancestors_given (ap (λ (k : ℕ). take k records) is ∙ take_min (2 * n - 3)))
 
-  module _ (n : ℕ) (most : n ≤ 64) where
-    -- the record at i and those behind it
-    named_step : (i : ℕ) → i < 2 * n - 3
-        → named_from records n i ≡ (eqb (get_or records i no_branch).node (i + 2) && named_from records n (i + 1))
-    unfolding same_numbers numbers
-    named_step i h =
-        let f : Branch → ℕ = λ (branch : Branch). branch.node in
-        let read = length-take (2 * n - 3) records in
-        let below : i < length (take (2 * n - 3) records) = omega arith in
-        let first = get_or-take (2 * n - 3) records i no_branch h in
-        let list : drop i (take (2 * n - 3) records) ≡ get_or records i no_branch ∷ drop (i + 1) (take (2 * n - 3) records) =
-        drop-cons (take (2 * n - 3) records) i no_branch below
-        ∙ ap (λ (b : Branch). b ∷ drop (suc i) (take (2 * n - 3) records)) first
-        ∙ ap (λ (k : ℕ). get_or records i no_branch ∷ drop k (take (2 * n - 3) records)) (sym (add-one i)) in
-        let count : 2 * n - 3 - i ≡ suc (2 * n - 3 - (i + 1)) = omega arith in
-        let next : suc (i + 2) ≡ i + 1 + 2 = omega arith in
-        let wanted : numbers (i + 2) (2 * n - 3 - i) ≡ (i + 2) ∷ numbers (i + 1 + 2) (2 * n - 3 - (i + 1)) =
-        ap (numbers (i + 2)) count ∙ ap (λ (k : ℕ). (i + 2) ∷ numbers k (2 * n - 3 - (i + 1))) next in
-        ap₂ same_numbers (ap (map f) list) wanted
-
-    -- a record that names another node: the list does not name them in order
-    pub named_fails : (i : ℕ) → i < 2 * n - 3 → (get_or records i no_branch).node ≢ i + 2 → named_from records n i ≡ false
-    named_fails i h ne = named_step i h ∙ ap (λ (t : Bool). t && named_from records n (i + 1)) (ne_eqb _ _ ne)
-
-    -- one that names its node: those behind it decide
-    pub named-next : (i : ℕ) → i < 2 * n - 3 → (get_or records i no_branch).node ≡ i + 2 → named_from records n i ≡ named_from records n (i + 1)
-    named-next i h e = named_step i h ∙ ap (λ (t : Bool). t && named_from records n (i + 1)) (eq-eqb _ _ e)
-
-    -- at the end nothing is left
-    pub named_end : (i : ℕ) → 2 * n - 3 ≤ i → named_from records n i ≡ true
-    unfolding same_numbers numbers
-    named_end i h =
-        let f : Branch → ℕ = λ (branch : Branch). branch.node in
-        let read = length-take (2 * n - 3) records in
-        let past : length (take (2 * n - 3) records) ≤ i = omega arith in
-        let none : 2 * n - 3 - i ≡ 0 = omega arith in
-        ap₂ same_numbers (ap (map f) (drop_of_length-le (take (2 * n - 3) records) past)) (ap (numbers (i + 2)) none)
-
-    -- at the start all is
-    pub named_start : named_in_order n records ≡ named_from records n 0
-    unfolding named_in_order branches_read other_nodes
-    named_start =
-        let all : 2 * n - 3 ≡ 2 * n - 3 - 0 = omega arith in
-        ap (λ (k : ℕ). same_numbers (map (λ (branch : Branch). branch.node) (take (2 * n - 3) records)) (numbers 2 k)) all
+  -- the first 2n-3 records name the nodes of their places exactly if they name them in order
+  pub named-all : (n : ℕ) → n ≤ 64 → list_all names_place (enumerate_from 0 (take (2 * n - 3) records)) ≡ named_in_order n records
+  unfolding named_in_order branches_read other_nodes
+  named-all n most =
+      let count : length (take (2 * n - 3) records) ≡ 2 * n - 3 = omega (arith, length-take (2 * n - 3) records) in
+      named_from 0 (take (2 * n - 3) records)
+      ∙ ap (λ (k : ℕ). same_numbers (map (λ (branch : Branch). branch.node) (take (2 * n - 3) records)) (numbers 2 k)) count
 
   -- of more than 64 taxa 125 records name too few nodes
   pub lent-more : (n : ℕ) → 64 < n → lent_branching n records ≡ false
@@ -262,3 +244,6 @@ module _ (d : ℕ → ℕ → ℕ) (n : ℕ) (tree : List ℕ) (old : List Branc
         same v =
             places-ancestors n (with_records d n tree old) v ∙ ap (λ (t : List ℕ). ancestor t v) ancestors_written
             ∙ sym (records-same d n tree b v)
+
+-- which records are a branching
+pub ruleset lending = (lent-more, lent-places)

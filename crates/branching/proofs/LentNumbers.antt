@@ -48,14 +48,6 @@ pub get_or-records_in : (lent : List ℕ) (k : ℕ) → k < branches_size → ge
 unfolding records_in
 get_or-records_in lent k h = map-numbers (record_at lent) no_branch 0 branches_size k h ∙ ap (record_at lent) (zero-add k)
 
--- a list of 125 records, each the one of its place, is that of all records
-pub records-all : (lent : List ℕ) (records : List Branch) → length records ≡ branches_size
-    → ((u : ℕ) → 0 ≤ u → u < branches_size → get_or records u no_branch ≡ record_at lent u) → records ≡ records_in lent
-records-all lent records size each =
-    ext_get_or no_branch records (records_in lent) (size ∙ sym (length-records_in lent)) (λ u h.
-    let inside : u < branches_size = omega arith in
-    each u (omega arith) inside ∙ sym (get_or-records_in lent u inside))
-
 -- there is a record for each immediate ancestor
 pub length-records_for : (above : List ℕ) → length (records_for above) ≡ length above
 unfolding records_for

@@ -8,7 +8,8 @@ pub mod Nodes
 pub mod Counts
 pub mod Test
 pub mod Hanging
-pub mod Running
+pub mod Ranges
+pub mod LeastKey
 pub mod Places
 pub mod Within
 pub mod Descending

@@ -9,8 +9,9 @@ use lib.IntN.{ℤ, pos}
 use lib.ListN.{length, get_or}
 use Rattle.matrix.specs.Shape.{row, row_start}
 use Rattle.matrix.specs.NodeRows.{rows_of}
-use Rattle.matrix.specs.declared.refusal.Asked.TheVariants.{Passed}
+use Rattle.std.specs.Prelude.{Result, Ok}
 use Rattle.branching.specs.declared.placement.Placed.{Placed}
+use Rattle.branching.specs.declared.placement.NotPlaced.{NotPlaced}
 use Rattle.branching.specs.Ancestors.{ancestors, ancestor}
 use Rattle.branching.specs.Nodes.{taxa_placed, Unplaced}
 use Rattle.branching.specs.Growing.{row_one_alone}
@@ -18,7 +19,7 @@ use Rattle.branching.specs.Facts.{Grown, GrowingTree, alone, several}
 use Rattle.branching.specs.Hanging.{next_htu}
 use Rattle.branching.specs.Asking.{ask_placement}
 use Rattle.branching.specs.Placing.{median_row}
-use Rattle.branching.specs.Placed.{last_row, place_in, matrix_placed, placement_says, PlacementDone}
+use Rattle.branching.specs.Placed.{last_row, place_in, matrix_placed, placement_says, tree_back, PlacementDone}
 use Rattle.branching.proofs.Test.{alone_iff}
 use Rattle.branching.proofs.Passed.{placement_asked}
 use Rattle.branching.proofs.Unasked.{written_first}
@@ -26,7 +27,7 @@ use Rattle.branching.proofs.Standing.{Standing, asked_standing, standing_passes}
 use Rattle.branching.proofs.Standing.{placed-size, placed-else, placed_standing, placed-medians}
 
 -- a placement that passed its questions, on a tree with 127 places
-module _ (codes : List ℤ) (weights : List ℕ) (n m : ℕ) (tree : List ℕ) (b : ℕ) (pass : ask_placement codes weights n m tree b ≡ Passed) (places : length tree ≡ 127)
+module _ (codes : List ℤ) (weights : List ℕ) (n m : ℕ) (tree : List ℕ) (b : ℕ) (pass : ask_placement codes weights n m tree b ≡ Ok tt) (places : length tree ≡ 127)
   where
     -- it stands in the matrix
     stands : Standing codes weights n m (taxa_placed n tree) tree
@@ -72,15 +73,15 @@ module _ (codes : List ℤ) (weights : List ℕ) (n m : ℕ) (tree : List ℕ) (
 
     -- nothing that is handed back is refused: every taxon that is still unplaced passes the questions of the next placement
     pub placement-again : (v : ℕ) → Unplaced n (place_in codes weights n m tree b).tree v
-        → ask_placement (matrix_placed codes weights n m tree b) weights n m (place_in codes weights n m tree b).tree v ≡ Passed
+        → ask_placement (matrix_placed codes weights n m tree b) weights n m (place_in codes weights n m tree b).tree v ≡ Ok tt
     placement-again v u =
         standing_passes (matrix_placed codes weights n m tree b) weights n m (suc (taxa_placed n tree)) (place_in codes weights n m tree b).tree
         (placed_standing codes weights n m (taxa_placed n tree) tree stands b unplaced) v u
 
 -- the same of what the call handed back: tree and matrix pass the questions again
-pub handed-again : (codes new : List ℤ) (weights : List ℕ) (n m : ℕ) (tree : List ℕ) (b : ℕ) (r : Placed) → length tree ≡ 127
-    → PlacementDone codes new weights n m tree b r → ask_placement codes weights n m tree b ≡ Passed
-    → (v : ℕ) → Unplaced n (ancestors r.tree) v → ask_placement new weights n m (ancestors r.tree) v ≡ Passed
+pub handed-again : (codes new : List ℤ) (weights : List ℕ) (n m : ℕ) (tree : List ℕ) (b : ℕ) (r : Result Placed NotPlaced) → length tree ≡ 127
+    → PlacementDone codes new weights n m tree b r → ask_placement codes weights n m tree b ≡ Ok tt
+    → (v : ℕ) → Unplaced n (ancestors (tree_back r)) v → ask_placement new weights n m (ancestors (tree_back r)) v ≡ Ok tt
 unfolding placement_says
 handed-again codes new weights n m tree b r places done pass v u =
     let grown = rw pass at done.tree in

@@ -1,14 +1,14 @@
 -- The test for a growing tree, place by place, is the test of the definition, for a list of 127 places and at most 64 taxa.
 use mathlib.Core.Path.{◌≡◌, refl, sym, ap, ◌∙◌}
 use mathlib.Core.Logic.{◌↔◌, inl, inr, ⊎_elim, by_cases}
-use mathlib.Core.List.{List, [], ◌∷◌, ◌++◌, Memᴰ}
+use mathlib.Core.List.{List, [], ◌∷◌, ◌++◌, append-nil, Memᴰ}
 use mathlib.Core.Bool.{Bool, true, false, cond, ◌&&◌, ◌||◌}
-use Prim.Native.Nat.{ℕ, ◌+◌, ◌-◌, ◌≤◌, ◌<◌, min}
+use Prim.Native.Nat.{ℕ, ◌+◌, ◌*◌, ◌-◌, ◌≤◌, ◌<◌, min}
 use native.Mathlib.Nat.{min-eq_left, min-eq_right}
 use native.Mathlib.Omega.{arith}
 use native.Mathlib.Decide.{dec_le}
 use lib.Dec.{leb, ltb, eqb}
-use lib.ListN.{length, length-append}
+use lib.ListN.{length}
 use borrow.Author.Tests.{eq-eqb, eqb-true, le-leb, lt-leb, leb-true, lt-ltb, ltb-true}
 use Rattle.lists.specs.Tests.{every}
 use Rattle.lists.specs.Filters.{keep}
@@ -18,7 +18,7 @@ use Rattle.lists.proofs.Keep.{keep-none}
 use Rattle.lists.proofs.Numbers.{numbers-within, numbers-append}
 use Rattle.matrix.specs.Shape.{last_node}
 use Rattle.branching.specs.Ancestors.{ancestor}
-use Rattle.branching.specs.Nodes.{has_ancestor, in_tree, nodes_in, taxa_placed}
+use Rattle.branching.specs.Nodes.{has_ancestor, in_tree, nodes_in, other_nodes, taxa_placed}
 use Rattle.branching.specs.Growing.{descendant_count, descendants_wanted, climbs, grown}
 use Rattle.branching.specs.Facts.{InTree, ReachesRoot, root, Grown}
 use Rattle.branching.specs.Testing.{node_right, place_right}
@@ -67,30 +67,43 @@ module _ (tree : List ℕ) where
     place_none a = rw (lt-leb 1 (ancestor tree v) (omega arith))
 
 module _ (tree : List ℕ) (size : length tree ≡ 127) where
+  -- of consecutive numbers, those beyond the places are not in the tree
+  kept-places : (first most count : ℕ) → first + most ≡ 127 → 2 ≤ first + most
+      → keep (in_tree tree) (numbers first count) ≡ keep (in_tree tree) (numbers first (min count most))
+  kept-places first most count end several = by_cases (dec_le count most) (λ h. rw (min-eq_left h)) beyond
+    where
+      out : (v : ℕ) → Memᴰ v (numbers (first + most) (count - most)) → in_tree tree v ≡ true → ⊥
+      out v m t =
+          let w = numbers-within (first + most) (count - most) v m in
+          ⊎_elim (λ e. omega arith) (λ a. omega (arith, ancestor-place tree v a)) ((in_tree_iff tree v).0 t)
+
+      empty : (vs : List ℕ) → length vs ≡ 0 → vs ≡ []
+      empty [] e = refl
+      empty (v ∷ vs) e = absurd (omega arith)
+
+      nothing : keep (in_tree tree) (numbers (first + most) (count - most)) ≡ []
+      nothing = empty _ (keep-none (in_tree tree) (numbers (first + most) (count - most)) out)
+
+      beyond : ¬ (count ≤ most) → keep (in_tree tree) (numbers first count) ≡ keep (in_tree tree) (numbers first (min count most))
+      beyond h =
+          let least : most ≤ count = omega arith in
+          let all : count ≡ most + (count - most) = omega arith in
+          ap (λ (k : ℕ). keep (in_tree tree) (numbers first k)) all
+          ∙ ap (keep (in_tree tree)) (numbers-append first most (count - most))
+          ∙ keep_append (in_tree tree) (numbers first most) (numbers (first + most) (count - most))
+          ∙ ap (λ (rest : List ℕ). keep (in_tree tree) (numbers first most) ++ rest) nothing
+          ∙ append-nil (keep (in_tree tree) (numbers first most))
+          ∙ ap (λ (k : ℕ). keep (in_tree tree) (numbers first k)) (sym (min-eq_right least))
+
   -- no taxon beyond the places is placed
   pub taxa_placed-places : (n : ℕ) → taxa_placed n tree ≡ length (keep (in_tree tree) (numbers 1 (min n 126)))
   unfolding taxa_placed nodes_in
-  taxa_placed-places n = by_cases (dec_le n 126) (λ h. rw (min-eq_left h)) beyond
-    where
-      none : (v : ℕ) → Memᴰ v (numbers (1 + 126) (n - 126)) → in_tree tree v ≡ true → ⊥
-      none v m t =
-          let w = numbers-within (1 + 126) (n - 126) v m in
-          ⊎_elim (λ e. omega arith) (λ a. omega (arith, ancestor-place tree v a)) ((in_tree_iff tree v).0 t)
+  taxa_placed-places n = ap length (kept-places 1 126 n refl (omega arith))
 
-      beyond : ¬ (n ≤ 126) → length (keep (in_tree tree) (numbers 1 n)) ≡ length (keep (in_tree tree) (numbers 1 (min n 126)))
-      beyond h =
-          let least : 126 ≤ n = omega arith in
-          let all : n ≡ 126 + (n - 126) = omega arith in
-          let parts : numbers 1 n ≡ numbers 1 126 ++ numbers (1 + 126) (n - 126) =
-          ap (numbers 1) all ∙ numbers-append 1 126 (n - 126) in
-          let out : length (keep (in_tree tree) (numbers (1 + 126) (n - 126))) ≡ 0 =
-          keep-none (in_tree tree) (numbers (1 + 126) (n - 126)) none in
-          let both : length (keep (in_tree tree) (numbers 1 n))
-          ≡ length (keep (in_tree tree) (numbers 1 126)) + length (keep (in_tree tree) (numbers (1 + 126) (n - 126))) =
-          ap (λ (us : List ℕ). length (keep (in_tree tree) us)) parts
-          ∙ ap length (keep_append (in_tree tree) (numbers 1 126) (numbers (1 + 126) (n - 126)))
-          ∙ length-append (keep (in_tree tree) (numbers 1 126)) (keep (in_tree tree) (numbers (1 + 126) (n - 126))) in
-          rw (min-eq_right least) (omega arith)
+  -- no node beyond the places is in the tree
+  pub nodes_in-places : (n : ℕ) → nodes_in tree (other_nodes n) ≡ keep (in_tree tree) (numbers 2 (min (2 * n - 3) 125))
+  unfolding nodes_in other_nodes
+  nodes_in-places n = kept-places 2 125 (2 * n - 3) refl (omega arith)
 
   module _ (n k : ℕ) (most : n ≤ 64) (placed : taxa_placed n tree ≡ k) (several : 2 ≤ k) where
     -- the test of node 1 and of every place
@@ -167,9 +180,10 @@ module _ (tree : List ℕ) (size : length tree ≡ 127) where
         climbing v (inl p) = rw p root
         climbing v (inr a) = climbs_reaches tree (last_node n) v (right v a).1.1.1
 
-    -- so it is the test of the definition
-    pub grown-places : grown n k tree ≡ all_right
+    -- so it is the test of the definition, put to the 127 places
+    pub grown-places : grown n k tree ≡ (eqb (descendant_count n tree 1) 1 && every (place_right n k tree) (numbers 0 127))
     grown-places =
         same_test (grown n k tree) all_right
         (λ e. right_grown (grown-fact tree n k placed e))
         (λ e. grown_test tree n k placed (grown_right e))
+        ∙ ap (λ (count : ℕ). eqb (descendant_count n tree 1) 1 && every (place_right n k tree) (numbers 0 count)) size

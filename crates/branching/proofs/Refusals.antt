@@ -11,8 +11,8 @@ use Rattle.lists.specs.Filters.{keep}
 use Rattle.matrix.specs.Shape.{row, in_range, is_weight, last_node}
 use Rattle.matrix.specs.Questions.{one_to, within_limits, all_in_range, rows_in_range, are_weights, ask_matrix, htu_in_range, htus_in_range}
 use Rattle.matrix.specs.declared.refusal.Refusal.TheVariants.{BeyondLimits, CodeRange, ListSize, NotThere, NotBranching, WeightForm}
-use Rattle.matrix.specs.declared.refusal.Asked.{Asked}
-use Rattle.matrix.specs.declared.refusal.Asked.TheVariants.{Passed, Refused}
+use Rattle.matrix.specs.Outcomes.{Asked}
+use Rattle.std.specs.Prelude.{Ok, Err}
 use Rattle.branching.specs.declared.branch.Branch.{Branch}
 use Rattle.branching.specs.Ancestors.{ancestor, descendants}
 use Rattle.branching.specs.Nodes.{has_ancestor, in_tree, nodes_in, other_nodes, taxa_placed}
@@ -66,7 +66,7 @@ lent = lent_by ones
 
 -- 124 and 126 records are 12, 125 pass
 record_counts : lent full 3 (three 121) ∷ lent full 3 (three 122) ∷ lent full 3 (three 123) ∷ []
-    ≡ Refused ListSize ∷ Passed ∷ Refused ListSize ∷ []
+    ≡ Err ListSize ∷ Ok tt ∷ Err ListSize ∷ []
 unfolding lent
 record_counts = refl
 
@@ -77,7 +77,7 @@ size_first : lent (replicate 16127 (pos 0)) 3 (three 121)
     ∷ lent (wrong_row 1) 3 (three 121)
     ∷ lent full 3 (zeros 124)
     ∷ []
-    ≡ Refused ListSize ∷ Refused ListSize ∷ Refused ListSize ∷ Refused ListSize ∷ []
+    ≡ Err ListSize ∷ Err ListSize ∷ Err ListSize ∷ Err ListSize ∷ []
 unfolding lent
 size_first = refl
 
@@ -89,18 +89,18 @@ matrix-next : lent (replicate 16129 (pos 0)) 65 (zeros 125)
     ∷ lent full 0 (zeros 125)
     ∷ lent (wrong_row 3) 3 (zeros 125)
     ∷ []
-    ≡ Refused ListSize ∷ Refused ListSize ∷ Refused BeyondLimits ∷ Refused BeyondLimits ∷ Refused CodeRange ∷ []
+    ≡ Err ListSize ∷ Err ListSize ∷ Err BeyondLimits ∷ Err BeyondLimits ∷ Err CodeRange ∷ []
 unfolding lent
 matrix-next = refl
 
 -- 125 records of zeros are 14 for two taxa and for more, and a branching of one taxon
 zero-records : lent full 1 (zeros 125) ∷ lent full 2 (zeros 125) ∷ lent full 3 (zeros 125) ∷ []
-    ≡ Passed ∷ Refused NotBranching ∷ Refused NotBranching ∷ []
+    ≡ Ok tt ∷ Err NotBranching ∷ Err NotBranching ∷ []
 unfolding lent
 zero-records = refl
 
 -- a code out of range in the row of an HTU, or beyond the taxa, is not read
-htus_unread : lent (wrong_row 4) 3 (three 122) ∷ lent (wrong_row 126) 3 (three 122) ∷ [] ≡ Passed ∷ Passed ∷ []
+htus_unread : lent (wrong_row 4) 3 (three 122) ∷ lent (wrong_row 126) 3 (three 122) ∷ [] ≡ Ok tt ∷ Ok tt ∷ []
 unfolding lent
 htus_unread = refl
 
@@ -134,21 +134,21 @@ each_refusal : placed (replicate 16127 (pos 0)) 4 grown_tree 3
     ∷ placed (wrong_row 5) 4 grown_tree 3
     ∷ placed full 4 grown_tree 3
     ∷ []
-    ≡ Refused ListSize
-    ∷ Refused BeyondLimits
-    ∷ Refused CodeRange
-    ∷ Refused NotThere
-    ∷ Refused NotThere
-    ∷ Refused NotBranching
-    ∷ Refused NotThere
-    ∷ Refused CodeRange
-    ∷ Passed
+    ≡ Err ListSize
+    ∷ Err BeyondLimits
+    ∷ Err CodeRange
+    ∷ Err NotThere
+    ∷ Err NotThere
+    ∷ Err NotBranching
+    ∷ Err NotThere
+    ∷ Err CodeRange
+    ∷ Ok tt
     ∷ []
 unfolding placed
 each_refusal = refl
 
 -- row 1 is in every growing tree: as the taxon to place it is 13, and not 14, also where row 1 stands alone
-row_one : placed full 4 grown_tree 1 ∷ placed full 4 (replicate 127 0) 1 ∷ [] ≡ Refused NotThere ∷ Refused NotThere ∷ []
+row_one : placed full 4 grown_tree 1 ∷ placed full 4 (replicate 127 0) 1 ∷ [] ≡ Err NotThere ∷ Err NotThere ∷ []
 unfolding placed
 row_one = refl
 
@@ -163,15 +163,15 @@ matrix-first : placed (replicate 16127 (pos 1000)) 65 wrong_tree 0
     ∷ placed (wrong_row 4) 4 wrong_tree 3
     ∷ placed (wrong_row 4) 4 grown_tree 2
     ∷ []
-    ≡ Refused ListSize
-    ∷ Refused ListSize
-    ∷ Refused ListSize
-    ∷ Refused BeyondLimits
-    ∷ Refused BeyondLimits
-    ∷ Refused BeyondLimits
-    ∷ Refused CodeRange
-    ∷ Refused CodeRange
-    ∷ Refused CodeRange
+    ≡ Err ListSize
+    ∷ Err ListSize
+    ∷ Err ListSize
+    ∷ Err BeyondLimits
+    ∷ Err BeyondLimits
+    ∷ Err BeyondLimits
+    ∷ Err CodeRange
+    ∷ Err CodeRange
+    ∷ Err CodeRange
     ∷ []
 unfolding placed
 matrix-first = refl
@@ -185,18 +185,18 @@ then_in_order : placed full 4 wrong_tree 5
     ∷ placed (wrong_row 5) 4 wrong_tree 3
     ∷ placed (wrong_row 5) 4 grown_tree 2
     ∷ []
-    ≡ Refused NotThere
-    ∷ Refused NotThere
-    ∷ Refused NotBranching
-    ∷ Refused NotBranching
-    ∷ Refused NotBranching
-    ∷ Refused NotThere
+    ≡ Err NotThere
+    ∷ Err NotThere
+    ∷ Err NotBranching
+    ∷ Err NotBranching
+    ∷ Err NotBranching
+    ∷ Err NotThere
     ∷ []
 unfolding placed
 then_in_order = refl
 
 -- the row of an HTU that the tree does not have is not read
-other-htu : placed (wrong_row 6) 4 grown_tree 3 ∷ placed (wrong_row 5) 4 (replicate 127 0) 3 ∷ [] ≡ Passed ∷ Passed ∷ []
+other-htu : placed (wrong_row 6) 4 grown_tree 3 ∷ placed (wrong_row 5) 4 (replicate 127 0) 3 ∷ [] ≡ Ok tt ∷ Ok tt ∷ []
 unfolding placed
 other-htu = refl
 
@@ -226,16 +226,16 @@ weights_asked : lent_by (replicate 127 1) full 3 (three 122)
     ∷ recorded_by ten_first full 3 whole_tree 125
     ∷ recorded_by ten_first (wrong_row 1) 3 whole_tree 125
     ∷ []
-    ≡ Refused ListSize
-    ∷ Refused WeightForm
-    ∷ Refused BeyondLimits
-    ∷ Refused WeightForm
-    ∷ Refused ListSize
-    ∷ Refused WeightForm
-    ∷ Refused WeightForm
-    ∷ Refused ListSize
-    ∷ Refused WeightForm
-    ∷ Refused WeightForm
+    ≡ Err ListSize
+    ∷ Err WeightForm
+    ∷ Err BeyondLimits
+    ∷ Err WeightForm
+    ∷ Err ListSize
+    ∷ Err WeightForm
+    ∷ Err WeightForm
+    ∷ Err ListSize
+    ∷ Err WeightForm
+    ∷ Err WeightForm
     ∷ []
 unfolding recorded
 weights_asked = refl
@@ -254,17 +254,17 @@ each_record_refusal : recorded full 3 whole_tree 124
     ∷ recorded full 3 whole_tree 125
     ∷ recorded full 1 (replicate 127 0) 125
     ∷ []
-    ≡ Refused ListSize
-    ∷ Refused ListSize
-    ∷ Refused ListSize
-    ∷ Refused BeyondLimits
-    ∷ Refused CodeRange
-    ∷ Refused NotBranching
-    ∷ Refused NotBranching
-    ∷ Refused NotBranching
-    ∷ Refused CodeRange
-    ∷ Passed
-    ∷ Passed
+    ≡ Err ListSize
+    ∷ Err ListSize
+    ∷ Err ListSize
+    ∷ Err BeyondLimits
+    ∷ Err CodeRange
+    ∷ Err NotBranching
+    ∷ Err NotBranching
+    ∷ Err NotBranching
+    ∷ Err CodeRange
+    ∷ Ok tt
+    ∷ Ok tt
     ∷ []
 unfolding recorded
 each_record_refusal = refl
@@ -280,19 +280,19 @@ records-in_order : recorded full 65 whole_tree 124
     ∷ recorded (wrong_row 1) 3 wrong_tree 125
     ∷ recorded (wrong_row 5) 4 grown_tree 125
     ∷ []
-    ≡ Refused ListSize
-    ∷ Refused ListSize
-    ∷ Refused ListSize
-    ∷ Refused ListSize
-    ∷ Refused ListSize
-    ∷ Refused BeyondLimits
-    ∷ Refused CodeRange
-    ∷ Refused NotBranching
+    ≡ Err ListSize
+    ∷ Err ListSize
+    ∷ Err ListSize
+    ∷ Err ListSize
+    ∷ Err ListSize
+    ∷ Err BeyondLimits
+    ∷ Err CodeRange
+    ∷ Err NotBranching
     ∷ []
 unfolding recorded
 records-in_order = refl
 
 -- the row of no node of the tree is not read
-records_unread : recorded (wrong_row 5) 3 whole_tree 125 ∷ recorded (wrong_row 2) 1 (replicate 127 0) 125 ∷ [] ≡ Passed ∷ Passed ∷ []
+records_unread : recorded (wrong_row 5) 3 whole_tree 125 ∷ recorded (wrong_row 2) 1 (replicate 127 0) 125 ∷ [] ≡ Ok tt ∷ Ok tt ∷ []
 unfolding recorded
 records_unread = refl

@@ -1,97 +1,40 @@
 -- The search for the nearest interval, node by node; and what is read and written of a lent matrix on the way.
-use mathlib.Core.Path.{◌≡◌, refl, sym, ap, ◌∙◌}
-use mathlib.Core.Logic.{◌≢◌, inr, by_cases}
-use mathlib.Core.Bool.{true, false}
-use mathlib.Core.List.{List}
-use Prim.Native.Nat.{ℕ, ◌+◌, ◌*◌, ◌-◌, ◌≤◌, ◌<◌, min}
+use mathlib.Core.Path.{◌≡◌, sym, ap, ◌∙◌}
+use mathlib.Core.List.{List, Memᴰ}
+use Prim.Native.Nat.{ℕ, ◌≤◌, min}
 use native.Mathlib.Omega.{arith}
-use native.Mathlib.Decide.{dec_le}
 use lib.IntN.{ℤ}
-use lib.ListN.{length, take, drop}
-use borrow.Rule.Slice.PartMut.{put_mid}
+use lib.ListN.{length, take}
+use Rattle.std.specs.Prelude.{Option, Some, None, MatchOption}
 use Rattle.lists.specs.Over.{over}
-use Rattle.lists.specs.Least.{least_of, scanned}
-use Rattle.lists.specs.Filters.{keep}
-use Rattle.lists.specs.Numbers.{numbers}
-use Rattle.lists.proofs.Least.{scan_start, step_fails, step-first, step_less, step_stays}
-use Rattle.lists.proofs.Over.{over-lent, over-least}
-use Rattle.matrix.specs.Shape.{row, row_start}
+use Rattle.lists.specs.Least.{least_of}
+use Rattle.lists.proofs.Over.{over_item, length_over}
+use Rattle.matrix.specs.Shape.{row}
 use Rattle.matrix.specs.NodeRows.{with_row}
-use Rattle.matrix.proofs.Row.{row_128}
-use Rattle.difference.specs.Rows.{medians, interval_difference}
-use Rattle.branching.specs.declared.placement.Nearest.{Nearest}
+use Rattle.matrix.proofs.Row.{row-most}
+use Rattle.difference.specs.Rows.{medians}
+use Rattle.difference.proofs.Laws.Rows.{length-medians}
 use Rattle.branching.specs.declared.tree.Tree.{Tree}
 use Rattle.branching.specs.Ancestors.{ancestors, ancestor}
 use Rattle.branching.specs.Hanging.{hung, next_htu}
 use Rattle.branching.specs.Within.{next_htu_within}
 use Rattle.branching.proofs.Within.{next-plain}
-use Rattle.branching.proofs.Nodes.{in_tree_iff}
-use Rattle.branching.specs.Nodes.{in_tree, nodes_in, other_nodes}
+use Rattle.branching.proofs.Nodes.{node_nodes_in}
+use Rattle.branching.specs.Nodes.{nodes_in, other_nodes}
 use Rattle.branching.specs.Unasked.{interval_at, medians_at, nearest_at, hung_at}
-use Rattle.branching.specs.Nearest.{NearestBelow, NearestOf, Leaves}
+use Rattle.branching.specs.Nearest.{NearestOf, Leaves}
 
--- the interval difference of three rows of a matrix, of at most 128 codes each
-pub interval-rows : (codes : List ℤ) (weights : List ℕ) (m b c e r : ℕ) (tree : List ℕ) (xs ys zs : List ℤ) → m ≤ 128 → e ≡ ancestor tree c
-    → xs ≡ row codes m b → ys ≡ row codes m c → zs ≡ row codes m e
-    → r ≡ interval_difference weights (take 128 xs) (take 128 ys) (take 128 zs) → r ≡ interval_at codes weights m tree b c
-unfolding interval_at
-interval-rows codes weights m b c e r tree xs ys zs narrow above ex ey ez is =
-    rw (is, ex, ey, ez, row_128 codes m b narrow, row_128 codes m c narrow, row_128 codes m e narrow, above)
-
--- a node with an immediate ancestor is in the tree
-pub has_above : (tree : List ℕ) (c above : ℕ) → above ≡ ancestor tree c → above ≢ 0 → in_tree tree c ≡ true
-has_above tree c above is some =
-    (in_tree_iff tree c).1 (inr (by_cases (dec_le 1 (ancestor tree c)) (λ h. h) (λ h. absurd (some (omega arith)))))
-
--- before the first node no interval is found
-pub nearest_start : (codes : List ℤ) (weights : List ℕ) (m : ℕ) (tree : List ℕ) (b : ℕ) → NearestBelow codes weights m tree b 2 (record { lower = 0; added = 0 })
-nearest_start codes weights m tree b =
-    record { lower = sym (scan_start (interval_at codes weights m tree b) (in_tree tree) 2); added = λ some. absurd (some refl) }
-
--- from the nearest interval of those below c to that of those below c + 1
-module _ (codes : List ℤ) (weights : List ℕ) (m : ℕ) (tree : List ℕ) (b c : ℕ) (low : 2 ≤ c) (best : Nearest)
-    (below : NearestBelow codes weights m tree b c best) where
-  -- the interval difference by which it is searched
-  abbrev key : ℕ → ℕ
-  key v = interval_at codes weights m tree b v
-
-  -- a node that is not in the tree is passed over
-  pub nearer_out : in_tree tree c ≡ false → NearestBelow codes weights m tree b (c + 1) best
-  nearer_out out =
-      record { lower = step_fails key (in_tree tree) 2 c best.lower low below.lower out; added = below.added }
-
-  module _ (inside : in_tree tree c ≡ true) (added : ℕ) (is : added ≡ interval_at codes weights m tree b c) where
-    -- the first interval is taken
-    pub nearer_first : best.lower ≡ 0 → NearestBelow codes weights m tree b (c + 1) (record { lower = c; added = added })
-    nearer_first none =
-        record {
-          lower = step-first key (in_tree tree) 2 c best.lower low below.lower inside (omega arith) none;
-          added = λ some. is;
-        }
-
-    module _ (some : best.lower ≢ 0) where
-      -- a nearer one is taken
-      pub nearer_moves : added < best.added → NearestBelow codes weights m tree b (c + 1) (record { lower = c; added = added })
-      nearer_moves less =
-          let nearer : key c < key best.lower = rw (sym is, sym (below.added some)) less in
-          record { lower = step_less key (in_tree tree) 2 c best.lower low below.lower inside some nearer; added = λ some. is }
-
-      -- one that is not nearer is passed over
-      pub nearer_stays : best.added ≤ added → NearestBelow codes weights m tree b (c + 1) best
-      nearer_stays more =
-          let farther : key best.lower ≤ key c = rw (sym is, sym (below.added some)) more in
-          record { lower = step_stays key (in_tree tree) 2 c best.lower low below.lower inside some farther; added = below.added }
-
--- all nodes gone through, it is the nearest interval
-pub nearest_end : (codes : List ℤ) (weights : List ℕ) (n m : ℕ) (tree : List ℕ) (b c : ℕ) (r : Nearest) → c ≡ 2 + (2 * n - 3) → NearestBelow codes weights m tree b c r
+-- what `min_by_key` gives of the nodes in the tree is the nearest interval
+pub nearest_found : (codes : List ℤ) (weights : List ℕ) (n m : ℕ) (tree : List ℕ) (b : ℕ) (nodes : List ℕ) (r : Option ℕ)
+    → nodes ≡ nodes_in tree (other_nodes n)
+    → MatchOption r (least_of (interval_at codes weights m tree b) nodes ≡ 0)
+    (λ c. Memᴰ c nodes × (c ≡ least_of (interval_at codes weights m tree b) nodes))
     → NearestOf codes weights n m tree b r
-unfolding nearest_at scanned nodes_in other_nodes
-nearest_end codes weights n m tree b c r end below =
-    let count : c - 2 ≡ 2 * n - 3 = omega arith in
-    record {
-      lower = below.lower ∙ ap (λ (k : ℕ). least_of (interval_at codes weights m tree b) (keep (in_tree tree) (numbers 2 k))) count;
-      added = below.added;
-    }
+unfolding nearest_at
+nearest_found codes weights n m tree b nodes None all none = sym (ap (least_of (interval_at codes weights m tree b)) all) ∙ none
+nearest_found codes weights n m tree b nodes (Some c) all found =
+    let node = node_nodes_in tree n c (rw all at found.0) in
+    (omega (arith, node.0), found.1 ∙ ap (least_of (interval_at codes weights m tree b)) all)
 
 -- a taxon hung, by the parts that were found one after the other
 pub hung_leaves : (codes : List ℤ) (weights : List ℕ) (n m : ℕ) (tree : List ℕ) (b c upper htu added : ℕ) (new : List ℤ) → n ≤ 64
@@ -108,15 +51,24 @@ hung_leaves codes weights n m tree b c upper htu added new most is above next wr
       matrix = rw (above, y) at written;
     }
 
--- the medians of three rows, of at most 128 codes each, written over the part of the matrix from the row of node y on
-pub written_row : (codes : List ℤ) (m b c e y start : ℕ) (xs ys zs new : List ℤ) → m ≤ 128 → start ≡ min (length codes) (row_start y)
-    → xs ≡ take 128 (row codes m b) → ys ≡ take 128 (row codes m c) → zs ≡ take 128 (row codes m e)
-    → new ≡ over 0 (medians xs ys zs) (take (length codes - start) (drop start codes))
-    → put_mid start (length codes - start) codes new ≡ with_row codes y (medians_at codes m b c e)
-unfolding with_row medians_at
-written_row codes m b c e y start xs ys zs new narrow from ex ey ez is =
-    ap (put_mid start (length codes - start) codes) is
-    ∙ over-lent start (medians xs ys zs) codes (omega arith)
-    ∙ ap (λ (k : ℕ). over k (medians xs ys zs) codes) from
-    ∙ over-least (row_start y) (medians xs ys zs) codes
-    ∙ rw (ex, ey, ez, row_128 codes m b narrow, row_128 codes m c narrow, row_128 codes m e narrow)
+-- the shortest of three rows of at most 128 codes is no longer than a row that is written
+pub htu_room : (codes : List ℤ) (m b count : ℕ) (xs ys zs made old htu : List ℤ) → m ≤ 128 → length old ≡ 128 → xs ≡ row codes m b
+    → htu ≡ over 0 made old → count ≡ min (min (length xs) (length ys)) (length zs) → count ≤ length htu
+htu_room codes m b count xs ys zs made old htu narrow size ex is all =
+    let most : length xs ≤ m = rw ex (row-most codes m b) in
+    let long : length htu ≡ 128 = ap length is ∙ length_over 0 made old ∙ size in
+    omega arith
+
+-- the medians of three rows, of at most 128 codes each, written over a row, cut to their number and written into the row of node y
+pub written_row : (codes : List ℤ) (m b c e y count : ℕ) (xs ys zs old htu : List ℤ) → m ≤ 128 → length old ≡ 128
+    → xs ≡ row codes m b → ys ≡ row codes m c → zs ≡ row codes m e
+    → htu ≡ over 0 (medians xs ys zs) old → count ≡ min (min (length xs) (length ys)) (length zs)
+    → with_row codes y (take count htu) ≡ with_row codes y (medians_at codes m b c e)
+unfolding medians_at
+written_row codes m b c e y count xs ys zs old htu narrow size ex ey ez is all =
+    let made : List ℤ = medians xs ys zs in
+    let number : count ≡ length made = omega (arith, length-medians xs ys zs) in
+    let most : length xs ≤ m = rw ex (row-most codes m b) in
+    let cut : take count htu ≡ made = rw (number, is) (over_item 0 made old (omega (arith, length-medians xs ys zs))) in
+    let rows : made ≡ medians (row codes m b) (row codes m c) (row codes m e) = rw (ex, ey, ez) in
+    ap (with_row codes y) (cut ∙ rows)

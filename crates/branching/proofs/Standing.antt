@@ -19,7 +19,7 @@ use Rattle.lists.proofs.Numbers.{numbers-within, numbers-among}
 use Rattle.matrix.specs.Shape.{row, row_start}
 use Rattle.matrix.specs.NodeRows.{row_of, rows_of, with_row}
 use Rattle.matrix.specs.Questions.{LentMatrix, LentWeights, all_in_range, htu_in_range, htus_in_range}
-use Rattle.matrix.specs.declared.refusal.Asked.TheVariants.{Passed}
+use Rattle.std.specs.Prelude.{Ok}
 use Rattle.matrix.proofs.Passing.{matrix_passes, matrix_passed, weights_passed}
 use Rattle.matrix.proofs.Row.{row-length}
 use Rattle.matrix.proofs.NodeRows.{length-rows_of, row_of-rows_of, length-with_row, with_row-same, with_row-else, with_row-other, with_rows-rows}
@@ -80,7 +80,7 @@ module _ (codes : List ℤ) (weights : List ℕ) (n m k : ℕ) (tree : List ℕ)
   standing_test = growing_test tree n s.matrix.taxon s.growing
 
   -- so every taxon that is not in it passes the questions of a placement
-  pub standing_passes : (b : ℕ) → Unplaced n tree b → ask_placement codes weights n m tree b ≡ Passed
+  pub standing_passes : (b : ℕ) → Unplaced n tree b → ask_placement codes weights n m tree b ≡ Ok tt
   unfolding htus_in_range htus_of htu_in_range
   standing_passes b u =
       asked_placement codes weights n m tree b

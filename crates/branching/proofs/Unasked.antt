@@ -1,6 +1,6 @@
 -- A placement without its questions: what it leaves, and that on a growing tree it is the placement by the rows of the tree's nodes.
 use mathlib.Core.Path.{◌≡◌, refl, sym, ap, ap₂, ◌∙◌}
-use mathlib.Core.Logic.{◌≢◌, ⊎_elim}
+use mathlib.Core.Logic.{◌≢◌, ◌⊎◌, ⊎_elim}
 use mathlib.Core.Bool.{Bool, true, cond, ◌&&◌}
 use mathlib.Core.List.{List, [], ◌∷◌}
 use Prim.Native.Nat.{ℕ, zero, suc, ◌+◌, ◌-◌, ◌≤◌, ◌<◌}
@@ -16,7 +16,8 @@ use Rattle.matrix.specs.Shape.{row}
 use Rattle.matrix.specs.NodeRows.{row_of, rows_of, with_row, with_rows}
 use Rattle.matrix.proofs.NodeRows.{length-rows_of, row_of-rows_of}
 use Rattle.difference.specs.Rows.{difference, node_difference}
-use Rattle.branching.specs.declared.placement.Unasked.{Unasked}
+use Rattle.branching.specs.declared.placement.Placement.{Placement}
+use Rattle.branching.specs.declared.placement.Placed.{Placed}
 use Rattle.branching.specs.Ancestors.{ancestors, ancestor}
 use Rattle.branching.specs.Nodes.{nodes_in, other_nodes, Unplaced}
 use Rattle.branching.specs.Growing.{growing_tree}
@@ -31,6 +32,13 @@ use Rattle.branching.specs.Placed.{last_row, place_in, matrix_placed}
 use Rattle.branching.proofs.Nodes.{node_nodes_in}
 use Rattle.branching.proofs.Test.{growing-fact}
 use Rattle.branching.proofs.Placing.{place-first, place-later, nearest_node}
+
+-- a placement all of whose numbers are 0
+pub zero_placement : (p : Placement) → (p.taxon ≡ 0) × ((p.lower ≡ 0) × ((p.upper ≡ 0) × ((p.htu ≡ 0) × (p.added ≡ 0)))) → p ≡ no_placement
+zero_placement p zeros = made p.taxon p.lower p.upper p.htu p.added zeros.0 zeros.1.0 zeros.1.1.0 zeros.1.1.1.0 zeros.1.1.1.1
+  where
+    made : (b c e y k : ℕ) → b ≡ 0 → c ≡ 0 → e ≡ 0 → y ≡ 0 → k ≡ 0 → record { taxon = b; lower = c; upper = e; htu = y; added = k } ≡ no_placement
+    made b c e y k eb ec ee ey ek = cc
 
 module _ (codes : List ℤ) (weights : List ℕ) (n m : ℕ) (tree : List ℕ) (b : ℕ) where
   -- nothing is done
@@ -49,16 +57,13 @@ module _ (codes : List ℤ) (weights : List ℕ) (n m : ℕ) (tree : List ℕ) (
   unasked_wide most wide = rw (le-leb n 64 most, lt-leb m 128 wide)
 
   -- what is handed back then
-  done-nothing : (r : Unasked) → unasked codes weights n m tree b ≡ nothing → ancestors r.tree ≡ tree → r.placement ≡ no_placement
+  done-nothing : (r : Placed) → unasked codes weights n m tree b ≡ nothing → ancestors r.tree ≡ tree → r.placement ≡ no_placement
       → UnaskedDone codes codes weights n m tree b r
   done-nothing r e t p = record { tree = rw e t; placement = rw e p; matrix = rw e }
 
-  pub done_more : (r : Unasked) → 64 < n → ancestors r.tree ≡ tree → r.placement ≡ no_placement → UnaskedDone codes codes weights n m tree b r
-  done_more r more = done-nothing r (unasked-more more)
-
-  pub done_wide : (r : Unasked) → n ≤ 64 → 128 < m → ancestors r.tree ≡ tree → r.placement ≡ no_placement
+  pub done_beyond : (r : Placed) → (64 < n) ⊎ ((n ≤ 64) × (128 < m)) → ancestors r.tree ≡ tree → r.placement ≡ no_placement
       → UnaskedDone codes codes weights n m tree b r
-  done_wide r most wide = done-nothing r (unasked_wide most wide)
+  done_beyond r beyond = done-nothing r (⊎_elim unasked-more (λ h. unasked_wide h.0 h.1) beyond)
 
   module _ (most : n ≤ 64) (narrow : m ≤ 128) where
     -- otherwise the taxon is placed on its interval
@@ -67,7 +72,7 @@ module _ (codes : List ℤ) (weights : List ℕ) (n m : ℕ) (tree : List ℕ) (
     unasked-plain = rw (le-leb n 64 most, le-leb m 128 narrow)
 
     -- what is handed back is what the placement leaves
-    done_leaves : (after : AfterUnasked) (new : List ℤ) (r : Unasked) → unasked codes weights n m tree b ≡ after → Leaves after new r
+    done_leaves : (after : AfterUnasked) (new : List ℤ) (r : Placed) → unasked codes weights n m tree b ≡ after → Leaves after new r
         → UnaskedDone codes new weights n m tree b r
     done_leaves after new r e l = record { tree = rw e l.tree; placement = rw e l.placement; matrix = rw e l.matrix }
 
@@ -85,13 +90,13 @@ module _ (codes : List ℤ) (weights : List ℕ) (n m : ℕ) (tree : List ℕ) (
         on zero some = absurd (some refl)
         on (suc c) some = refl
 
-    pub done-linked : (c : ℕ) (r : Unasked) → c ≡ nearest_at codes weights m n tree b → c ≡ 0 → Leaves (linked_at codes weights m tree b) codes r
+    pub done-linked : (r : Placed) → nearest_at codes weights m n tree b ≡ 0 → Leaves (linked_at codes weights m tree b) codes r
         → UnaskedDone codes codes weights n m tree b r
-    done-linked c r is none l = done_leaves (linked_at codes weights m tree b) codes r (unasked-linked (sym is ∙ none)) l
+    done-linked r none l = done_leaves (linked_at codes weights m tree b) codes r (unasked-linked none) l
 
-    pub done-hung : (c : ℕ) (new : List ℤ) (r : Unasked) → c ≡ nearest_at codes weights m n tree b → c ≢ 0 → Leaves (hung_at codes weights m n tree b c) new r
+    pub done-hung : (c : ℕ) (new : List ℤ) (r : Placed) → c ≡ nearest_at codes weights m n tree b → 1 ≤ c → Leaves (hung_at codes weights m n tree b c) new r
         → UnaskedDone codes new weights n m tree b r
-    done-hung c new r is some l = done_leaves (hung_at codes weights m n tree b c) new r (unasked-hung c (sym is) some) l
+    done-hung c new r is some l = done_leaves (hung_at codes weights m n tree b c) new r (unasked-hung c (sym is) (λ none. omega arith)) l
 
 -- what a placement without questions leaves is the placement by the rows of the tree's nodes
 pub record AsPlaced (codes : List ℤ) (weights : List ℕ) (n m : ℕ) (before : List ℕ) (b : ℕ) (after : AfterUnasked) : Type 0 where

@@ -1,25 +1,14 @@
 -- For at most 64 taxa the tests as the functions answer them are the plain tests.
-use mathlib.Core.Path.{◌≡◌, refl}
+use mathlib.Core.Path.{◌≡◌}
 use mathlib.Core.List.{List}
-use mathlib.Core.Bool.{Bool, true, false, ◌&&◌}
+use mathlib.Core.Bool.{false}
 use Prim.Native.Nat.{ℕ, ◌≤◌, ◌<◌}
-use lib.Dec.{leb, eqb}
 use borrow.Author.Tests.{le-leb, lt-leb}
-use Rattle.branching.specs.Nodes.{taxa_placed}
 use Rattle.branching.specs.Growing.{growing_tree, branching}
 use Rattle.branching.specs.Hanging.{next_htu}
 use Rattle.branching.specs.Within.{growing_tree_within, branching_within, next_htu_within}
 
 module _ (n : ℕ) (tree : List ℕ) where
-  -- a branching is a growing tree with all taxa placed, of at most 64 taxa too
-  pub branching-within : branching_within n tree ≡ (growing_tree_within n tree && eqb (taxa_placed n tree) n)
-  unfolding branching_within branching growing_tree_within
-  branching-within = go (leb n 64)
-    where
-      go : (t : Bool) → (t && (growing_tree n tree && eqb (taxa_placed n tree) n)) ≡ ((t && growing_tree n tree) && eqb (taxa_placed n tree) n)
-      go true = refl
-      go false = refl
-
   module _ (most : n ≤ 64) where
     -- a growing tree of at most 64 taxa
     pub growing-plain : growing_tree_within n tree ≡ growing_tree n tree

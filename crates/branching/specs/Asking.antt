@@ -1,11 +1,9 @@
 -- The questions of a placement, of a lent branching and of a finished tree, in document 01's order.
-use Rattle.std.specs.Prelude.{List, not, ℕ, ◌+◌, ◌-◌, eqb, ℤ, length}
+use Rattle.std.specs.Prelude.{List, not, Ok, ℕ, ◌+◌, ◌-◌, eqb, ℤ, length}
 use Rattle.lists.specs.Numbers.{numbers}
-use Rattle.matrix.specs.Outcomes.{ask, and_then}
+use Rattle.matrix.specs.Outcomes.{Asked, ask, and_then}
 use Rattle.matrix.specs.Questions.{one_to, htus_in_range, ask_matrix}
 use Rattle.matrix.specs.declared.refusal.Refusal.TheVariants.{CodeRange, ListSize, NotThere, NotBranching}
-use Rattle.matrix.specs.declared.refusal.Asked.{Asked}
-use Rattle.matrix.specs.declared.refusal.Asked.TheVariants.{Passed}
 use Rattle.branching.specs.declared.branch.Branch.{Branch}
 use Rattle.branching.specs.Nodes.{in_tree, taxa_placed}
 use Rattle.branching.specs.Growing.{growing_tree, branching}
@@ -22,7 +20,7 @@ ask_placement codes weights n m tree b =
     and_then (ask_matrix codes weights n m)
     (ask (one_to n b) NotThere
     (ask (growing_tree n tree) NotBranching
-    (ask (not (in_tree tree b)) NotThere (ask (htus_in_range codes n m (htus_of n tree)) CodeRange Passed))))
+    (ask (not (in_tree tree b)) NotThere (ask (htus_in_range codes n m (htus_of n tree)) CodeRange (Ok tt)))))
 
 -- 125 branch records
 abbrev pub branches_size : ℕ
@@ -33,7 +31,7 @@ branches_size = 125
 unfoldable pub ask_branching : List ℤ → List ℕ → ℕ → ℕ → List Branch → Asked
 ask_branching codes weights n m records =
     ask (eqb (length records) branches_size) ListSize
-    (and_then (ask_matrix codes weights n m) (ask (lent_branching n records) NotBranching Passed))
+    (and_then (ask_matrix codes weights n m) (ask (lent_branching n records) NotBranching (Ok tt)))
 
 -- the questions of a call that hands a finished tree back as branch records, into a lent list of so many records: the size of that list,
 -- those on the matrix, whether the tree is a branching of all n taxa, the rows of its HTUs
@@ -41,4 +39,4 @@ unfoldable pub ask_records : List ℤ → List ℕ → ℕ → ℕ → List ℕ 
 ask_records codes weights n m tree room =
     ask (eqb room branches_size) ListSize
     (and_then (ask_matrix codes weights n m)
-    (ask (branching n tree) NotBranching (ask (htus_in_range codes n m (htus_of n tree)) CodeRange Passed)))
+    (ask (branching n tree) NotBranching (ask (htus_in_range codes n m (htus_of n tree)) CodeRange (Ok tt))))

@@ -1,25 +1,17 @@
 -- For the proofs of the private functions alone; no public contract cites this file.
--- The search for the nearest interval, node by node, and what the two ways to place a taxon promise.
-use Rattle.std.specs.Prelude.{◌≡◌, ◌≢◌, List, ℕ, ℤ}
-use Rattle.lists.specs.Least.{scanned}
-use Rattle.branching.specs.declared.placement.Nearest.{Nearest}
-use Rattle.branching.specs.declared.placement.Unasked.{Unasked}
+-- The nearest interval that is found, and what the two ways to place a taxon promise.
+use Rattle.std.specs.Prelude.{◌≡◌, List, ℕ, ◌≤◌, ℤ, Option, MatchOption}
+use Rattle.branching.specs.declared.placement.Placed.{Placed}
 use Rattle.branching.specs.Ancestors.{ancestors}
-use Rattle.branching.specs.Nodes.{in_tree}
-use Rattle.branching.specs.Unasked.{AfterUnasked, interval_at, nearest_at}
+use Rattle.branching.specs.Unasked.{AfterUnasked, nearest_at}
 
--- r is the nearest interval of those whose lower end is below c: its lower end, 0 if there is none yet, and its interval difference
-pub record NearestBelow (codes : List ℤ) (weights : List ℕ) (m : ℕ) (tree : List ℕ) (b c : ℕ) (r : Nearest) : Type 0 where
-  pub lower : r.lower ≡ scanned (interval_at codes weights m tree b) (in_tree tree) 2 c
-  pub added : r.lower ≢ 0 → r.added ≡ interval_at codes weights m tree b r.lower
-
--- r is the nearest interval of all
-pub record NearestOf (codes : List ℤ) (weights : List ℕ) (n m : ℕ) (tree : List ℕ) (b : ℕ) (r : Nearest) : Type 0 where
-  pub lower : r.lower ≡ nearest_at codes weights m n tree b
-  pub added : r.lower ≢ 0 → r.added ≡ interval_at codes weights m tree b r.lower
+-- r is the nearest interval of a tree, by its lower end, and none if no node other than row 1 is in the tree
+abbrev pub NearestOf : List ℤ → List ℕ → ℕ → ℕ → List ℕ → ℕ → Option ℕ → Type 0
+NearestOf codes weights n m tree b r =
+    MatchOption r (nearest_at codes weights m n tree b ≡ 0) (λ c. (1 ≤ c) × (c ≡ nearest_at codes weights m n tree b))
 
 -- what is handed back and what the matrix then holds are what a placement leaves
-pub record Leaves (after : AfterUnasked) (new : List ℤ) (r : Unasked) : Type 0 where
+pub record Leaves (after : AfterUnasked) (new : List ℤ) (r : Placed) : Type 0 where
   pub tree : ancestors r.tree ≡ after.tree
   pub placement : r.placement ≡ after.placement
   pub matrix : new ≡ after.codes

@@ -7,7 +7,7 @@ use Rattle.matrix.specs.Shape.{most_taxa, most_characters, row}
 use Rattle.matrix.specs.NodeRows.{with_row}
 use Rattle.difference.specs.Rows.{difference, medians, interval_difference}
 use Rattle.branching.specs.declared.placement.Placement.{Placement}
-use Rattle.branching.specs.declared.placement.Unasked.{Unasked}
+use Rattle.branching.specs.declared.placement.Placed.{Placed}
 use Rattle.branching.specs.Ancestors.{ancestors, ancestor}
 use Rattle.branching.specs.Nodes.{nodes_in, other_nodes}
 use Rattle.branching.specs.Hanging.{linked, hung, next_htu}
@@ -62,7 +62,7 @@ unasked codes weights n m tree b =
     (record { tree = tree; placement = no_placement; codes = codes })
 
 -- what such a placement hands back, and what the matrix then holds
-pub record UnaskedDone (codes new : List ℤ) (weights : List ℕ) (n m : ℕ) (before : List ℕ) (b : ℕ) (r : Unasked) : Type 0 where
+pub record UnaskedDone (codes new : List ℤ) (weights : List ℕ) (n m : ℕ) (before : List ℕ) (b : ℕ) (r : Placed) : Type 0 where
   pub tree : ancestors r.tree ≡ (unasked codes weights n m before b).tree
   pub placement : r.placement ≡ (unasked codes weights n m before b).placement
   pub matrix : new ≡ (unasked codes weights n m before b).codes

@@ -4,7 +4,7 @@
 pub const BRANCHES: usize = 125;
 
 // A branch: a node, its immediate ancestor, and the branch's length.
-#[derive(Clone, Copy)]
+#[derive(Clone, Copy, Default, PartialEq, Eq)]
 pub struct Branch {
     pub node: usize,
     pub ancestor: usize,

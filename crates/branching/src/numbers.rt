@@ -4,24 +4,25 @@ ghost use Rattle.branching.specs.Asking.{branches_size};
 ghost use Rattle.branching.specs.LentNumbers.{record_at, records_in};
 
 use crate::branch::{BRANCHES, Branch};
+use std::array;
 
 // A branch record is three numbers: a node, its immediate ancestor, and a length.
 pub const RECORD: usize = 3;
 
 // A lent branching is 125 records.
-pub const LENT_NUMBERS: usize = 375;
+pub const LENT_NUMBERS: usize = RECORD * BRANCHES;
 
 // The number at a place of a list, or 0 behind its end.
+#[tactic(auto, using(std::proofs::lemmas::Option::gets))]
 fn number_at(numbers: &[usize], i: usize) -> usize
     ensures { result ≡ get_or numbers.now i 0 }
 {
-    if i < numbers.len() {
-        return numbers[i];
-    }
-    0
+    numbers.get(i).copied().unwrap_or(0)
 }
 
 // The record at a place, the first at place 0; its length is not read.
+// Kept: no plainer, `chunks` would end with a list that is too short, for which each number behind its end is 0.
+#[tactic(auto, unfolding(crate::specs::LentNumbers::record_at))]
 fn record_at(numbers: &[usize], place: usize) -> Branch
     requires { place < branches_size }
     ensures { result ≡ record_at numbers.now place }
@@ -35,19 +36,8 @@ fn record_at(numbers: &[usize], place: usize) -> Branch
 }
 
 // All records.
-pub fn records_in(numbers: &[usize]) -> [Branch; 125]
+pub fn records_in(numbers: &[usize]) -> [Branch; BRANCHES]
     ensures { result ≡ records_in numbers.now }
 {
-    let none = Branch {
-        node: 0,
-        ancestor: 0,
-        length: 0,
-    };
-    let mut records = [none; BRANCHES];
-    let mut i = 0;
-    while i < BRANCHES {
-        records[i] = record_at(numbers, i);
-        i += 1;
-    }
-    records
+    array::from_fn(|place| record_at(numbers, place))
 }

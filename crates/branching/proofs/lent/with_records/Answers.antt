@@ -1,31 +1,40 @@
 -- What the check leaves of `branching::lent::with_records`.
-use mathlib.Core.Path.{◌≡◌, refl, ◌∙◌}
+use mathlib.Core.Path.{◌≡◌, refl, ap, ◌∙◌}
+use mathlib.Core.List.{List, ◌++◌}
 use native.Mathlib.Omega.{arith}
-use lib.ListN.{length, length-set}
-use Rattle.lists.specs.Over.{over}
-use Rattle.branching.proofs.Lending.{written_next, written_all}
 use borrow.Author.Rules.{rules}
+use lib.ListN.{length, length-set, length-take, take, drop}
+use Rattle.lists.specs.Over.{over}
+use Rattle.branching.specs.Branches.{lengths_by, branch_of, branch_records}
+use Rattle.branching.specs.declared.branch.Branch.{Branch}
+use Rattle.branching.specs.Ancestors.{ancestors}
+use Rattle.branching.proofs.Lending.{over_front, written_next, written_all}
 use Rattle.branching.proofs.lent.with_records.Goals as goal
 
 pub loop-i-init : goal.loop-i-init
 unfolding over
-loop-i-init c = let size : length c.args.records ≡ 125 = search rules in
-    (omega arith, omega (arith, c.record_count-count.ensures), size, size, c.record_count-count.ensures, refl)
+loop-i-init c =
+    let size : length c.args.records ≡ 125 = search rules in
+    (omega (arith, size, length-take c.record_count.result c.args.records, c.record_count.ensures), refl)
 
 pub loop-i-preserved : goal.loop-i-preserved
-loop-i-preserved c = let loop = c.loop-i in
+unfolding branch_of lengths_by
+loop-i-preserved c =
+    let loop = c.loop-i in
     let inv = loop.invariant in (
-      omega arith,
-      inv.1,
-      simp length-set inv.2,
-      inv.3,
-      inv.4,
-      rw c.branch_of.ensures (written_next _ _ _ _ loop.records loop.i inv.5 (omega arith)),
+      simp length-set inv.0,
+      rw c.ancestor.ensures (written_next _ _ _ _ loop.record-items loop.i inv.1 (omega arith)),
     )
 
 pub returns : goal.returns
-returns c = let loop = c.loop-i in
+returns c =
+    let loop = c.loop-i in
     let inv = loop.invariant in
-    let count = c.record_count-count.result in
-    let same : loop.i ≡ count = omega (arith, c.loop-i-test.false) in
-    inv.5 ∙ written_all _ _ _ _ loop.i inv.3 (same ∙ c.record_count-count.ensures)
+    let size : length c.args.records ≡ 125 = search rules in
+    let count = c.record_count.result in
+    let tree = ancestors c.args.tree.now in
+    let all = branch_records (lengths_by c.args.lengths.now) c.args.n tree in
+    let same : loop.i ≡ count = omega (arith, size, length-take count c.args.records, c.loop-i-test.false, loop.auto.i-end, c.record_count.ensures) in
+    ap (λ (part : List Branch). part ++ drop count c.args.records) inv.1
+    ∙ over_front count (take loop.i all) c.args.records (omega (arith, length-take loop.i all))
+    ∙ written_all _ _ _ _ loop.i size (same ∙ c.record_count.ensures)

@@ -1,7 +1,7 @@
--- `branching::lent::with_records` meets its contract. The loop's invariant: the first records are written, the others as before.
--- Assumes nothing.
+-- `branching::lent::with_records` meets its contract. The loop's invariant, over the part of the records that counts: the first are written,
+-- the others as before. Assumes nothing.
 use mathlib.Core.Path.{◌≡◌}
-use Prim.Native.Nat.{◌*◌, ◌-◌, ◌≤◌, min}
+use Prim.Native.Nat.{◌*◌, ◌-◌, min}
 use lib.ListN.{length, take}
 use Rattle.lists.specs.Over.{over}
 use Rattle.branching.specs.Ancestors.{ancestors}
@@ -9,12 +9,5 @@ use Rattle.branching.specs.Branches.{lengths_by, branch_records}
 use Rattle.branching.proofs.lent.with_records.Given as goal
 
 abbrev pub invariant-loop-i : goal.invariant-loop-i
-invariant-loop-i l = (l.i ≤ l.count)
-    × (l.count ≤ 125)
-    × (length l.records ≡ 125)
-    × (length l.initial.records ≡ 125)
-    × (l.count ≡ min (2 * l.n - 3) 125)
-    × (l.records ≡ over 0 (take l.i (branch_records (lengths_by l.lengths) l.n (ancestors l.tree))) l.initial.records)
-
-abbrev pub decreases-loop-i : goal.decreases-loop-i
-decreases-loop-i l = l.count - l.i
+invariant-loop-i l = (length l.record-items ≡ min (2 * l.n - 3) 125)
+    × (l.record-items ≡ over 0 (take l.i (branch_records (lengths_by l.lengths) l.n (ancestors l.tree))) l.initial.record-items)

@@ -1,24 +1,35 @@
--- What the check leaves of `branching::placement::nearest_interval`.
-use Rattle.branching.specs.Ancestors.{ancestor}
-use Rattle.branching.proofs.Searching.{nearest_end, nearest_start}
+-- `branching::placement::nearest_interval` meets its contract: the nodes in the tree are gone through. Assumes nothing.
+use mathlib.Core.Path.{◌≡◌, sym, ◌∙◌}
+use Prim.Native.Nat.{◌+◌, ◌*◌, ◌-◌, min}
 use native.Mathlib.Omega.{arith}
-use mathlib.Core.Path.{◌≡◌, refl, ◌∙◌}
+use borrow.Author.Rules.{rules}
+use borrow.Author.Tests.{tests}
+use lib.ListN.{length}
+use Rattle.std.proofs.lemmas.Iterator.{YieldsList-from_range}
+use Rattle.std.proofs.lemmas.Iterator.Consumers.{YieldsList-from_filter}
+use Rattle.matrix.specs.Shape.{last_node}
+use Rattle.branching.specs.Ancestors.{ancestors}
+use Rattle.branching.specs.Nodes.{in_tree}
+use Rattle.branching.specs.Unasked.{interval_at}
+use Rattle.branching.proofs.LeastKey.{least_from_min_by_key}
+use Rattle.branching.proofs.Places.{nodes_in-places}
+use Rattle.branching.proofs.Ranges.{filter-range}
+use Rattle.branching.proofs.Searching.{nearest_found}
 use Rattle.branching.proofs.placement.nearest_interval.Goals as goal
 
-pub loop-c-init : goal.loop-c-init
-loop-c-init c =
-    let pre = c.requires in
-    let end = c.nodes_end-end.ensures in
-    (omega arith, omega arith, end, pre.1, omega arith, nearest_start _ _ _ _ _)
-
-pub loop-c-preserved : goal.loop-c-preserved
-unfolding ancestor
-loop-c-preserved c =
-    let inv = c.loop-c.invariant in
-    (omega arith, omega arith, inv.2, inv.3, inv.4, c.nearer-best.ensures _ refl inv.5)
-
 pub returns : goal.returns
+unfolding interval_at last_node
 returns c =
-    let loop = c.loop-c in
-    let end : loop.c ≡ c.nodes_end-end.result = omega (arith, c.loop-c-test.false) in
-    nearest_end _ _ _ _ _ _ loop.c _ (end ∙ loop.invariant.2) loop.invariant.5
+    let nodes = c.args.nodes.now in
+    let tree = ancestors c.args.tree.now in
+    let n = c.args.n in
+    let count = min (2 * n - 3) 125 in
+    -- Kept: no plainer, how long an array is the check is asked where it matters.
+    let size : length tree ≡ 127 = search rules in
+    nearest_found nodes.matrix.now nodes.weights.now n nodes.m tree c.args.b _ _
+    (filter-range (in_tree tree) 2 count ∙ sym (nodes_in-places tree size n))
+    (least_from_min_by_key _ _ _ (interval_at nodes.matrix.now nodes.weights.now nodes.m tree c.args.b) _ c.min_by_key.ensures.ran
+    (λ x r q k. search rules)
+    (YieldsList-from_filter _ (in_tree tree)
+    (YieldsList-from_range 2 (c.last_node-end.result + 1) count c.filter.ensures.source (omega (arith, c.last_node-end.ensures)))
+    c.filter.ensures.closure (λ x b q k. search (rules, tests))))

@@ -1,25 +1,27 @@
 -- What the check leaves of `branching::tree::Tree::climbs`.
-use Rattle.branching.proofs.Climbing.{climbs-here, climbs-above, climbs_last}
-use mathlib.Core.Path.{◌≡◌, sym, ap, ◌∙◌}
-use Prim.Native.Nat.{◌-◌}
+use mathlib.Core.Path.{◌≡◌, sym, ap, ap₂, ◌∙◌}
+use Prim.Native.Nat.{◌+◌, ◌-◌, ◌<◌}
 use native.Mathlib.Omega.{arith}
+use Rattle.branching.specs.Ancestors.{ancestors}
 use Rattle.branching.specs.Growing.{climbs}
+use Rattle.branching.proofs.Climbing.{climbs-here, climbs-above, climbs_last}
 use Rattle.branching.proofs.tree.Tree.climbs.Goals as goal
 
-pub returns-then-at-eq1 : goal.returns-then-at-eq1
-returns-then-at-eq1 c =
-    let loop = c.loop-left in
-    sym (loop.invariant ∙ climbs-here _ loop.left loop.at c.if-at-eq1.true)
+pub loop-step-init : goal.loop-step-init
+loop-step-init c = let all : c.args.steps ≡ c.args.steps - 0 = omega arith in ap (λ left. climbs (ancestors c.args.self.now) left c.args.v) all
 
-pub loop-left-preserved : goal.loop-left-preserved
-loop-left-preserved c =
-    let loop = c.loop-left in
-    let some = c.loop-left-test.true in
-    loop.invariant ∙ climbs-above _ loop.left loop.at some c.if-at-eq1.false
-    ∙ ap (climbs _ (loop.left - 1)) (sym c.ancestor-at.ensures)
+pub returns-then-at-eq1 : goal.returns-then-at-eq1
+returns-then-at-eq1 c = sym (c.loop-step.invariant ∙ climbs-here _ _ c.loop-step.at c.if-at-eq1.true)
+
+pub loop-step-preserved : goal.loop-step-preserved
+loop-step-preserved c =
+    let loop = c.loop-step in
+    let some : 0 < c.args.steps - loop._step = omega (arith, c.loop-step-test.true) in
+    let less : c.args.steps - loop._step - 1 ≡ c.args.steps - (loop._step + 1) = omega arith in
+    loop.invariant ∙ climbs-above _ _ loop.at some c.if-at-eq1.false ∙ ap₂ (climbs _) less (sym c.ancestor-at.ensures)
 
 pub returns : goal.returns
 returns c =
-    let loop = c.loop-left in
-    let none : loop.left ≡ 0 = omega arith in
-    sym (loop.invariant ∙ climbs_last _ loop.left loop.at none)
+    let loop = c.loop-step in
+    let none : c.args.steps - loop._step ≡ 0 = omega (arith, c.loop-step-test.false) in
+    sym (loop.invariant ∙ climbs_last _ _ loop.at none)

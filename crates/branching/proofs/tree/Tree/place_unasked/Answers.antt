@@ -1,30 +1,17 @@
 -- `branching::tree::Tree::place_unasked` meets its contract. Assumes nothing.
-use Rattle.branching.proofs.Unasked.{done-linked, done-hung, done_more, done_wide}
-use mathlib.Core.Path.{ap}
-use Rattle.branching.specs.Ancestors.{ancestors}
+use mathlib.Core.Path.{refl}
+use Rattle.branching.proofs.Unasked.{zero_placement, done_beyond, done-linked, done-hung}
 use Rattle.branching.proofs.tree.Tree.place_unasked.Goals as goal
 
 pub returns-then-n-gt-MOST_TAXA : goal.returns-then-n-gt-MOST_TAXA
-returns-then-n-gt-MOST_TAXA c = done_more _ _ _ _ _ _ _ c.if-n-gt-MOST_TAXA.true (ap ancestors c.unplaced.ensures.0) c.unplaced.ensures.1
+returns-then-n-gt-MOST_TAXA c =
+    done_beyond _ _ _ _ _ _ _ c.then-n-gt-MOST_TAXA.either refl (zero_placement _ c.default.ensures)
 
-pub returns-then-m-gt-MOST_CHARACTERS : goal.returns-then-m-gt-MOST_CHARACTERS
-returns-then-m-gt-MOST_CHARACTERS c = done_wide _ _ _ _ _ _ _ c.if-n-gt-MOST_TAXA.false c.if-m-gt-MOST_CHARACTERS.true
-    (ap ancestors c.unplaced-then-m-gt-MOST_CHARACTERS.ensures.0) c.unplaced-then-m-gt-MOST_CHARACTERS.ensures.1
+pub returns-in-None : goal.returns-in-None
+returns-in-None c =
+    done-linked _ _ _ _ _ _ c.if-n-gt-MOST_TAXA.false c.if-m-gt-MOST_CHARACTERS.false _ c.in-None.ensures c.link_first.ensures
 
-pub returns-then-nearest-eq0 : goal.returns-then-nearest-eq0
-returns-then-nearest-eq0 c =
-    done-linked _ _ _ _ _ _ c.if-n-gt-MOST_TAXA.false c.if-m-gt-MOST_CHARACTERS.false _ _
-    c.nearest_interval-nearest.ensures.lower c.if-nearest-eq0.true c.link_first.ensures
-
-pub hang_on-requires : goal.hang_on-requires
-hang_on-requires c = (
-  c.if-n-gt-MOST_TAXA.false,
-  c.if-m-gt-MOST_CHARACTERS.false,
-  c.nearest_interval-nearest.ensures.added
-      c.if-nearest-eq0.false,
-)
-
-pub returns : goal.returns
-returns c =
-    done-hung _ _ _ _ _ _ c.if-n-gt-MOST_TAXA.false c.if-m-gt-MOST_CHARACTERS.false _ _ _
-    c.nearest_interval-nearest.ensures.lower c.if-nearest-eq0.false c.hang_on.ensures
+pub returns-in-Some : goal.returns-in-Some
+returns-in-Some c =
+    done-hung _ _ _ _ _ _ c.if-n-gt-MOST_TAXA.false c.if-m-gt-MOST_CHARACTERS.false _ _ _ c.in-Some.ensures.1 c.in-Some.ensures.0
+    c.hang_on.ensures

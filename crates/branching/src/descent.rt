@@ -1,0 +1,79 @@
+// The walk over a branching, and the descendants of each of its nodes.
+ghost use Rattle.std.specs.Prelude.{◌≡◌, List, ℕ};
+ghost use Rattle.branching.specs.Ancestors.{ancestors};
+ghost use Rattle.branching.specs.Walks.{Walking, Belows, Descending};
+ghost use Rattle.branching.specs.Steps.{with_descendant, PlacesBelow, OneMore};
+
+use crate::tree::{PLACES, Tree, last_node, place_of};
+use crate::walk::{Below, Descent, Walk};
+
+// The descendants of a node, with one more behind them as far as there are two.
+// Kept: no plainer, `Below` has 0 for none, which the passes of a fit read as a place.
+#[tactic(auto, unfolding(crate::specs::Steps::with_descendant))]
+fn with_descendant(below: Below, u: usize) -> Below
+    ensures { result ≡ with_descendant below u }
+{
+    if below.first == 0 {
+        return Below { first: u, ..below };
+    }
+    if below.second == 0 {
+        return Below { second: u, ..below };
+    }
+    below
+}
+
+// The descendants of each node of a tree, as far as there are two.
+fn below_of(tree: &Tree, n: usize) -> [Below; PLACES]
+    ensures { Belows n (ancestors tree.now) result }
+{
+    let mut below = [Below::default(); PLACES];
+    let end = last_node(n) + 1;
+    for u in 2..end {
+        let above = place_of(tree.ancestors[u]);
+        below[above] = with_descendant(below[above], u);
+    }
+    below
+}
+
+// How many nodes a walk has with node v behind its `count` nodes. 0 is no node, and beyond `last` nodes none is counted.
+// Kept: no plainer, `Below` has 0 for none, which the passes of a fit read as a place.
+fn one_more(last: usize, count: usize, v: usize) -> usize
+    ensures { OneMore last count v result }
+{
+    if v != 0 && count < last {
+        count + 1
+    } else {
+        count
+    }
+}
+
+// The walk from node 1 down: behind the nodes that stand in it, the descendants of its first node, of its second, and so on.
+fn walk_down(below: &[Below; PLACES], n: usize) -> Walk
+    requires { PlacesBelow below.now }
+    ensures { (tree : List ℕ) → Belows n tree below.now → Walking n tree result }
+{
+    let last = last_node(n);
+    let mut nodes = [0; PLACES];
+    nodes[0] = 1;
+    let mut count = 1;
+    let mut i = 0;
+    // Kept: no plainer, the walk grows while it is gone through, so no range has its end
+    while i < count {
+        let pair = below[nodes[i]];
+        nodes[count] = pair.first;
+        count = one_more(last, count, pair.first);
+        nodes[count] = pair.second;
+        count = one_more(last, count, pair.second);
+        i += 1;
+    }
+    Walk { count, nodes }
+}
+
+// The walk over a branching of n taxa, and the descendants of each of its nodes.
+pub fn descent_over(tree: &Tree, n: usize) -> Descent
+    ensures { Descending n (ancestors tree.now) result }
+{
+    let below = below_of(tree, n);
+    let walk = walk_down(&below, n);
+    Descent { walk, below }
+}

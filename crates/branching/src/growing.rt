@@ -1,0 +1,79 @@
+// The test whether a tree is a growing tree, place by place.
+ghost use Rattle.std.specs.Prelude.{◌≡◌, ◌≤◌, length};
+ghost use Rattle.matrix.specs.Shape.{most_taxa};
+ghost use Rattle.branching.specs.Ancestors.{ancestors};
+ghost use Rattle.branching.specs.Nodes.{taxa_placed};
+ghost use Rattle.branching.specs.Growing.{descendant_count, descendants_wanted, grown};
+ghost use Rattle.branching.specs.Testing.{node_right, place_right};
+
+use crate::tree::{PLACES, Tree, last_node};
+
+// A tree that may be a growing tree of n taxa, and how many of them it has placed.
+#[derive(Clone, Copy)]
+pub(crate) struct Candidate<'a> {
+    pub tree: &'a Tree,
+    pub n: usize,
+    pub placed: usize,
+    ghost most: { n ≤ most_taxa },
+    ghost places: { length (ancestors tree.now) ≡ 127 },
+    ghost counted: { placed ≡ taxa_placed n (ancestors tree.now) },
+}
+
+impl<'a> Candidate<'a> {
+    // Of how many nodes node v is the immediate ancestor.
+    fn descendant_count(&self, v: usize) -> usize
+        ensures { result ≡ descendant_count self.now.n (ancestors self.now.tree.now) v }
+    {
+        let end = last_node(self.n) + 1;
+        (2..end).filter(|u| self.tree.ancestor(*u) == v).count()
+    }
+
+    // Whether node v, which has an ancestor, is right.
+    #[tactic(auto, unfolding(crate::specs::Testing::node_right, matrix::specs::Shape::last_node))]
+    fn node_right(&self, v: usize) -> bool
+        ensures { result ≡ node_right self.now.n (ancestors self.now.tree.now) v }
+    {
+        if !self.tree.in_tree(self.tree.ancestor(v)) {
+            return false;
+        }
+        self.descendant_count(v) == descendants_wanted(self.n, v)
+            && self.tree.climbs(last_node(self.n), v)
+    }
+
+    // Whether place v is right.
+    // Kept: no plainer, the places of a tree hold 0 for none.
+    #[tactic(auto, using(matrix::proofs::Between::nat_between, crate::proofs::Nodes::taxa_placed_le), unfolding(crate::specs::Testing::place_right, crate::specs::Nodes::has_ancestor))]
+    fn place_right(&self, v: usize) -> bool
+        ensures { result ≡ place_right self.now.n self.now.placed (ancestors self.now.tree.now) v }
+    {
+        let last = (self.n + self.placed).saturating_sub(2);
+        if self.tree.ancestor(v) == 0 {
+            return v <= self.n || last < v;
+        }
+        (2..=last).contains(&v) && self.node_right(v)
+    }
+
+    // Whether the tree is one of the taxa that it has placed.
+    pub(crate) fn is_grown(&self) -> bool
+        ensures { result ≡ grown self.now.n self.now.placed (ancestors self.now.tree.now) }
+    {
+        if self.placed < 2 {
+            return false;
+        }
+        self.descendant_count(1) == 1 && (0..PLACES).all(|v| self.place_right(v))
+    }
+}
+
+// Of how many nodes node v has to be the immediate ancestor.
+#[tactic(auto, unfolding(crate::specs::Growing::descendants_wanted))]
+fn descendants_wanted(n: usize, v: usize) -> usize
+    ensures { result ≡ descendants_wanted n v }
+{
+    if v == 1 {
+        1
+    } else if v <= n {
+        0
+    } else {
+        2
+    }
+}
