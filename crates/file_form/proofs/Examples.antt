@@ -29,8 +29,9 @@ use Rattle.file_form.specs.Rows.{name_in, codes_in, ask_codes, ask_row, ask_rows
 use Rattle.file_form.specs.Branches.{branch_form, ancestor_in, branch_text, branch_texts, ask_branches}
 use Rattle.file_form.specs.Reading.{job_of, nothing_more, ask_end, ask_after, ask_behind, ask_file, ask_length, read_answer}
 use Rattle.file_form.specs.declared.header.Kind.TheVariants.{Wagner, Own}
-use Rattle.file_form.specs.declared.header.OrderWord.{OrderWord}
-use Rattle.file_form.specs.declared.header.OrderWord.TheVariants.{Unsaid, Advance, Closest}
+use Rattle.std.specs.Prelude.{Option, None, Some}
+use Rattle.branching.specs.declared.order.Order.{Order}
+use Rattle.branching.specs.declared.order.Order.TheVariants.{Advance, Closest}
 use Rattle.file_form.specs.Text.{bytes}
 use Rattle.file_form.specs.Written.{padded, matrix_written, weights_written, names_written}
 use Rattle.lists.specs.Over.{over, stripes}
@@ -52,7 +53,7 @@ unfolding read bytes
 read_text text = read (bytes text)
 
 -- document 01's example, with this word for the order and these weights, written in a `V` line or not
-example_job : OrderWord → Bool → List ℕ → Job
+example_job : Option Order → Bool → List ℕ → Job
 example_job order weighed weights =
     record {
       kind = Wagner;
@@ -73,27 +74,27 @@ unfolding read bytes
 read_behind first = read (bytes first ++ bytes "\nA\t0\t0\t0\nB\t2\t1\t0\nC\t2\t3\t1\nD\t-1\t1\t2\n")
 
 -- document 01's example
-example : read_behind "W\t4\t3" ≡ value (example_job Unsaid false (1 ∷ 1 ∷ 1 ∷ []))
+example : read_behind "W\t4\t3" ≡ value (example_job None false (1 ∷ 1 ∷ 1 ∷ []))
 unfolding read_behind example_job
 example = refl
 
 -- with `advance` in line 1
-example_advance : read_behind "W\t4\t3\tadvance" ≡ value (example_job Advance false (1 ∷ 1 ∷ 1 ∷ []))
+example_advance : read_behind "W\t4\t3\tadvance" ≡ value (example_job (Some Advance) false (1 ∷ 1 ∷ 1 ∷ []))
 unfolding read_behind example_job
 example_advance = refl
 
 -- with `closest`
-example_closest : read_behind "W\t4\t3\tclosest" ≡ value (example_job Closest false (1 ∷ 1 ∷ 1 ∷ []))
+example_closest : read_behind "W\t4\t3\tclosest" ≡ value (example_job (Some Closest) false (1 ∷ 1 ∷ 1 ∷ []))
 unfolding read_behind example_job
 example_closest = refl
 
 -- with a `V` line
-example_weighed : read_behind "W\t4\t3\tclosest\nV\t1\t9\t3" ≡ value (example_job Closest true (1 ∷ 9 ∷ 3 ∷ []))
+example_weighed : read_behind "W\t4\t3\tclosest\nV\t1\t9\t3" ≡ value (example_job (Some Closest) true (1 ∷ 9 ∷ 3 ∷ []))
 unfolding read_behind example_job
 example_weighed = refl
 
 -- with a `V` line of ones: another job with the same weights as without the line
-example_ones : read_behind "W\t4\t3\nV\t1\t1\t1" ≡ value (example_job Unsaid true (1 ∷ 1 ∷ 1 ∷ []))
+example_ones : read_behind "W\t4\t3\nV\t1\t1\t1" ≡ value (example_job None true (1 ∷ 1 ∷ 1 ∷ []))
 unfolding read_behind example_job
 example_ones = refl
 
@@ -110,7 +111,7 @@ one-taxon name code weighed weight =
       kind = Wagner;
       n = 1;
       m = 1;
-      order = Unsaid;
+      order = None;
       weighed = weighed;
       weights = weight ∷ [];
       names = name ∷ [];
@@ -222,7 +223,7 @@ own_job =
       kind = Own;
       n = 3;
       m = 1;
-      order = Unsaid;
+      order = None;
       weighed = false;
       weights = 1 ∷ [];
       names = (65 ∷ []) ∷ (66 ∷ []) ∷ (67 ∷ []) ∷ [];
@@ -238,7 +239,7 @@ own-taxon weighed weight =
       kind = Own;
       n = 1;
       m = 1;
-      order = Unsaid;
+      order = None;
       weighed = weighed;
       weights = weight ∷ [];
       names = (65 ∷ []) ∷ [];
@@ -357,7 +358,7 @@ alike n =
       kind = Wagner;
       n = n;
       m = 1;
-      order = Unsaid;
+      order = None;
       weighed = false;
       weights = 1 ∷ [];
       names = map (λ k. 116 ∷ digits_of k) (numbers 1 n);

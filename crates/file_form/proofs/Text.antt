@@ -1,9 +1,7 @@
--- Texts: parts at a separator, the first part, the parts from a place on, plain bytes, the fields of a line.
+-- Texts: parts at a separator, the first part, plain bytes, the fields of a line; and all these in std's words on slices.
 pub mod Parts
 pub mod FirstPart
-pub mod PartsFrom
 pub mod Plain
 pub mod Fields
 pub mod PartWalk
-pub mod Separators
-pub mod SameText
+pub mod Slices

@@ -7,8 +7,8 @@ use Rattle.lists.specs.Tests.{same_numbers as same_text}
 use Rattle.matrix.specs.Outcomes.{ask, Outcome, refused, on_line}
 use Rattle.matrix.specs.Refusals.{refusal_number}
 use Rattle.matrix.specs.declared.refusal.Refusal.TheVariants.{NotBranching, BranchForm}
-use Rattle.matrix.specs.declared.refusal.Asked.{Asked}
-use Rattle.matrix.specs.declared.refusal.Asked.TheVariants.{Passed}
+use Rattle.matrix.specs.Outcomes.{Asked}
+use Rattle.std.specs.Prelude.{Ok}
 use Rattle.branching.specs.Ancestors.{tree_with}
 use Rattle.branching.specs.Growing.{branching}
 use Rattle.file_form.specs.declared.header.Kind.{Kind}
@@ -47,7 +47,7 @@ ask_branches line v zero lines follow = follow line lines
 ask_branches line v (suc left) [] follow = refused (refusal_number BranchForm) line
 ask_branches line v (suc left) (behind ∷ []) follow = refused (refusal_number BranchForm) line
 ask_branches line v (suc left) (text ∷ next ∷ lines) follow =
-    on_line line (ask (branch_form v (fields_of text)) BranchForm Passed) (ask_branches (suc line) (suc v) left (next ∷ lines) follow)
+    on_line line (ask (branch_form v (fields_of text)) BranchForm (Ok tt)) (ask_branches (suc line) (suc v) left (next ∷ lines) follow)
 
 -- the immediate ancestors of nodes 2, 3, .. are a branching of n taxa; a `W` file has none to ask for
 abbrev pub branched : Kind → ℕ → List ℕ → Bool
@@ -56,4 +56,4 @@ branched Own n ancestors = branching n (tree_with ancestors)
 
 -- the question whether they are
 abbrev pub ask_tree : Kind → ℕ → List ℕ → Asked
-ask_tree kind n ancestors = ask (branched kind n ancestors) NotBranching Passed
+ask_tree kind n ancestors = ask (branched kind n ancestors) NotBranching (Ok tt)

@@ -1,17 +1,17 @@
 -- The header of a matrix file: what its first lines say, the questions put to them (3, 4, and document 02's 15 between these and 16 behind
 -- them), and how many lines they are.
-use Rattle.std.specs.Prelude.{List, [], ◌∷◌, Bool, false, ◌&&◌, ◌||◌, cond, ℕ, suc, ◌+◌, leb, length, get_or, drop}
+use Rattle.std.specs.Prelude.{List, [], ◌∷◌, Bool, false, ◌&&◌, ◌||◌, cond, ℕ, suc, ◌+◌, leb, length, get_or, drop, Option, None, Some}
 use Rattle.lists.specs.Tests.{every, same_numbers as same_text}
 use Rattle.matrix.specs.Outcomes.{ask, Outcome, value, on_line}
 use Rattle.matrix.specs.Questions.{within_limits}
 use Rattle.matrix.specs.declared.refusal.Refusal.TheVariants.{FirstLine, UnknownOrder, BeyondLimits, WeightForm}
-use Rattle.matrix.specs.declared.refusal.Asked.{Asked}
-use Rattle.matrix.specs.declared.refusal.Asked.TheVariants.{Passed}
+use Rattle.matrix.specs.Outcomes.{Asked}
+use Rattle.std.specs.Prelude.{Ok}
 use Rattle.file_form.specs.declared.header.Header.{Header}
 use Rattle.file_form.specs.declared.header.Kind.{Kind}
 use Rattle.file_form.specs.declared.header.Kind.TheVariants.{Wagner, Own}
-use Rattle.file_form.specs.declared.header.OrderWord.{OrderWord}
-use Rattle.file_form.specs.declared.header.OrderWord.TheVariants.{Unsaid, Advance, Closest}
+use Rattle.branching.specs.declared.order.Order.{Order}
+use Rattle.branching.specs.declared.order.Order.TheVariants.{Advance, Closest}
 use Rattle.file_form.specs.Bytes.{word_w, word_f, word_advance, word_closest}
 use Rattle.file_form.specs.Decimal.{number_form, number_of}
 use Rattle.file_form.specs.Job.{Job}
@@ -32,13 +32,17 @@ abbrev pub most_fields : Kind → ℕ
 most_fields Wagner = 4
 most_fields Own = 3
 
+-- the word for the order that a field says, if it is one
+abbrev pub order_word : List ℕ → Option Order
+order_word word = cond (same_text word word_advance) (Some Advance) (cond (same_text word word_closest) (Some Closest) None)
+
 -- the word that a field for the order says, if there is one
-abbrev pub order_said : List (List ℕ) → OrderWord
-order_said [] = Unsaid
-order_said (word ∷ fields) = cond (same_text word word_advance) Advance (cond (same_text word word_closest) Closest Unsaid)
+abbrev pub order_said : List (List ℕ) → Option Order
+order_said [] = None
+order_said (word ∷ fields) = order_word word
 
 -- the word for the order that line 1 carries: that of its fourth field
-unfoldable pub order_in : List (List ℕ) → OrderWord
+unfoldable pub order_in : List (List ℕ) → Option Order
 order_in fields = order_said (drop 3 fields)
 
 -- what the fields of line 1 say: the first is the word of the kind, n is the second, m the third, and a fourth is the word for the order;
@@ -102,7 +106,7 @@ unfoldable pub ask_first_line : List (List ℕ) → Asked
 ask_first_line lines =
     ask (first_line_form lines) FirstLine
     (ask (order_known (first_fields lines)) UnknownOrder
-    (ask (within_limits (header_in lines).n (header_in lines).m) BeyondLimits Passed))
+    (ask (within_limits (header_in lines).n (header_in lines).m) BeyondLimits (Ok tt)))
 
 -- the question put to the `V` line, the first of the lines behind line 1: if it is there, is it well formed?
 unfoldable pub ask_weights : Header → List (List ℕ) → Asked

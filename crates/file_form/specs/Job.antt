@@ -1,6 +1,6 @@
 -- A job, what a matrix file says: its kind, n taxa, m characters, the word for the order of placing, the weights, the names, the codes and
 -- the branching; its limits; and the one file that says it (document 01, "The matrix file"; document 02, M-100, M-101 and M-103).
-use Rattle.std.specs.Prelude.{◌≡◌, Bool, true, false, ◌&&◌, ◌||◌, not, ℕ, leb, eqb, ℤ, length, replicate}
+use Rattle.std.specs.Prelude.{◌≡◌, Bool, true, false, ◌&&◌, ◌||◌, not, ℕ, leb, eqb, ℤ, length, replicate, Option, None, Some}
 use mathlib.Core.List.{List, [], ◌∷◌, ◌++◌, map, zip_with}
 use Rattle.matrix.specs.Shape.{is_weight}
 use Rattle.matrix.specs.Questions.{within_limits, all_in_range}
@@ -12,8 +12,8 @@ use Rattle.file_form.specs.Weights.{letter_v, weight_text}
 use Rattle.file_form.specs.Branches.{branch_count, branch_texts, branched}
 use Rattle.file_form.specs.declared.header.Kind.{Kind}
 use Rattle.file_form.specs.declared.header.Kind.TheVariants.{Wagner, Own}
-use Rattle.file_form.specs.declared.header.OrderWord.{OrderWord}
-use Rattle.file_form.specs.declared.header.OrderWord.TheVariants.{Unsaid, Advance, Closest}
+use Rattle.branching.specs.declared.order.Order.{Order}
+use Rattle.branching.specs.declared.order.Order.TheVariants.{Advance, Closest}
 
 -- the kind of the file; n taxa, m characters; the word that line 1 carries for the order of placing, if any; whether there is a `V` line,
 -- and the weights, by character; names and rows of codes stand by row, row 1 first; in an `F` file the immediate ancestors of the other
@@ -22,7 +22,7 @@ pub record Job : Type 0 where
   pub kind : Kind
   pub n : ℕ
   pub m : ℕ
-  pub order : OrderWord
+  pub order : Option Order
   pub weighed : Bool
   pub weights : List ℕ
   pub names : List (List ℕ)
@@ -61,7 +61,7 @@ has_codes m codes = eqb (length codes) m
 -- to 999; in an `F` file an ancestor for each node from 2 to 2n-2, and these are a branching, in a `W` file none
 pub record JobWithinLimits (job : Job) : Type 0 where
   pub limits : within_limits job.n job.m ≡ true
-  pub order_unsaid : job.kind ≡ Own → job.order ≡ Unsaid
+  pub order_unsaid : job.kind ≡ Own → job.order ≡ None
   pub weight_count : length job.weights ≡ job.m
   pub weights_known : every is_weight job.weights ≡ true
   pub weights_unsaid : job.weighed ≡ false → job.weights ≡ replicate job.m 1
@@ -81,10 +81,10 @@ kind_word Wagner = word_w
 kind_word Own = word_f
 
 -- the field for the order of placing: none, or its word
-abbrev pub order_fields : OrderWord → List (List ℕ)
-order_fields Unsaid = []
-order_fields Advance = word_advance ∷ []
-order_fields Closest = word_closest ∷ []
+abbrev pub order_fields : Option Order → List (List ℕ)
+order_fields None = []
+order_fields (Some Advance) = word_advance ∷ []
+order_fields (Some Closest) = word_closest ∷ []
 
 -- line 1: the word of the kind, n, m, and the word for the order, if any
 unfoldable pub first_text : Job → List ℕ

@@ -4,8 +4,8 @@ use Rattle.std.specs.Prelude.{List, [], ◌∷◌, Bool, true, false, ◌&&◌, 
 use Rattle.lists.specs.Tests.{same_numbers as same_text}
 use Rattle.matrix.specs.Outcomes.{ask}
 use Rattle.matrix.specs.declared.refusal.Refusal.{Refusal}
-use Rattle.matrix.specs.declared.refusal.Asked.{Asked}
-use Rattle.matrix.specs.declared.refusal.Asked.TheVariants.{Passed}
+use Rattle.matrix.specs.Outcomes.{Asked}
+use Rattle.std.specs.Prelude.{Ok}
 use Rattle.file_form.specs.Bytes.{tab, joined_by}
 use Rattle.file_form.specs.Lines.{fields_of}
 
@@ -19,7 +19,7 @@ optional_fields lines = drop 1 (fields_of (get_or lines 0 []))
 
 -- the question put to it: if it is there, is it ended by a line feed, with the right fields behind its letter?
 unfoldable pub ask_optional : Bool → Bool → Refusal → List (List ℕ) → Asked
-ask_optional there formed refusal lines = ask (not there || (leb 2 (length lines) && formed)) refusal Passed
+ask_optional there formed refusal lines = ask (not there || (leb 2 (length lines) && formed)) refusal (Ok tt)
 
 -- how many lines it takes
 abbrev pub lines_taken : Bool → ℕ

@@ -2,8 +2,8 @@
 use Rattle.std.specs.Prelude.{List, [], ◌∷◌, map, Bool, true, false, ℕ, leb, length, take, drop}
 use Rattle.matrix.specs.Outcomes.{ask, Outcome, value, on_line, then_with}
 use Rattle.matrix.specs.declared.refusal.Refusal.TheVariants.{FileTooLong, FileEmpty, FileGoesOn}
-use Rattle.matrix.specs.declared.refusal.Asked.{Asked}
-use Rattle.matrix.specs.declared.refusal.Asked.TheVariants.{Passed}
+use Rattle.matrix.specs.Outcomes.{Asked}
+use Rattle.std.specs.Prelude.{Ok}
 use Rattle.file_form.specs.declared.header.Header.{Header}
 use Rattle.file_form.specs.Job.{Job}
 use Rattle.file_form.specs.Lines.{lines_of}
@@ -61,7 +61,7 @@ nothing_more ((byte ∷ bytes) ∷ lines) = false
 
 -- does the file end in front of this line? if so, what follows
 unfoldable pub ask_end : {A : Type 0} → Outcome A → ℕ → List (List ℕ) → Outcome A
-ask_end rest line lines = on_line line (ask (nothing_more lines) FileGoesOn Passed) rest
+ask_end rest line lines = on_line line (ask (nothing_more lines) FileGoesOn (Ok tt)) rest
 
 -- the questions put to what stands behind the rows of a file that says a job, from this line on: its `C` lines, then the end of the file,
 -- then whether its branching is one
@@ -81,7 +81,7 @@ ask_file lines = then_with (ask_header lines) (λ header. ask_behind header line
 
 -- the questions put to a file's length
 unfoldable pub ask_length : List ℕ → Asked
-ask_length file = ask (leb (length file) most_bytes) FileTooLong (ask (leb 1 (length file)) FileEmpty Passed)
+ask_length file = ask (leb (length file) most_bytes) FileTooLong (ask (leb 1 (length file)) FileEmpty (Ok tt))
 
 -- a file's bytes, read: the job that it says, or the number of the refusal and the line
 unfoldable pub read_answer : List ℕ → Outcome Job

@@ -5,8 +5,8 @@ use Rattle.matrix.specs.Shape.{in_range}
 use Rattle.matrix.specs.Outcomes.{ask, Outcome, refused, on_line}
 use Rattle.matrix.specs.Refusals.{refusal_number}
 use Rattle.matrix.specs.declared.refusal.Refusal.TheVariants.{LineMissing, NameForm, NameTaken, FieldCount, CodeForm, CodeRange}
-use Rattle.matrix.specs.declared.refusal.Asked.{Asked}
-use Rattle.matrix.specs.declared.refusal.Asked.TheVariants.{Passed}
+use Rattle.matrix.specs.Outcomes.{Asked}
+use Rattle.std.specs.Prelude.{Ok}
 use Rattle.file_form.specs.declared.header.Header.{Header}
 use Rattle.file_form.specs.Decimal.{code_form, code_of}
 use Rattle.file_form.specs.Job.{name_form, differs_from_all}
@@ -22,7 +22,7 @@ codes_in line = map code_of (drop 1 (fields_of line))
 
 -- for each code from the left: is its form right? is it from -999 to 999?
 unfoldable pub ask_codes : List (List ℕ) → Asked
-ask_codes [] = Passed
+ask_codes [] = Ok tt
 ask_codes (field ∷ fields) = ask (code_form field) CodeForm (ask (in_range (code_of field)) CodeRange (ask_codes fields))
 
 -- a row's line has exactly m + 1 fields; its name is well formed and differs from every earlier one; its codes

@@ -1,27 +1,21 @@
 // What the header of a file says.
+use branching::order::Order;
 
 // The kind of a file: `W`, whose Wagner tree is built, or `F`, which brings a branching of its own.
-#[derive(Clone, Copy)]
+#[derive(Clone, Copy, PartialEq, Eq)]
 pub enum Kind {
     Wagner,
     Own,
 }
 
-// The word that line 1 carries for the order of placing.
-#[derive(Clone, Copy)]
-pub enum OrderWord {
-    Unsaid,
-    Advance,
-    Closest,
-}
-
-// What the header of a file says: its kind, the numbers of taxa and characters, the word for the order of placing, and whether there is a
-// `V` line.
-#[derive(Clone, Copy)]
+// What the header of a file says: its kind, the numbers of taxa and characters, the order of placing that a word of line 1 says, if any,
+// and whether there is a `V` line.
+#[derive(Clone, Copy, PartialEq, Eq)]
 pub struct Header {
     pub kind: Kind,
     pub n: usize,
     pub m: usize,
-    pub order: OrderWord,
+    pub order: Option<Order>,
+    // Kept: no plainer, the line is there or not, and the header says nothing else of it.
     pub weighed: bool,
 }

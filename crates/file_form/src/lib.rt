@@ -1,5 +1,22 @@
-// The form of a matrix file.
+// The form of a matrix file: its bytes and sizes.
 #![tactic(auto)]
+
+use matrix::MOST_TAXA;
 
 // What the header of a file says.
 pub mod header;
+
+// A file has at most so many bytes.
+pub const MOST_BYTES: usize = 45000;
+
+// What parts the fields of a line.
+pub const TAB: u8 = b'\t';
+
+// What ends a line.
+pub const LINE_FEED: u8 = b'\n';
+
+// A name has at most so many bytes, and takes so many of the lent list.
+pub const NAME_SIZE: usize = 16;
+
+// The lent list has a name for each of 64 taxa.
+pub const NAMES_SIZE: usize = MOST_TAXA * NAME_SIZE;

@@ -2,4 +2,3 @@
 pub mod Walk
 pub mod Said
 pub mod Tree
-pub mod Records

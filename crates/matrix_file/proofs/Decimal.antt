@@ -1,3 +1,3 @@
--- Whole numbers in decimal, as walks over their digits read them.
+-- Whole numbers in decimal, as they are read.
 pub mod NumberWalk
 pub mod CodeWalk

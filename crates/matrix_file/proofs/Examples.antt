@@ -12,23 +12,23 @@ use Rattle.matrix.specs.Outcomes.{Outcome, value, refused}
 use Rattle.matrix.specs.declared.refusal.Refusal.TheVariants.{NameTaken}
 use Rattle.file_form.specs.declared.header.Header.{Header}
 use Rattle.file_form.specs.declared.header.Kind.TheVariants.{Wagner}
-use Rattle.file_form.specs.declared.header.OrderWord.TheVariants.{Unsaid, Closest}
+use Rattle.std.specs.Prelude.{None, Some, Ok, Err}
+use Rattle.branching.specs.declared.order.Order.TheVariants.{Closest}
 use Rattle.branching.specs.LentNumbers.{records_for}
 use Rattle.file_form.specs.Text.{bytes}
 use Rattle.file_form.specs.Reading.{job_in}
 use Rattle.file_form.specs.Written.{LentLists, lent}
 use Rattle.file_form.proofs.Examples.{read}
 use Rattle.matrix_file.specs.Report.{read_says, with_header, full_size, ask_size, read_outcome, lists_after}
-use Rattle.matrix_file.specs.declared.answer.Read.TheVariants.{Accepted, Refused}
 
 -- what an answer says: a header, and a refusal with its line
 accepted_says :
-    read_says (Accepted (record { kind = Wagner; n = 4; m = 3; order = Closest; weighed = true }))
-    ≡ value (record { kind = Wagner; n = 4; m = 3; order = Closest; weighed = true })
+    read_says (Ok (record { kind = Wagner; n = 4; m = 3; order = Some Closest; weighed = true }))
+    ≡ value (record { kind = Wagner; n = 4; m = 3; order = Some Closest; weighed = true })
 accepted_says = refl
 
 -- a refusal: its number and its line
-refused_says : read_says (Refused NameTaken 4) ≡ refused 7 4
+refused_says : read_says (Err (record { refusal = NameTaken; line = 4 })) ≡ refused 7 4
 refused_says = refl
 
 -- a file read into a matrix of so many codes and lists of so many weights, bytes of names and numbers of records
@@ -39,7 +39,7 @@ read_into file codes weights names branches =
 
 -- lists of full size: the file decides
 full_size_read : read_into (bytes "W\t1\t2\nV\t2\t3\nA\t0\t1\n") 16128 128 1024 375
-    ≡ value (record { kind = Wagner; n = 1; m = 2; order = Unsaid; weighed = true })
+    ≡ value (record { kind = Wagner; n = 1; m = 2; order = None; weighed = true })
 unfolding read_into bytes
 full_size_read = refl
 

@@ -1,3 +1,4 @@
 -- A whole file: the walks that put the questions.
 pub mod OptionalWalk
+pub mod HeaderWalk
 pub mod FileWalk

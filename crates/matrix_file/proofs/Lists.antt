@@ -1,6 +1,5 @@
 -- The lent lists: what a walk over the lines writes, and what the lists then hold.
-pub mod LinesWalk
-pub mod LinesEnd
+pub mod LinesBehind
 pub mod WrittenLines
 pub mod ReadLists
 pub mod ReadWalk

@@ -1,24 +1,21 @@
 -- What a read into lent lists brings, and what the lists then hold.
-use Rattle.std.specs.Prelude.{◌≡◌, Bool, ◌&&◌, List, ℕ, eqb, length}
+use Rattle.std.specs.Prelude.{◌≡◌, Bool, ◌&&◌, List, ℕ, eqb, length, Result, Ok, Err}
 use Rattle.matrix.specs.Shape.{matrix_size, columns}
 use Rattle.matrix.specs.Refusals.{refusal_number}
-use Rattle.matrix.specs.Outcomes.{ask, Outcome, value, refused, on_line, afterwards, then_with}
+use Rattle.matrix.specs.Outcomes.{Asked, ask, Outcome, value, refused, on_line, afterwards, then_with}
 use Rattle.matrix.specs.declared.refusal.Refusal.TheVariants.{ListSize}
-use Rattle.matrix.specs.declared.refusal.Asked.{Asked}
-use Rattle.matrix.specs.declared.refusal.Asked.TheVariants.{Passed}
 use Rattle.branching.specs.LentNumbers.{lent_numbers}
 use Rattle.file_form.specs.declared.header.Header.{Header}
-use Rattle.matrix_file.specs.declared.answer.Read.{Read}
-use Rattle.matrix_file.specs.declared.answer.Read.TheVariants.{Accepted, Refused}
+use Rattle.matrix_file.specs.declared.answer.Refused.{Refused}
 use Rattle.file_form.specs.Job.{Job}
 use Rattle.file_form.specs.Header.{header_of}
 use Rattle.file_form.specs.Reading.{read_answer, job_in}
 use Rattle.file_form.specs.Written.{names_size, LentLists, job_written}
 
 -- what an answer says in document 01's terms: the header, or the number of the refusal and the line
-abbrev pub read_says : Read → Outcome Header
-read_says (Accepted header) = value header
-read_says (Refused refusal line) = refused (refusal_number refusal) line
+abbrev pub read_says : Result Header Refused → Outcome Header
+read_says (Ok header) = value header
+read_says (Err r) = refused (refusal_number r.refusal) r.line
 
 -- of what a file brings, the header alone
 abbrev pub with_header : Outcome Job → Outcome Header
@@ -32,7 +29,7 @@ full_size matrix weights names branches =
 -- the question whether they have
 unfoldable pub ask_size : LentLists → Asked
 ask_size lists =
-    ask (full_size (length lists.matrix) (length lists.weights) (length lists.names) (length lists.branches)) ListSize Passed
+    ask (full_size (length lists.matrix) (length lists.weights) (length lists.names) (length lists.branches)) ListSize (Ok tt)
 
 -- what a read into lent lists brings: 12 if one has not its full size, else what the file brings
 unfoldable pub read_outcome : List ℕ → LentLists → Outcome Job
@@ -43,6 +40,6 @@ unfoldable pub lists_after : List ℕ → LentLists → LentLists
 lists_after file old = afterwards (read_outcome file old) (job_written (job_in file) old) old
 
 -- a read says its outcome, and leaves the lists so
-pub record ReadDone (file : List ℕ) (old new : LentLists) (r : Read) : Type 0 where
+pub record ReadDone (file : List ℕ) (old new : LentLists) (r : Result Header Refused) : Type 0 where
   pub says : read_says r ≡ with_header (read_outcome file old)
   pub lists : new ≡ lists_after file old

@@ -1,72 +1,111 @@
--- No public contract cites this file. What a walk over the rows or the `C` lines of a file knows and answers: the names that it has
--- passed, and where they end.
-use Rattle.std.specs.Prelude.{◌≡◌, List, [], ◌∷◌, map, Bool, ℕ, zero, suc, ◌+◌, get_or, take, drop}
-use Rattle.matrix.specs.Outcomes.{Outcome, refused}
+-- No public contract cites this file. What a text says that is read as something, and what a walk over the rows or the `C` lines of a file
+-- answers.
+use mathlib.Core.List.{List, [], ◌∷◌, map, reverse}
+use denote.Ref.{Bor}
+use Rattle.std.specs.Prelude.{◌≡◌, Bool, true, cond, ℕ, suc, ◌+◌, get_or, take, drop, Option, None, Some, Result, Ok, Err}
+use Rattle.matrix.specs.Outcomes.{Asked, ask, Outcome, value, refused}
 use Rattle.matrix.specs.Refusals.{refusal_number}
-use Rattle.matrix.specs.declared.refusal.Asked.{Asked}
+use Rattle.matrix.specs.declared.refusal.Refusal.{Refusal}
+use Rattle.matrix.specs.declared.refusal.Refusal.TheVariants.{UnknownOrder}
 use Rattle.file_form.specs.declared.header.Header.{Header}
-use Rattle.matrix_file.specs.declared.answer.Read.{Read}
-use Rattle.matrix_file.specs.declared.answer.LinesAnswer.{LinesAnswer}
-use Rattle.matrix_file.specs.declared.answer.LinesAnswer.TheVariants.{Ended, Refused}
-use Rattle.matrix_file.specs.declared.bytes.Alphabet.{Alphabet}
-use Rattle.matrix_file.specs.declared.bytes.Alphabet.TheVariants.{Digits, Name}
-use Rattle.file_form.specs.Bytes.{tab, is_digit, first_part}
-use Rattle.file_form.specs.Job.{Job, in_name}
-use Rattle.file_form.specs.Lines.{lines_of}
+use Rattle.file_form.specs.declared.header.Kind.{Kind}
+use Rattle.branching.specs.declared.order.Order.{Order}
+use Rattle.matrix_file.specs.declared.answer.Refused.{Refused}
+use Rattle.file_form.specs.Decimal.{number_of}
+use Rattle.file_form.specs.Job.{Job}
+use Rattle.file_form.specs.Lines.{lines_of, fields_of}
 use Rattle.file_form.specs.Rows.{name_in, ask_rows}
-use Rattle.file_form.specs.Branches.{branch_count, ancestor_in, ask_branches}
-use Rattle.file_form.specs.Header.{header_of}
+use Rattle.file_form.specs.Branches.{branch_count, branch_form, ancestor_in, ask_branches}
+use Rattle.file_form.specs.Header.{header_of, kind_said, order_known, order_in}
 use Rattle.file_form.specs.Reading.{ask_after}
-use Rattle.matrix_file.specs.Report.{read_says, with_header}
 use Rattle.file_form.specs.Formed.{BranchesFormed}
 use Rattle.file_form.specs.Written.{padded}
+use Rattle.matrix_file.specs.Report.{with_header}
 
--- a byte is one of an alphabet
-abbrev pub in_alphabet : Alphabet → ℕ → Bool
-in_alphabet Digits = is_digit
-in_alphabet Name = in_name
+-- what a text, or the fields of a line, are read as, if they have the form
+abbrev pub read_as : {A B : Type 0} → (A → Bool) → (A → B) → A → Option B
+read_as form says a = cond (form a) (Some (says a)) None
 
--- the names of the first `count` rows, the last one first; row i + 1 begins at place i of `starts`
-unfoldable pub names_passed : List ℕ → List ℕ → ℕ → List (List ℕ)
-names_passed rows starts zero = []
-names_passed rows starts (suc count) = first_part tab (drop (get_or starts count 0) rows) ∷ names_passed rows starts count
+-- the kind, n and m that the fields of line 1 say
+abbrev pub first_said : List (List ℕ) → Kind × ℕ × ℕ
+first_said fields = (kind_said (get_or fields 0 []), number_of (get_or fields 1 []), number_of (get_or fields 2 []))
+
+-- a value, if questions pass
+abbrev pub with_value : {A : Type 0} → Asked → A → Result A Refusal
+with_value (Ok _) a = Ok a
+with_value (Err refusal) a = Err refusal
+
+-- the word for the order that the fields of line 1 carry, if it is known
+abbrev pub order_asked : List (List ℕ) → Result (Option Order) Refusal
+order_asked fields = with_value (ask (order_known fields) UnknownOrder (Ok tt)) (order_in fields)
 
 -- the name of a row's line, as it is written
 abbrev pub padded_in : List ℕ → List ℕ
 padded_in line = padded (name_in line)
 
--- the header if the questions put to a line pass, else their refusal and the line
-abbrev pub header_on : ℕ → Asked → Header → Read
-header_on line Asked.Passed header = Read.Accepted header
-header_on line (Asked.Refused refusal) header = Read.Refused refusal line
+-- the names of earlier rows, the last one first
+abbrev pub names_passed : List (Bor (List ℕ)) → List (List ℕ)
+names_passed names = reverse (map (λ name. name.now) names)
 
--- what lines of a text bring, as a walk answers: what follows them, with the number of the next line and the lines left, or the refusal
-abbrev pub lines_say : List ℕ → LinesAnswer → (ℕ → List (List ℕ) → Outcome Job) → Outcome Job
-lines_say text (Ended at line) follow = follow line (lines_of (drop at text))
-lines_say text (Refused refusal line) follow = refused (refusal_number refusal) line
+-- an answer, with the line where it refuses
+abbrev pub at_line : {A : Type 0} → ℕ → Result A Refusal → Result A Refused
+at_line line (Ok a) = Ok a
+at_line line (Err refusal) = Err (record { refusal = refusal; line = line })
+
+-- what an answer with no value says in document 01's terms, of a file with this header
+abbrev pub passed_says : Header → Result (Unit {0}) Refused → Outcome Header
+passed_says header (Ok _) = value header
+passed_says header (Err r) = refused (refusal_number r.refusal) r.line
+
+-- the first line of a text and what stands behind its line feed; without one the text is its only part
+abbrev pub FirstLine : List ℕ → Option (Bor (List ℕ) × Bor (List ℕ)) → Type 0
+FirstLine text None = lines_of text ≡ text ∷ []
+FirstLine text (Some parts) = lines_of text ≡ parts.0.now ∷ lines_of parts.1.now
+
+-- what a walk leaves of a text, or its refusal
+abbrev pub left_of : {E : Type 0} → Result (Bor (List ℕ)) E → Result (List ℕ) E
+left_of (Ok rest) = Ok rest.now
+left_of (Err e) = Err e
+
+-- what lines of a text bring, as a walk answers that leaves this rest: what follows them, or the refusal
+abbrev pub lines_say : Result (List ℕ) Refused → ℕ → (ℕ → List (List ℕ) → Outcome Job) → Outcome Job
+lines_say (Ok rest) next follow = follow next (lines_of rest)
+lines_say (Err r) next follow = refused (refusal_number r.refusal) r.line
 
 -- the line behind the rows has at most this number: line 1, the `V` line and 64 rows stand in front of it
 abbrev pub behind_rows_most : ℕ
 behind_rows_most = 67
 
--- a walk over `count` lines of a text, the first of them in line `first` of the file, ends at a place and in front of a line
-pub record LinesPassed (text : List ℕ) (count first at line : ℕ) : Type 0 where
-  pub next : line ≡ first + count
-  pub rest : lines_of (drop at text) ≡ drop count (lines_of text)
-
 -- a walk over the rows answers their questions, whatever follows them, and ends behind them
-pub record RowsAsked (rows : List ℕ) (header : Header) (first : ℕ) (r : LinesAnswer) : Type 0 where
+pub record RowsAsked (rows : List ℕ) (header : Header) (first : ℕ) (r : Result (List ℕ) Refused) : Type 0 where
   pub says :
-      (follow : ℕ → List (List ℕ) → Outcome Job) → lines_say rows r follow ≡ ask_rows header [] first header.n (lines_of rows) follow
-  pub ends : (at line : ℕ) → r ≡ Ended at line → LinesPassed rows header.n first at line
+      (follow : ℕ → List (List ℕ) → Outcome Job)
+      → lines_say r (first + header.n) follow
+      ≡ ask_rows header [] first header.n (lines_of rows) follow
+  pub ends : (rest : List ℕ) → r ≡ Ok rest → lines_of rest ≡ drop header.n (lines_of rows)
+
+-- what the question put to a line brings, where another line follows: what follows it, or the refusal
+abbrev pub line_says : Result (List ℕ) Refusal → ℕ → (List ℕ → Outcome Job) → Outcome Job
+line_says (Ok rest) line follow = follow rest
+line_says (Err refusal) line follow = refused (refusal_number refusal) line
+
+-- the question put to the `C` line of node v, with which a text begins, is answered, whatever the line's number and what follows; it is the
+-- first of the lines that are left, and has the form
+pub record BranchAsked (text : List ℕ) (v : ℕ) (r : Result (List ℕ) Refusal) : Type 0 where
+  pub says :
+      (line left : ℕ) (follow : ℕ → List (List ℕ) → Outcome Job)
+      → ask_branches line v (suc left) (lines_of text) follow
+      ≡ line_says r line (λ rest. ask_branches (suc line) (suc v) left (lines_of rest) follow)
+  pub ends : (rest : List ℕ) → r ≡ Ok rest → (line : List ℕ) × (lines_of text ≡ line ∷ lines_of rest) × (branch_form v (fields_of line) ≡ true)
 
 -- a walk over `C` lines answers their questions, whatever follows them, and ends behind them
-pub record BranchesAsked (text : List ℕ) (count first : ℕ) (r : LinesAnswer) : Type 0 where
-  pub says : (follow : ℕ → List (List ℕ) → Outcome Job) → lines_say text r follow ≡ ask_branches first 2 count (lines_of text) follow
-  pub ends : (at line : ℕ) → r ≡ Ended at line → LinesPassed text count first at line × BranchesFormed count text
+pub record BranchesAsked (text : List ℕ) (count first : ℕ) (r : Result (List ℕ) Refused) : Type 0 where
+  pub says :
+      (follow : ℕ → List (List ℕ) → Outcome Job) → lines_say r (first + count) follow ≡ ask_branches first 2 count (lines_of text) follow
+  pub ends : (rest : List ℕ) → r ≡ Ok rest → (lines_of rest ≡ drop count (lines_of text)) × BranchesFormed count text
 
 -- what stands behind the rows was asked: an answer says what it brings, of a job with this header and the branching that its lines say
-pub record RestAsked (rest : List ℕ) (line : ℕ) (header : Header) (r : Read) : Type 0 where
+pub record RestAsked (rest : List ℕ) (line : ℕ) (header : Header) (r : Result (Unit {0}) Refused) : Type 0 where
   pub says : (job : Job) → header_of job ≡ header
       → job.ancestors ≡ map ancestor_in (take (branch_count header.kind header.n) (lines_of rest))
-      → read_says r ≡ with_header (ask_after job line (lines_of rest))
+      → passed_says header r ≡ with_header (ask_after job line (lines_of rest))

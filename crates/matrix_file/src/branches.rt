@@ -10,16 +10,17 @@ ghost use Rattle.file_form.specs.Decimal.{number_form, number_of};
 ghost use Rattle.file_form.specs.Lines.{lines_of, fields_of};
 ghost use Rattle.file_form.specs.Branches.{branch_count, branch_form, ancestor_in, ask_tree};
 ghost use Rattle.file_form.specs.Formed.{BranchesFormed, record_in};
-ghost use Rattle.matrix_file.specs.Walk.{behind_rows_most, BranchesAsked};
+ghost use Rattle.matrix_file.specs.Walk.{behind_rows_most, left_of, BranchAsked, BranchesAsked};
 
-use crate::answer::LinesAnswer;
-use crate::bytes::{LINE_FEED, TAB, field, first_part, rest_from, same_text, separators};
-use crate::numbers::{number_form, number_of};
+use crate::answer::{Refused, on_line};
+use crate::bytes::{behind_part, field, first_line, first_part, same_text, separators};
+use crate::numbers::number;
 use branching::lent::record_count;
 use branching::numbers::RECORD;
 use branching::tree::{PLACES, Tree};
 use file_form::header::Kind;
-use matrix::refusal::{Asked, Refusal};
+use file_form::{LINE_FEED, TAB};
+use matrix::refusal::Refusal;
 
 // The field of a `C` line that says its node.
 const NODE: usize = 1;
@@ -28,6 +29,7 @@ const NODE: usize = 1;
 const ANCESTOR: usize = 2;
 
 // How many `C` lines a file has: one for each node but node 1 if it brings its own branching, else none.
+// Kept: no plainer, as a method of `Kind` it would be public in another crate for this crate alone.
 pub(crate) fn branch_count(kind: Kind, n: usize) -> usize
     requires { n ≤ most_taxa }
     ensures { result ≡ branch_count kind n }
@@ -48,42 +50,36 @@ fn branch_form(line: &[u8], v: usize) -> bool
     if !same_text(field(line, 0), b"C") {
         return false;
     }
-    if !number_form(field(line, ANCESTOR)) {
+    if number(field(line, ANCESTOR)).is_none() {
         return false;
     }
-    let node = field(line, NODE);
-    number_form(node) && number_of(node) == v
+    number(field(line, NODE)) == Some(v)
 }
 
-// For each node in turn, from node 2: is there another line, ended by a line feed, and is it the node's? The first stands in line `first`.
-pub(crate) fn ask_branches(text: &[u8], count: usize, first: usize) -> LinesAnswer
-    requires { (count ≤ branches_size) × (first ≤ behind_rows_most) }
-    ensures { BranchesAsked text.now count first result }
+// The question put to the line of node v, with which a text begins: is there one, ended by a line feed, and is it the node's? What stands
+// behind it.
+fn ask_branch(text: &[u8], v: usize) -> Result<&[u8], Refusal>
+    ensures { BranchAsked text.now v (left_of result) }
 {
-    let mut at = 0;
-    let mut done = 0;
-    while done < count {
-        let line = first_part(rest_from(text, at), LINE_FEED);
-        let end = at + line.len();
-        if end == text.len() {
-            return LinesAnswer::Refused {
-                refusal: Refusal::BranchForm,
-                line: first + done,
-            };
-        }
-        if !branch_form(line, done + 2) {
-            return LinesAnswer::Refused {
-                refusal: Refusal::BranchForm,
-                line: first + done,
-            };
-        }
-        at = end + 1;
-        done += 1;
+    let Some((line, behind)) = first_line(text) else {
+        return Err(Refusal::BranchForm);
+    };
+    if !branch_form(line, v) {
+        return Err(Refusal::BranchForm);
     }
-    LinesAnswer::Ended {
-        at: at,
-        line: first + count,
+    Ok(behind)
+}
+
+// For each node in turn, from node 2, its question. The first line stands in line `first`. What stands behind the last.
+pub(crate) fn ask_branches(text: &[u8], count: usize, first: usize) -> Result<&[u8], Refused>
+    requires { (count ≤ branches_size) × (first ≤ behind_rows_most) }
+    ensures { BranchesAsked text.now count first (left_of result) }
+{
+    let mut rest = text;
+    for done in 0..count {
+        rest = on_line(first + done, ask_branch(rest, done + 2))?;
     }
+    Ok(rest)
 }
 
 // The number that a field of a `C` line says.
@@ -91,38 +87,37 @@ fn number_in(line: &[u8], place: usize) -> usize
     requires { number_form (get_or (fields_of line.now) place []) ≡ true }
     ensures { result ≡ number_of (get_or (fields_of line.now) place []) }
 {
-    number_of(field(line, place))
+    number(field(line, place)).unwrap_or(0)
 }
 
 // The tree that `C` lines say, with which a text begins.
+// Kept: no plainer, text and count as a struct with this fact would be made in two places, each for one method.
 fn tree_said(text: &[u8], count: usize) -> Tree
     requires { (count ≤ branches_size) × BranchesFormed count text.now }
     ensures { ancestors result ≡ filled places 0 (tree_with (map ancestor_in (take count (lines_of text.now)))) }
 {
     let mut ancestors = [0; PLACES];
-    let mut at = 0;
-    let mut done = 0;
-    while done < count {
-        let line = first_part(rest_from(text, at), LINE_FEED);
-        ancestors[done + 2] = number_in(line, ANCESTOR);
-        at = at + line.len() + 1;
-        done += 1;
+    let mut rest = text;
+    for done in 0..count {
+        ancestors[done + 2] = number_in(first_part(rest, LINE_FEED), ANCESTOR);
+        rest = behind_part(rest, LINE_FEED);
     }
     Tree { ancestors }
 }
 
 // Are the `C` lines with which a text begins a branching of n taxa? A `W` file has none.
-pub(crate) fn ask_tree(text: &[u8], kind: Kind, n: usize) -> Asked
+// Kept: no plainer, as a method of `Kind` it would be public in another crate for this crate alone.
+pub(crate) fn ask_tree(text: &[u8], kind: Kind, n: usize) -> Result<(), Refusal>
     requires { (n ≤ most_taxa) × BranchesFormed (branch_count kind n) text.now }
     ensures { result ≡ ask_tree kind n (map ancestor_in (take (branch_count kind n) (lines_of text.now))) }
 {
     match kind {
-        Kind::Wagner => Asked::Passed,
+        Kind::Wagner => Ok(()),
         Kind::Own => {
             if !tree_said(text, record_count(n)).is_branching(n) {
-                return Asked::Refused(Refusal::NotBranching);
+                return Err(Refusal::NotBranching);
             }
-            Asked::Passed
+            Ok(())
         }
     }
 }
@@ -132,9 +127,7 @@ fn write_record(out: &mut [usize], node: usize, ancestor: usize)
     requires { record_size ≤ length out.old }
     ensures { out.new ≡ over 0 (record_numbers node ancestor) out.old }
 {
-    out[0] = node;
-    out[1] = ancestor;
-    out[2] = 0;
+    out[..RECORD].copy_from_slice(&[node, ancestor, 0]);
 }
 
 // Writes the records that `C` lines say, with which a text begins, one after another.
@@ -142,17 +135,15 @@ pub(crate) fn write_branches(branches: &mut [usize], text: &[u8], count: usize)
     requires { (count * record_size ≤ length branches.old) × BranchesFormed count text.now }
     ensures { branches.new ≡ stripes record_size 0 (map record_in (take count (lines_of text.now))) branches.old }
 {
-    let mut at = 0;
-    let mut done = 0;
-    while done < count {
-        let line = first_part(rest_from(text, at), LINE_FEED);
-        let start = done * RECORD;
+    let mut rest = text;
+    for done in 0..count {
+        let line = first_part(rest, LINE_FEED);
+        // Kept: unproved, after `chunks_mut` a proof knows how long the list is, and none of its elements.
         write_record(
-            &mut branches[start..],
+            &mut branches[done * RECORD..],
             number_in(line, NODE),
             number_in(line, ANCESTOR),
         );
-        at = at + line.len() + 1;
-        done += 1;
+        rest = behind_part(rest, LINE_FEED);
     }
 }

@@ -1,15 +1,18 @@
 // The header of a file: line 1, and the `V` line.
 ghost use Rattle.std.specs.Prelude.{◌≡◌, true, ◌+◌};
 ghost use Rattle.file_form.specs.Lines.{lines_of, fields_of};
-ghost use Rattle.file_form.specs.Header.{is_kind, kind_said, most_fields, first_form, order_known, order_in, header_from, header_lines, ask_header};
+ghost use Rattle.file_form.specs.Header.{is_kind, kind_said, most_fields, first_form, header_in, header_lines, ask_first_line, ask_header};
 ghost use Rattle.matrix_file.specs.Report.{read_says};
+ghost use Rattle.matrix_file.specs.Walk.{read_as, first_said, order_asked, with_value};
 
-use crate::answer::{Read, on_line, refused};
-use crate::bytes::{LINE_FEED, TAB, behind_part, field, first_part, same_text, separators};
-use crate::numbers::{number_form, number_of};
-use crate::optional::{lines_taken, optional_there};
+use crate::answer::{Refused, on_line};
+use crate::bytes::{behind_part, field, first_line, same_text, separators};
+use crate::numbers::number;
+use crate::optional::optional_there;
 use crate::weights::{LETTER, ask_weights};
-use file_form::header::{Header, Kind, OrderWord};
+use branching::order::Order;
+use file_form::header::{Header, Kind};
+use file_form::{LINE_FEED, TAB};
 use matrix::questions::within_limits;
 use matrix::refusal::Refusal;
 
@@ -17,27 +20,25 @@ use matrix::refusal::Refusal;
 pub(crate) fn header_lines(header: Header) -> usize
     ensures { result ≡ header_lines header }
 {
-    1 + lines_taken(header.weighed)
+    1 + usize::from(header.weighed)
 }
 
-// Whether a word is one of the two with which line 1 begins.
-fn is_kind(word: &[u8]) -> bool
-    ensures { result ≡ is_kind word.now }
-{
-    same_text(word, b"W") || same_text(word, b"F")
-}
-
-// The kind that such a word says.
-fn kind_said(word: &[u8]) -> Kind
-    ensures { result ≡ kind_said word.now }
+// The kind that a word says, if it is one of the two with which line 1 begins.
+// Kept: unproved, an arm of a `match` on byte strings tells a proof the length of the word, and under no lasting name its bytes.
+fn kind(word: &[u8]) -> Option<Kind>
+    ensures { result ≡ read_as is_kind kind_said word.now }
 {
     if same_text(word, b"F") {
-        return Kind::Own;
+        return Some(Kind::Own);
     }
-    Kind::Wagner
+    if same_text(word, b"W") {
+        return Some(Kind::Wagner);
+    }
+    None
 }
 
 // How many tabs line 1 of a kind has at most.
+// Kept: no plainer, as a method of `Kind` it would be public in another crate for this crate alone.
 fn most_tabs(kind: Kind) -> usize
     ensures { result + 1 ≡ most_fields kind }
 {
@@ -47,93 +48,72 @@ fn most_tabs(kind: Kind) -> usize
     }
 }
 
-// Whether line 1 has three fields, and in a `W` file perhaps a fourth, of which the first is `W` or `F` and the next two are numbers.
-fn first_form(line: &[u8]) -> bool
-    ensures { result ≡ first_form (fields_of line.now) }
+// The kind, n and m that a line 1 of the right form says: it has three fields, and in a `W` file perhaps a fourth.
+fn first_said(line: &[u8]) -> Option<(Kind, usize, usize)>
+    ensures { result ≡ read_as first_form first_said (fields_of line.now) }
 {
+    let kind = kind(field(line, 0))?;
     let tabs = separators(line, TAB);
     if tabs < 2 {
-        return false;
+        return None;
     }
-    let word = field(line, 0);
-    if most_tabs(kind_said(word)) < tabs {
-        return false;
+    if most_tabs(kind) < tabs {
+        return None;
     }
-    if !is_kind(word) {
-        return false;
-    }
-    number_form(field(line, 1)) && number_form(field(line, 2))
+    let n = number(field(line, 1))?;
+    let m = number(field(line, 2))?;
+    Some((kind, n, m))
 }
 
-// Whether a fourth field, if a line 1 of the right form has one, is a word for the order.
-fn order_known(line: &[u8]) -> bool
+// The word for the order that a line 1 of the right form carries in a fourth field, if it has one: is it such a word?
+// Kept: unproved, an arm of a `match` on byte strings tells a proof the length of the word, and under no lasting name its bytes.
+fn order_in(line: &[u8]) -> Result<Option<Order>, Refusal>
     requires { first_form (fields_of line.now) ≡ true }
-    ensures { result ≡ order_known (fields_of line.now) }
+    ensures { result ≡ order_asked (fields_of line.now) }
 {
     if separators(line, TAB) < 3 {
-        return true;
-    }
-    let word = field(line, 3);
-    same_text(word, b"advance") || same_text(word, b"closest")
-}
-
-// The word for the order that line 1 carries: that of its fourth field.
-fn order_in(line: &[u8]) -> OrderWord
-    ensures { result ≡ order_in (fields_of line.now) }
-{
-    if separators(line, TAB) < 3 {
-        return OrderWord::Unsaid;
+        return Ok(None);
     }
     let word = field(line, 3);
     if same_text(word, b"advance") {
-        return OrderWord::Advance;
+        return Ok(Some(Order::Advance));
     }
     if same_text(word, b"closest") {
-        return OrderWord::Closest;
+        return Ok(Some(Order::Closest));
     }
-    OrderWord::Unsaid
+    Err(Refusal::UnknownOrder)
 }
 
-// The header that a line 1 of the right form says, with what stands behind it.
-fn header_from(line: &[u8], behind: &[u8]) -> Header
-    requires { first_form (fields_of line.now) ≡ true }
-    ensures { result ≡ header_from (fields_of line.now) (lines_of behind.now) }
+// The questions put to line 1 of a file: is it ended by a line feed, and has it the right form? Is a fourth field a word for the order?
+// Are n and m within their limits? What it says, and whether a `V` line stands behind it.
+fn ask_first_line(file: &[u8]) -> Result<Header, Refusal>
+    ensures { result ≡ with_value (ask_first_line (lines_of file.now)) (header_in (lines_of file.now)) }
 {
-    let kind = kind_said(field(line, 0));
-    let n = number_of(field(line, 1));
-    let m = number_of(field(line, 2));
-    let order = order_in(line);
-    let weighed = optional_there(behind, LETTER);
-    Header {
-        kind: kind,
-        n: n,
-        m: m,
-        order: order,
-        weighed: weighed,
+    let Some((line, behind)) = first_line(file) else {
+        return Err(Refusal::FirstLine);
+    };
+    let Some((kind, n, m)) = first_said(line) else {
+        return Err(Refusal::FirstLine);
+    };
+    let order = order_in(line)?;
+    if !within_limits(n, m) {
+        return Err(Refusal::BeyondLimits);
     }
+    let weighed = optional_there(behind, LETTER);
+    Ok(Header {
+        kind,
+        n,
+        m,
+        order,
+        weighed,
+    })
 }
 
-// The questions put to the header of a file: is line 1 ended by a line feed, and has it the right form? Is a fourth field a word for the
-// order? Are n and m within their limits? Is a `V` line behind it well formed?
-pub(crate) fn ask_header(file: &[u8]) -> Read
+// The questions put to the header of a file: those on line 1, and whether a `V` line behind it is well formed.
+pub(crate) fn ask_header(file: &[u8]) -> Result<Header, Refused>
     ensures { read_says result ≡ ask_header (lines_of file.now) }
 {
-    let line = first_part(file, LINE_FEED);
-    if line.len() == file.len() {
-        return refused(Refusal::FirstLine, 1);
-    }
-    if !first_form(line) {
-        return refused(Refusal::FirstLine, 1);
-    }
-    let known = order_known(line);
-    let behind = behind_part(file, LINE_FEED);
-    let header = header_from(line, behind);
-    let within = within_limits(header.n, header.m);
-    if !known {
-        return refused(Refusal::UnknownOrder, 1);
-    }
-    if !within {
-        return refused(Refusal::BeyondLimits, 1);
-    }
-    on_line(2, ask_weights(behind, header), header)
+    let header = on_line(1, ask_first_line(file))?;
+    on_line(2, ask_weights(behind_part(file, LINE_FEED), header))?;
+    Ok(header)
 }

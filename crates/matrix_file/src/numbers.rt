@@ -1,92 +1,56 @@
-// Whole numbers in decimal: their form, and the number that a text of this form says.
-ghost use Rattle.std.specs.Prelude.{◌≡◌, true, ◌<◌, pos, neg_ℤ};
-ghost use Rattle.file_form.specs.Decimal.{a_million, number_form, NumberSaid, code_form, code_of};
-
-use crate::bytes::{Alphabet, all_in, rest_from};
+// Whole numbers in decimal: the number and the code that a text says.
+ghost use Rattle.std.specs.Prelude.{◌≡◌, true, ◌<◌, IfSome};
+ghost use Rattle.file_form.specs.Decimal.{a_million, number_form, number_of, NumberSaid, code_form, code_of};
+ghost use Rattle.matrix_file.specs.Walk.{read_as};
 
 // A number has at most six digits.
 const MOST_DIGITS: usize = 6;
 
-// The byte `0`.
-const ZERO_DIGIT: usize = 48;
-
 // Whether a text has the form of the numbers n and m.
-pub(crate) fn number_form(text: &[u8]) -> bool
+fn number_form(text: &[u8]) -> bool
     ensures { result ≡ number_form text.now }
 {
-    if text.len() < 1 {
+    if !(1..=MOST_DIGITS).contains(&text.len()) {
         return false;
     }
-    if MOST_DIGITS < text.len() {
-        return false;
-    }
-    if !all_in(text, Alphabet::Digits) {
+    if !text.iter().all(|byte| byte.is_ascii_digit()) {
         return false;
     }
     text.len() == 1 || text[0] != b'0'
 }
 
-// A byte as a number.
-fn wide(byte: u8) -> usize
-    ensures { result ≡ byte }
-{
-    byte as usize
-}
-
-// A number as a code.
-fn signed(number: usize) -> i32
-    requires { number < a_million }
-    ensures { result ≡ pos number }
-{
-    number as i32
-}
-
-// A number below zero as a code.
-fn negative(number: usize) -> i32
-    requires { number < a_million }
-    ensures { result ≡ neg_ℤ (pos number) }
-{
-    0 - number as i32
-}
-
-// The number that a text of this form says.
-pub(crate) fn number_of(text: &[u8]) -> usize
-    requires { number_form text.now ≡ true }
-    ensures { NumberSaid text.now result }
+// The number that digits say.
+fn number_of(digits: &[u8]) -> usize
+    requires { number_form digits.now ≡ true }
+    ensures { NumberSaid digits.now result }
 {
     let mut number = 0;
-    let mut i = 0;
-    while i < text.len() {
-        number = number * 10 + (wide(text[i]) - ZERO_DIGIT);
-        i += 1;
+    for digit in digits {
+        number = number * 10 + (*digit - b'0') as usize;
     }
     number
 }
 
-// Whether a text has the form of a code.
-pub(crate) fn code_form(text: &[u8]) -> bool
-    ensures { result ≡ code_form text.now }
+// The number that a text says, if it has the form of one.
+pub(crate) fn number(text: &[u8]) -> Option<usize>
+    ensures said { result ≡ read_as number_form number_of text.now }
+    ensures small { IfSome result (λ number. number < a_million) }
 {
-    if text.len() == 0 {
-        return false;
+    if !number_form(text) {
+        return None;
     }
-    if text[0] != b'-' {
-        return number_form(text);
-    }
-    let digits = rest_from(text, 1);
-    if !number_form(digits) {
-        return false;
-    }
-    1 <= number_of(digits)
+    Some(number_of(text))
 }
 
-// The code that a text of this form says.
-pub(crate) fn code_of(text: &[u8]) -> i32
-    requires { code_form text.now ≡ true }
-    ensures { result ≡ code_of text.now }
+// The code that a text says, if it has the form of one: a number, or a minus and a number that is not zero.
+pub(crate) fn code(text: &[u8]) -> Option<i32>
+    ensures { result ≡ read_as code_form code_of text.now }
 {
-    if text[0] != b'-' {
-        return signed(number_of(text));
+    match text.strip_prefix(b"-") {
+        Some(digits) => match number(digits)? {
+            0 => None,
+            size => Some(-(size as i32)),
+        },
+        None => Some(number(text)? as i32),
     }
-    negative(number_of(rest_from(text, 1)))
 }

@@ -5,16 +5,16 @@ ghost use Rattle.file_form.specs.Reading.{job_in, read_answer};
 ghost use Rattle.matrix_file.specs.Report.{with_header, full_size, ReadDone};
 ghost use Rattle.file_form.specs.Written.{lent, job_written};
 
-use crate::NAMES_SIZE;
-use crate::answer::{Read, refused};
+use crate::answer::Refused;
 use crate::branches::{branch_count, write_branches};
-use crate::bytes::{LINE_FEED, behind_lines, behind_part};
+use crate::bytes::{behind_lines, behind_part};
 use crate::header::header_lines;
 use crate::judging::ask_file;
 use crate::weights::write_weights;
 use crate::writing::{write_matrix, write_names};
 use branching::numbers::LENT_NUMBERS;
 use file_form::header::Header;
+use file_form::{LINE_FEED, NAMES_SIZE};
 use matrix::refusal::Refusal;
 use matrix::{COLUMNS, ROWS};
 
@@ -22,19 +22,11 @@ use matrix::{COLUMNS, ROWS};
 fn full_size(matrix: usize, weights: usize, names: usize, branches: usize) -> bool
     ensures { result ≡ full_size matrix weights names branches }
 {
-    if matrix != ROWS * COLUMNS {
-        return false;
-    }
-    if weights != COLUMNS {
-        return false;
-    }
-    if names != NAMES_SIZE {
-        return false;
-    }
-    branches == LENT_NUMBERS
+    (matrix, weights, names, branches) == (ROWS * COLUMNS, COLUMNS, NAMES_SIZE, LENT_NUMBERS)
 }
 
 // Writes what an accepted file says, which has this header, into lists of full size.
+// Kept: no plainer, each of the four lists is written by a call of its own.
 fn write_job(
     file: &[u8],
     header: Header,
@@ -60,25 +52,25 @@ fn write_job(
 
 // Reads a file: an accepted one is written into the matrix, the weights, the names and the branches; a refused one leaves the four as they
 // were.
+// Kept: interface, the call that is handed on to C takes the four lists one by one.
 pub fn read(
     file: &[u8],
     matrix: &mut [i32],
     weights: &mut [u8],
     names: &mut [u8],
     branches: &mut [usize],
-) -> Read
+) -> Result<Header, Refused>
     ensures { ReadDone file.now
         (lent matrix.old weights.old names.old branches.old)
         (lent matrix.new weights.new names.new branches.new) result }
 {
     if !full_size(matrix.len(), weights.len(), names.len(), branches.len()) {
-        return refused(Refusal::ListSize, 0);
+        return Err(Refused {
+            refusal: Refusal::ListSize,
+            line: 0,
+        });
     }
-    match ask_file(file) {
-        Read::Refused { refusal, line } => refused(refusal, line),
-        Read::Accepted(header) => {
-            write_job(file, header, matrix, weights, names, branches);
-            Read::Accepted(header)
-        }
-    }
+    let header = ask_file(file)?;
+    write_job(file, header, matrix, weights, names, branches);
+    Ok(header)
 }

@@ -1,90 +1,75 @@
 // The weights of the characters in a file: the `V` line.
-ghost use Rattle.std.specs.Prelude.{◌≡◌, true, ◌||◌, not, cond, [], ◌≤◌, length, get_or, drop};
+ghost use Rattle.std.specs.Prelude.{◌≡◌, true, ◌||◌, not, ◌≤◌, length, drop};
 ghost use Rattle.lists.specs.Over.{over};
 ghost use Rattle.file_form.specs.Lines.{lines_of, fields_of};
 ghost use Rattle.file_form.specs.Optional.{optional_fields};
 ghost use Rattle.file_form.specs.Weights.{weight_form, weight_in, weights_form, weights_said};
 ghost use Rattle.file_form.specs.Header.{ask_weights};
+ghost use Rattle.matrix_file.specs.Walk.{read_as};
 
-use crate::bytes::{LINE_FEED, TAB, between, field, first_part, separators};
-use crate::optional::ask_optional;
+use crate::bytes::{first_line, first_part, separators};
 use file_form::header::Header;
+use file_form::{LINE_FEED, TAB};
 use matrix::LIGHTEST;
-use matrix::refusal::{Asked, Refusal};
+use matrix::refusal::Refusal;
 
 // The letter of the line.
 pub(crate) const LETTER: u8 = b'V';
 
-// The byte `0`.
-const ZERO_DIGIT: u8 = b'0';
-
-// Whether a field is one digit from `1` to `9`.
-fn weight_form(field: &[u8]) -> bool
-    ensures { result ≡ weight_form field.now }
+// The weight that a field says, if it is one digit from `1` to `9`.
+fn weight(field: &[u8]) -> Option<u8>
+    ensures { result ≡ read_as weight_form weight_in field.now }
 {
-    if field.len() != 1 {
-        return false;
+    let [digit] = field else {
+        return None;
+    };
+    if !(b'1'..=b'9').contains(digit) {
+        return None;
     }
-    between(b'1', b'9', field[0])
-}
-
-// The weight that such a field says.
-fn weight_in(field: &[u8]) -> u8
-    requires { weight_form field.now ≡ true }
-    ensures { result ≡ weight_in field.now }
-{
-    field[0] - ZERO_DIGIT
+    Some(*digit - b'0')
 }
 
 // Whether the fields behind the first one of a line are m weights.
 fn weights_form(line: &[u8], m: usize) -> bool
     ensures { result ≡ weights_form m (drop 1 (fields_of line.now)) }
 {
-    if separators(line, TAB) != m {
-        return false;
-    }
-    let mut j = 0;
-    while j < m {
-        if !weight_form(field(line, j + 1)) {
-            return false;
-        }
-        j += 1;
-    }
-    true
+    separators(line, TAB) == m
+        && line
+            .split(|byte| *byte == TAB)
+            .skip(1)
+            .all(|field| weight(field).is_some())
 }
 
-// The question put to the line behind line 1, with which the text begins.
-pub(crate) fn ask_weights(text: &[u8], header: Header) -> Asked
+// The question put to the line with which a text begins, if it is there: is it ended by a line feed, with m weights behind its letter?
+pub(crate) fn ask_weights(text: &[u8], header: Header) -> Result<(), Refusal>
     ensures { result ≡ ask_weights header (lines_of text.now) }
 {
-    let formed = weights_form(first_part(text, LINE_FEED), header.m);
-    ask_optional(text, header.weighed, formed, Refusal::WeightForm)
-}
-
-// The weight of the character whose field stands at a place of the line: 1 if there is no such line.
-fn weight_said(line: &[u8], weighed: bool, place: usize) -> u8
-    requires { (not weighed || weight_form (get_or (fields_of line.now) place [])) ≡ true }
-    ensures { result ≡ cond weighed (weight_in (get_or (fields_of line.now) place [])) 1 }
-{
-    if !weighed {
-        return LIGHTEST;
+    if !header.weighed {
+        return Ok(());
     }
-    weight_in(field(line, place))
+    let Some((line, _)) = first_line(text) else {
+        return Err(Refusal::WeightForm);
+    };
+    if !weights_form(line, header.m) {
+        return Err(Refusal::WeightForm);
+    }
+    Ok(())
 }
 
-// Writes the weights of the m characters over the front of a list.
+// Writes the weights of the m characters over the front of a list: those of the line if it is there, else 1 for each.
 pub(crate) fn write_weights(weights: &mut [u8], text: &[u8], header: Header)
     requires weights_formed { (not header.weighed || weights_form header.m (optional_fields (lines_of text.now))) ≡ true }
     requires room { header.m ≤ length weights.old }
     ensures { weights.new
         ≡ over 0 (weights_said header.weighed header.m (optional_fields (lines_of text.now))) weights.old }
 {
+    if !header.weighed {
+        weights[..header.m].fill(LIGHTEST);
+        return;
+    }
     let line = first_part(text, LINE_FEED);
-    let m = header.m;
-    let weighed = header.weighed;
-    let mut done = 0;
-    while done < m {
-        weights[done] = weight_said(line, weighed, done + 1);
-        done += 1;
+    // Kept: unproved, after `iter_mut` a proof knows how long the list is, and none of its elements.
+    for (j, field) in line.split(|byte| *byte == TAB).skip(1).enumerate() {
+        weights[j] = weight(field).unwrap_or(LIGHTEST);
     }
 }

@@ -1,8 +1,8 @@
 // Writing what an accepted file says into the lent lists.
-ghost use Rattle.std.specs.Prelude.{◌≡◌, true, map, ◌*◌, ◌≤◌, length, get_or, take};
+ghost use Rattle.std.specs.Prelude.{◌≡◌, true, map, ◌*◌, ◌≤◌, length, take, drop};
 ghost use Rattle.lists.specs.Over.{over, stripes};
 ghost use Rattle.lists.specs.Tests.{every};
-ghost use Rattle.file_form.specs.Decimal.{code_form, code_of};
+ghost use Rattle.file_form.specs.Decimal.{code_form};
 ghost use Rattle.matrix.specs.Shape.{columns};
 ghost use Rattle.file_form.specs.Job.{name_size};
 ghost use Rattle.file_form.specs.Lines.{lines_of, fields_of};
@@ -11,35 +11,21 @@ ghost use Rattle.file_form.specs.Formed.{RowsFormed};
 ghost use Rattle.matrix_file.specs.Walk.{padded_in};
 ghost use Rattle.file_form.specs.Written.{padded};
 
-use crate::NAME_SIZE;
-use crate::bytes::{LINE_FEED, TAB, behind_part, first_part, rest_from};
-use crate::numbers::code_of;
+use crate::bytes::{behind_part, first_part};
+use crate::numbers::code;
+use file_form::{LINE_FEED, NAME_SIZE, TAB};
 use matrix::COLUMNS;
 
-// Writes the codes of a row over the front of a list.
-fn write_codes(out: &mut [i32], text: &[u8])
-    requires codes_formed { every code_form (fields_of text.now) ≡ true }
-    requires room { length (fields_of text.now) ≤ length out.old }
-    ensures { out.new ≡ over 0 (map code_of (fields_of text.now)) out.old }
+// Writes the codes of a row's line, behind its name, over the front of a list.
+fn write_codes(out: &mut [i32], line: &[u8])
+    requires codes_formed { every code_form (drop 1 (fields_of line.now)) ≡ true }
+    requires room { length (drop 1 (fields_of line.now)) ≤ length out.old }
+    ensures { out.new ≡ over 0 (codes_in line.now) out.old }
 {
-    let mut j = 0;
-    let mut at = 0;
-    while at <= text.len() {
-        let field = first_part(rest_from(text, at), TAB);
-        out[j] = code_of(field);
-        at = at + field.len() + 1;
-        j += 1;
+    // Kept: unproved, after `iter_mut` a proof knows how long the list is, and none of its elements.
+    for (j, field) in line.split(|byte| *byte == TAB).skip(1).enumerate() {
+        out[j] = code(field).unwrap_or(0);
     }
-}
-
-// The byte at a place of a text, or zero behind its end.
-fn byte_or_zero(text: &[u8], i: usize) -> u8
-    ensures { result ≡ get_or text.now i 0 }
-{
-    if i < text.len() {
-        return text[i];
-    }
-    0
 }
 
 // Writes a name and zeros behind it over the first 16 bytes of a list.
@@ -48,11 +34,8 @@ fn write_name(out: &mut [u8], name: &[u8])
     requires room { name_size ≤ length out.old }
     ensures { out.new ≡ over 0 (padded name.now) out.old }
 {
-    let mut i = 0;
-    while i < NAME_SIZE {
-        out[i] = byte_or_zero(name, i);
-        i += 1;
-    }
+    out[..name.len()].copy_from_slice(name);
+    out[name.len()..NAME_SIZE].fill(0);
 }
 
 // Writes the codes of n rows, each over the front of its row of the matrix.
@@ -60,14 +43,11 @@ pub(crate) fn write_matrix(matrix: &mut [i32], rows: &[u8], n: usize)
     requires { (n * columns ≤ length matrix.old) × RowsFormed n rows.now }
     ensures { matrix.new ≡ stripes columns 0 (map codes_in (take n (lines_of rows.now))) matrix.old }
 {
-    let mut at = 0;
-    let mut done = 0;
-    while done < n {
-        let line = first_part(rest_from(rows, at), LINE_FEED);
-        let start = done * COLUMNS;
-        write_codes(&mut matrix[start..], behind_part(line, TAB));
-        at = at + line.len() + 1;
-        done += 1;
+    let mut rest = rows;
+    for row in 0..n {
+        // Kept: unproved, after `chunks_mut` a proof knows how long the list is, and none of its elements.
+        write_codes(&mut matrix[row * COLUMNS..], first_part(rest, LINE_FEED));
+        rest = behind_part(rest, LINE_FEED);
     }
 }
 
@@ -76,13 +56,11 @@ pub(crate) fn write_names(names: &mut [u8], rows: &[u8], n: usize)
     requires { (n * name_size ≤ length names.old) × RowsFormed n rows.now }
     ensures { names.new ≡ stripes name_size 0 (map padded_in (take n (lines_of rows.now))) names.old }
 {
-    let mut at = 0;
-    let mut done = 0;
-    while done < n {
-        let line = first_part(rest_from(rows, at), LINE_FEED);
-        let start = done * NAME_SIZE;
-        write_name(&mut names[start..], first_part(line, TAB));
-        at = at + line.len() + 1;
-        done += 1;
+    let mut rest = rows;
+    for row in 0..n {
+        let name = first_part(first_part(rest, LINE_FEED), TAB);
+        // Kept: unproved, after `chunks_mut` a proof knows how long the list is, and none of its elements.
+        write_name(&mut names[row * NAME_SIZE..], name);
+        rest = behind_part(rest, LINE_FEED);
     }
 }

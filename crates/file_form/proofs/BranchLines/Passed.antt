@@ -9,7 +9,7 @@ use lib.ListN.{length, get_or, take, drop}
 use Rattle.lists.specs.Numbers.{numbers}
 use Rattle.matrix.specs.Outcomes.{ask, Outcome, value}
 use Rattle.matrix.specs.declared.refusal.Refusal.TheVariants.{BranchForm}
-use Rattle.matrix.specs.declared.refusal.Asked.TheVariants.{Passed}
+use Rattle.std.specs.Prelude.{Ok}
 use Rattle.matrix.proofs.Passing.{ask_passed}
 use Rattle.file_form.specs.Bytes.{tab, joined_by}
 use Rattle.file_form.specs.Decimal.{digits_of}
@@ -56,8 +56,8 @@ branches_read_lem line v zero lines follow a e =
 branches_read_lem line v (suc left) [] follow a e = absurd (not-refused _ line a e)
 branches_read_lem line v (suc left) (behind ∷ []) follow a e = absurd (not-refused _ line a e)
 branches_read_lem line v (suc left) (text ∷ next ∷ lines) follow a e =
-    let passed = line_passed line (ask (branch_form v (fields_of text)) BranchForm Passed) _ a e in
-    let formed = (ask_passed (branch_form v (fields_of text)) BranchForm Passed passed.0).0 in
+    let passed = line_passed line (ask (branch_form v (fields_of text)) BranchForm (Ok tt)) _ a e in
+    let formed = (ask_passed (branch_form v (fields_of text)) BranchForm (Ok tt) passed.0).0 in
     let others = branches_read_lem (suc line) (suc v) left (next ∷ lines) follow a passed.1 in
     let number : line + suc left ≡ suc line + left = omega arith in (
       record {

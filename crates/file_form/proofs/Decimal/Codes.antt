@@ -2,12 +2,11 @@
 use mathlib.Core.Path.{◌≡◌, refl, sym, ap, ◌∙◌}
 use mathlib.Core.List.{List, [], ◌∷◌}
 use mathlib.Core.Bool.{Bool, true, false, ◌&&◌, false≢true}
-use Prim.Native.Nat.{ℕ, zero, suc, ◌≤◌, ◌<◌}
+use Prim.Native.Nat.{ℕ, zero, suc, ◌≤◌}
 use native.Mathlib.Omega.{arith}
 use lib.Dec.{leb, eqb}
 use lib.IntN.{ℤ, pos, negsuc, neg_ℤ}
-use lib.ListN.{length, get_or, drop}
-use borrow.Author.Tests.{le-leb, leb-true, ne_eqb, eq-eqb, eqb-true}
+use borrow.Author.Tests.{le-leb, leb-true, ne_eqb, eqb-true}
 use Rattle.matrix.specs.Shape.{in_range}
 use Rattle.lists.specs.Tests.{every}
 use Rattle.file_form.specs.Bytes.{minus, is_digit}
@@ -97,32 +96,3 @@ decimal_of_code (byte ∷ bytes) e = by (eqb byte minus) refl
     by false other =
         let form : number_form (byte ∷ bytes) ≡ true = rw other at e in
         ap decimal (plain_code byte bytes other) ∙ decimal-plain (number_of (byte ∷ bytes)) ∙ digits_of_number (byte ∷ bytes) form
-
--- a text that begins with another byte than a minus: its form and its code are those of a number
-pub code_form-plain : (text : List ℕ) → 0 < length text → (get_or text 0 0 ≡ minus → ⊥) → code_form text ≡ number_form text
-code_form-plain [] h other = absurd (omega arith)
-code_form-plain (byte ∷ bytes) h other = plain_form byte bytes (ne_eqb byte minus other)
-
--- and its code is the number
-pub code-plain : (text : List ℕ) → 0 < length text → (get_or text 0 0 ≡ minus → ⊥) → code_of text ≡ pos (number_of text)
-code-plain [] h other = absurd (omega arith)
-code-plain (byte ∷ bytes) h other = plain_code byte bytes (ne_eqb byte minus other)
-
--- a text that begins with a minus: a number stands behind it, and it is not `0`
-pub code_form-minus : (text : List ℕ) → 0 < length text → get_or text 0 0 ≡ minus
-    → code_form text ≡ number_form (drop 1 text) && leb 1 (number_of (drop 1 text))
-unfolding code_form
-code_form-minus [] h same = absurd (omega arith)
-code_form-minus (byte ∷ bytes) h same = rw (eq-eqb byte minus same)
-
--- its code is the number below zero
-pub code-minus : (text : List ℕ) → 0 < length text → get_or text 0 0 ≡ minus → code_of text ≡ neg_ℤ (pos (number_of (drop 1 text)))
-unfolding code_of
-code-minus [] h same = absurd (omega arith)
-code-minus (byte ∷ bytes) h same = rw (eq-eqb byte minus same)
-
--- a text of a code's form is not empty
-pub code_form-some : (text : List ℕ) → code_form text ≡ true → 0 < length text
-unfolding code_form
-code_form-some [] e = absurd (false≢true e)
-code_form-some (byte ∷ bytes) e = omega arith

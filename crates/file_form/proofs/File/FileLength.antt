@@ -16,8 +16,9 @@ use Rattle.matrix.proofs.Passing.{one_to-true}
 use Rattle.lists.specs.Tests.{every}
 use Rattle.file_form.specs.declared.header.Kind.{Kind}
 use Rattle.file_form.specs.declared.header.Kind.TheVariants.{Wagner, Own}
-use Rattle.file_form.specs.declared.header.OrderWord.{OrderWord}
-use Rattle.file_form.specs.declared.header.OrderWord.TheVariants.{Unsaid, Advance, Closest}
+use Rattle.std.specs.Prelude.{Option, None, Some}
+use Rattle.branching.specs.declared.order.Order.{Order}
+use Rattle.branching.specs.declared.order.Order.TheVariants.{Advance, Closest}
 use Rattle.file_form.specs.Bytes.{tab, is_letter, joined_by}
 use Rattle.file_form.specs.Decimal.{digits_of, decimal}
 use Rattle.file_form.specs.Optional.{optional_line}
@@ -83,12 +84,12 @@ rows-length m earlier (name ∷ names) (codes ∷ rows) few within =
     rw length-append (omega arith)
 
 -- a word and two numbers have at most 9 bytes with their tabs, and a word for the order at most 8 more with its own
-first-size : (word : List ℕ) (n m : ℕ) (order : OrderWord) → length word ≡ 1 → length (digits_of n) ≤ 3 → length (digits_of m) ≤ 3
+first-size : (word : List ℕ) (n m : ℕ) (order : Option Order) → length word ≡ 1 → length (digits_of n) ≤ 3 → length (digits_of m) ≤ 3
     → length (joined_by tab (word ∷ digits_of n ∷ digits_of m ∷ order_fields order)) ≤ 17
 unfolding joined_by
-first-size word n m Unsaid one taxa characters = simp length-append (omega arith)
-first-size word n m Advance one taxa characters = simp length-append (omega arith)
-first-size word n m Closest one taxa characters = simp length-append (omega arith)
+first-size word n m None one taxa characters = simp length-append (omega arith)
+first-size word n m (Some Advance) one taxa characters = simp length-append (omega arith)
+first-size word n m (Some Closest) one taxa characters = simp length-append (omega arith)
 
 -- the word of a kind is one letter
 kind_letter : (kind : Kind) → length (kind_word kind) ≡ 1

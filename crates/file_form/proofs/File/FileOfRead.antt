@@ -12,7 +12,7 @@ use Rattle.lists.specs.Numbers.{numbers}
 use Rattle.matrix.specs.Outcomes.{value, on_line}
 use Rattle.matrix.specs.Questions.{within_limits}
 use Rattle.matrix.specs.declared.refusal.Refusal.TheVariants.{FileTooLong, FileGoesOn, NotBranching}
-use Rattle.matrix.specs.declared.refusal.Asked.TheVariants.{Passed}
+use Rattle.std.specs.Prelude.{Ok}
 use Rattle.matrix.proofs.Passing.{ask_passed}
 use Rattle.file_form.specs.declared.header.Header.{Header}
 use Rattle.file_form.specs.Bytes.{line_feed, joined_by}
@@ -68,13 +68,13 @@ behind_passed header lines job limits e =
     read.1 in
     let end = line_passed (row_line header 1 + header.n + count) _ (on_line 0 (ask_tree header.kind header.n above) (value said)) job
     branches.1 in
-    let none = ask_passed (nothing_more (drop count rest)) FileGoesOn Passed end.0 in
+    let none = ask_passed (nothing_more (drop count rest)) FileGoesOn (Ok tt) end.0 in
     let tree = line_passed 0 (ask_tree header.kind header.n above) (value said) job end.1 in
     record {
       rows = read.0;
       formed = rows-formed header [] (row_line header 1) header.n behind (ask_after said) job limits e;
       branches = branches.0;
-      branching_said = (ask_passed (branched header.kind header.n above) NotBranching Passed tree.0).0;
+      branching_said = (ask_passed (branched header.kind header.n above) NotBranching (Ok tt) tree.0).0;
       all =
           sym (take-append-drop header.n behind)
           ∙ ap (λ others. take header.n behind ++ others)
@@ -88,7 +88,7 @@ pub record FilePassed (file : List ℕ) (job : Job) : Type 0 where
   pub form : first_line_form (lines_of file) ≡ true
   pub order : order_known (first_fields (lines_of file)) ≡ true
   pub limits : within_limits (header_in (lines_of file)).n (header_in (lines_of file)).m ≡ true
-  pub weights : ask_weights (header_in (lines_of file)) (drop 1 (lines_of file)) ≡ Passed
+  pub weights : ask_weights (header_in (lines_of file)) (drop 1 (lines_of file)) ≡ Ok tt
   pub behind : BehindPassed (header_in (lines_of file)) (lines_of file) job
 
 -- a file that passes tells so

@@ -1,14 +1,14 @@
 -- The form of line 1, test by test, and what it tells.
 use mathlib.Core.Path.{◌≡◌, refl, sym, ap, ◌∙◌}
-use mathlib.Core.Bool.{Bool, true, false, not, ◌&&◌, cond, false≢true}
+use mathlib.Core.Bool.{Bool, true, false, ◌&&◌, cond, false≢true}
 use mathlib.Core.List.{List, []}
 use Prim.Native.Nat.{ℕ, ◌+◌, ◌≤◌, ◌<◌}
 use native.Mathlib.Omega.{arith}
-use borrow.Author.Tests.{le-leb, lt-leb, leb-true, not-true, not-false}
+use borrow.Author.Tests.{le-leb, lt-leb, leb-true}
 use lib.Dec.{leb}
 use lib.ListN.{length, get_or}
 use Rattle.lists.specs.Tests.{same_numbers as same_text}
-use Rattle.lists.proofs.Both.{and_left, and_right, or_cases}
+use Rattle.lists.proofs.Both.{and_left, and_right, and_both, or_cases}
 use Rattle.lists.proofs.Every.{same_numbers_iff}
 use Rattle.file_form.specs.Bytes.{tab, word_w, word_f, parts_at}
 use Rattle.file_form.specs.Decimal.{number_form}
@@ -25,59 +25,61 @@ module _ (line : List ℕ) (count : ℕ) (e : count + 1 ≡ length (parts_at tab
   unfolding fields_of
   fields_count = e
 
-  -- fewer than two tabs
-  pub too_few : count < 2 → false ≡ first_form (fields_of line)
+-- what is asked together with "no" is "no"
+and-false : (b : Bool) → (b && false) ≡ false
+and-false true = refl
+and-false false = refl
+
+-- the fields of line 1, test by test
+module _ (fields : List (List ℕ)) where
+  -- whether their number is right
+  abbrev counted : Bool
+  counted = leb 3 (length fields) && leb (length fields) (most_fields (kind_said (get_or fields 0 [])))
+
+  -- whether the three in front are
+  abbrev fronted : Bool
+  fronted = is_kind (get_or fields 0 []) && (number_form (get_or fields 1 []) && number_form (get_or fields 2 []))
+
+  -- fewer than three
+  pub too_few : length fields < 3 → first_form fields ≡ false
   unfolding first_form
-  too_few h = rw (lt-leb 3 (length (fields_of line)) (omega (arith, fields_count)))
+  too_few h = rw (lt-leb 3 (length fields) h)
 
-  -- with its first field, and the most tabs of the kind that this says
-  module _ (low : 2 ≤ count) (word : List ℕ) (w : word ≡ get_or (fields_of line) 0 []) (kind : Kind) (k : kind ≡ kind_said word) (most : ℕ)
-      (q : most + 1 ≡ most_fields kind) where
-    -- so many fields it may have
-    most_fields_lem : most_fields (kind_said (get_or (fields_of line) 0 [])) ≡ most + 1
-    most_fields_lem = ap (λ field. most_fields (kind_said field)) (sym w) ∙ ap most_fields (sym k) ∙ sym q
+  -- more than the kind has
+  pub too_many : most_fields (kind_said (get_or fields 0 [])) < length fields → first_form fields ≡ false
+  unfolding first_form
+  too_many h =
+      ap (λ b. (leb 3 (length fields) && b) && fronted) (lt-leb (length fields) _ h) ∙ ap (λ b. b && fronted) (and-false (leb 3 (length fields)))
 
-    -- it has more
-    pub too_many : most < count → false ≡ first_form (fields_of line)
-    unfolding first_form
-    too_many h =
-        rw (
-          le-leb 3 (length (fields_of line)) (omega (arith, fields_count)),
-          most_fields_lem,
-          lt-leb (length (fields_of line)) (most + 1) (omega (arith, fields_count)),
-        )
+  -- the first is the word of no kind
+  pub no_kind : is_kind (get_or fields 0 []) ≡ false → first_form fields ≡ false
+  unfolding first_form
+  no_kind e =
+      ap (λ b. counted && (b && (number_form (get_or fields 1 []) && number_form (get_or fields 2 [])))) e ∙ and-false counted
 
-    -- it has not: the first three fields decide
-    module _ (high : count ≤ most) (same : Bool) (s : same ≡ is_kind word) where
-      -- the word and the two numbers
-      fields : first_form (fields_of line) ≡ same && (number_form (get_or (fields_of line) 1 []) && number_form (get_or (fields_of line) 2 []))
-      unfolding first_form
-      fields =
-          rw (
-            le-leb 3 (length (fields_of line)) (omega (arith, fields_count)),
-            most_fields_lem,
-            le-leb (length (fields_of line)) (most + 1) (omega (arith, fields_count)),
-            sym w,
-            sym s,
-          )
+  -- the second is no number
+  pub no_taxa : number_form (get_or fields 1 []) ≡ false → first_form fields ≡ false
+  unfolding first_form
+  no_taxa e =
+      ap (λ b. counted && (is_kind (get_or fields 0 []) && (b && number_form (get_or fields 2 [])))) e
+      ∙ ap (λ b. counted && b) (and-false (is_kind (get_or fields 0 [])))
+      ∙ and-false counted
 
-      -- the word is that of no kind
-      pub bad_word : not same ≡ true → false ≡ first_form (fields_of line)
-      bad_word t = sym (fields ∙ rw (not-true same t))
+  -- the third is no number
+  pub no_characters : number_form (get_or fields 2 []) ≡ false → first_form fields ≡ false
+  unfolding first_form
+  no_characters e =
+      ap (λ b. counted && (is_kind (get_or fields 0 []) && (number_form (get_or fields 1 []) && b))) e
+      ∙ ap (λ b. counted && (is_kind (get_or fields 0 []) && b)) (and-false (number_form (get_or fields 1 [])))
+      ∙ ap (λ b. counted && b) (and-false (is_kind (get_or fields 0 [])))
+      ∙ and-false counted
 
-      module _ (t : not same ≡ false) (n : List ℕ) (good : Bool) (f : n ≡ get_or (fields_of line) 1 []) (g : good ≡ number_form n) where
-        -- the word is one of a kind: the two numbers decide
-        numbers_decide : first_form (fields_of line) ≡ good && number_form (get_or (fields_of line) 2 [])
-        numbers_decide = fields ∙ rw (not-false same t, sym f, sym g)
-
-        -- n has not the form of a number
-        pub bad_number : good ≡ false → good ≡ first_form (fields_of line)
-        bad_number u = u ∙ sym (numbers_decide ∙ rw u)
-
-        -- n has it
-        pub second_number : good ≡ true → (m : List ℕ) (fine : Bool) → m ≡ get_or (fields_of line) 2 [] → fine ≡ number_form m
-            → fine ≡ first_form (fields_of line)
-        second_number u m fine k q = q ∙ ap number_form k ∙ sym (numbers_decide ∙ rw u)
+  -- all are right
+  pub all_right : 3 ≤ length fields → length fields ≤ most_fields (kind_said (get_or fields 0 [])) → is_kind (get_or fields 0 []) ≡ true
+      → number_form (get_or fields 1 []) ≡ true → number_form (get_or fields 2 []) ≡ true → first_form fields ≡ true
+  unfolding first_form
+  all_right low high word taxa characters =
+      and_both (and_both (le-leb 3 (length fields) low) (le-leb (length fields) _ high)) (and_both word (and_both taxa characters))
 
 -- what fields of the right form tell: there are three or, in a `W` file, four, the word of a kind and two numbers in front
 pub record FirstFormed (fields : List (List ℕ)) : Type 0 where

@@ -12,7 +12,7 @@ use Rattle.lists.proofs.Both.{and_both}
 use Rattle.matrix.specs.Outcomes.{value}
 use Rattle.matrix.specs.Questions.{within_limits}
 use Rattle.matrix.specs.declared.refusal.Refusal.TheVariants.{FirstLine, UnknownOrder, BeyondLimits, WeightForm}
-use Rattle.matrix.specs.declared.refusal.Asked.TheVariants.{Passed}
+use Rattle.std.specs.Prelude.{Ok}
 use Rattle.matrix.proofs.Passing.{ask_passed}
 use Rattle.file_form.specs.declared.header.Header.{Header}
 use Rattle.file_form.specs.Bytes.{tab, line_feed, joined_by}
@@ -20,8 +20,8 @@ use Rattle.file_form.specs.Decimal.{digits_of}
 use Rattle.file_form.specs.Job.{Job, kind_word, order_fields, first_text}
 use Rattle.file_form.specs.declared.header.Kind.{Kind}
 use Rattle.file_form.specs.declared.header.Kind.TheVariants.{Wagner, Own}
-use Rattle.file_form.specs.declared.header.OrderWord.{OrderWord}
-use Rattle.file_form.specs.declared.header.OrderWord.TheVariants.{Unsaid}
+use Rattle.std.specs.Prelude.{Option, None}
+use Rattle.branching.specs.declared.order.Order.{Order}
 use Rattle.file_form.specs.Lines.{fields_of}
 use Rattle.file_form.specs.Optional.{optional_there, optional_fields, lines_taken, optional_line}
 use Rattle.file_form.specs.Weights.{letter_v, weights_form}
@@ -94,7 +94,7 @@ module _ (lines : List (List ℕ)) (form : first_line_form lines ≡ true) where
       by (line ∷ others) e = refl
 
   -- in an `F` file it has no word for the order
-  pub own_unsaid : (header_in lines).kind ≡ Own → (header_in lines).order ≡ Unsaid
+  pub own_unsaid : (header_in lines).kind ≡ Own → (header_in lines).order ≡ None
   unfolding header_in order_in
   own_unsaid own =
       let three : length (first_fields lines) ≤ 3 = rw own at (form_tells (first_fields lines) first-formed).fits in
@@ -113,7 +113,7 @@ pub record HeaderPassed (lines : List (List ℕ)) (header : Header) : Type 0 whe
   pub form : first_line_form lines ≡ true
   pub order : order_known (first_fields lines) ≡ true
   pub limits : within_limits (header_in lines).n (header_in lines).m ≡ true
-  pub weights : ask_weights (header_in lines) (drop 1 lines) ≡ Passed
+  pub weights : ask_weights (header_in lines) (drop 1 lines) ≡ Ok tt
   pub is : header_in lines ≡ header
 
 -- a header that passes tells so
@@ -124,7 +124,7 @@ header_passed lines header e =
     let second = line_passed 2 (ask_weights (header_in lines) (drop 1 lines)) (value (header_in lines)) header first.1 in
     let form = ask_passed (first_line_form lines) FirstLine _ first.0 in
     let order = ask_passed (order_known (first_fields lines)) UnknownOrder _ form.1 in
-    let limits = ask_passed (within_limits (header_in lines).n (header_in lines).m) BeyondLimits Passed order.1 in
+    let limits = ask_passed (within_limits (header_in lines).n (header_in lines).m) BeyondLimits (Ok tt) order.1 in
     record { form = form.0; order = order.0; limits = limits.0; weights = second.0; is = cc second.1 }
 
 -- the lines behind line 1, and of these those behind some more
@@ -134,7 +134,7 @@ drop-behind (suc k) [] = refl
 drop-behind k (line ∷ lines) = refl
 
 -- a file's lines whose `V` line passes, if it is there
-module _ (lines : List (List ℕ)) (several : 1 < length lines) (asked : ask_weights (header_in lines) (drop 1 lines) ≡ Passed) where
+module _ (lines : List (List ℕ)) (several : 1 < length lines) (asked : ask_weights (header_in lines) (drop 1 lines) ≡ Ok tt) where
   -- the fields of a `V` line are m weights
   pub weights-formed : (header_in lines).weighed ≡ true → weights_form (header_in lines).m (optional_fields (drop 1 lines)) ≡ true
   unfolding ask_weights
@@ -180,7 +180,7 @@ kind-plain Wagner = refl
 kind-plain Own = refl
 
 -- a line 1 whose word for the order is left out in an `F` file has not too many fields
-few_fields : (kind : Kind) (order : OrderWord) → (kind ≡ Own → order ≡ Unsaid) → 3 + length (order_fields order) ≤ most_fields kind
+few_fields : (kind : Kind) (order : Option Order) → (kind ≡ Own → order ≡ None) → 3 + length (order_fields order) ≤ most_fields kind
 few_fields Wagner order unsaid = omega (arith, order_single order)
 few_fields Own order unsaid = rw (unsaid refl) (omega arith)
 
@@ -207,7 +207,7 @@ module _ (job : Job) where
 
   -- behind it stand lines, and among them the `V` line if the job has one: it says the header of the job, and passes
   module _ (rest : List (List ℕ)) (some : 1 ≤ length rest) (within : within_limits job.n job.m ≡ true)
-      (unsaid : job.kind ≡ Own → job.order ≡ Unsaid) (found : optional_there letter_v rest ≡ job.weighed) (asked : ask_weights (header_of job) rest ≡ Passed) where
+      (unsaid : job.kind ≡ Own → job.order ≡ None) (found : optional_there letter_v rest ≡ job.weighed) (asked : ask_weights (header_of job) rest ≡ Ok tt) where
     -- its header is read back
     header_back : header_in (first_text job ∷ rest) ≡ header_of job
     unfolding header_in order_in

@@ -18,8 +18,8 @@ use Rattle.matrix.specs.declared.refusal.Refusal.TheVariants.{FileTooLong, FileE
 use Rattle.matrix.specs.declared.refusal.Refusal.TheVariants.{LineMissing, FieldCount, CodeForm, CodeRange, FileGoesOn}
 use Rattle.matrix.specs.declared.refusal.Refusal.TheVariants.{UnknownOrder, WeightForm, BranchForm, NotBranching}
 use Rattle.matrix.specs.declared.refusal.Refusal.{Refusal}
-use Rattle.matrix.specs.declared.refusal.Asked.{Asked}
-use Rattle.matrix.specs.declared.refusal.Asked.TheVariants.{Passed, Refused}
+use Rattle.matrix.specs.Outcomes.{Asked}
+use Rattle.std.specs.Prelude.{Ok, Err}
 use Rattle.file_form.specs.declared.header.Header.{Header}
 use Rattle.file_form.specs.Decimal.{code_form, code_of}
 use Rattle.file_form.specs.Job.{Job, name_form, differs_from_all}
@@ -45,8 +45,8 @@ OfFile number = among number file_numbers ≡ true
 
 -- questions that refuse, if they do, by such a number
 data Numbered : Asked → Type 0 where
-  passed : Numbered Passed
-  numbered : {refusal : Refusal} → OfFile (refusal_number refusal) → Numbered (Refused refusal)
+  passed : Numbered (Ok tt)
+  numbered : {refusal : Refusal} → OfFile (refusal_number refusal) → Numbered (Err refusal)
 
 -- and so for an outcome
 data FileNumbered {A : Type 0} : Outcome A → Type 0 where

@@ -11,7 +11,7 @@ use Rattle.lists.specs.Tests.{every, same_numbers as same_text}
 use Rattle.lists.proofs.Both.{and_left, and_right}
 use Rattle.lists.proofs.Every.{every-cons, same_numbers_iff}
 use Rattle.matrix.specs.declared.refusal.Refusal.{Refusal}
-use Rattle.matrix.specs.declared.refusal.Asked.TheVariants.{Passed}
+use Rattle.std.specs.Prelude.{Ok}
 use Rattle.matrix.proofs.Passing.{ask_passed}
 use Rattle.file_form.specs.Bytes.{tab, line_feed, joined_by}
 use Rattle.file_form.specs.Lines.{fields_of}
@@ -20,16 +20,16 @@ use Rattle.file_form.proofs.Text.Parts.{lacks, parts_some, joined_parts}
 use Rattle.file_form.proofs.Text.Plain.{plain, line_fields, line_lacks}
 
 -- a line that is there and whose question passes is ended by a line feed and has the right fields
-pub optional_passed : (there formed : Bool) (refusal : Refusal) (lines : List (List ℕ)) → ask_optional there formed refusal lines ≡ Passed
+pub optional_passed : (there formed : Bool) (refusal : Refusal) (lines : List (List ℕ)) → ask_optional there formed refusal lines ≡ Ok tt
     → there ≡ true → (2 ≤ length lines) × (formed ≡ true)
 unfolding ask_optional
 optional_passed false formed refusal lines e there = absurd (false≢true there)
 optional_passed true formed refusal lines e there =
-    let both = (ask_passed (leb 2 (length lines) && formed) refusal Passed e).0 in
+    let both = (ask_passed (leb 2 (length lines) && formed) refusal (Ok tt) e).0 in
     (leb-true 2 (length lines) (and_left (leb 2 (length lines)) formed both), and_right (leb 2 (length lines)) formed both)
 
 -- so many lines are left behind it
-pub optional_left : (there formed : Bool) (refusal : Refusal) (lines : List (List ℕ)) → ask_optional there formed refusal lines ≡ Passed
+pub optional_left : (there formed : Bool) (refusal : Refusal) (lines : List (List ℕ)) → ask_optional there formed refusal lines ≡ Ok tt
     → 1 ≤ length lines → suc (lines_taken there) ≤ length lines
 optional_left true formed refusal lines e some = (optional_passed true formed refusal lines e refl).0
 optional_left false formed refusal lines e some = some
@@ -46,7 +46,7 @@ letter_line letter line e =
 
 -- lines whose optional line passes are that line, if it is there, and those behind it
 pub optional_split : (letter : ℕ) (there formed : Bool) (refusal : Refusal) (lines : List (List ℕ)) → there ≡ optional_there letter lines
-    → ask_optional there formed refusal lines ≡ Passed
+    → ask_optional there formed refusal lines ≡ Ok tt
     → lines ≡ optional_line there letter (optional_fields lines) ++ drop (lines_taken there) lines
 unfolding optional_line optional_there optional_fields
 optional_split letter true formed refusal [] found e = absurd (omega (arith, (optional_passed true formed refusal [] e refl).0))
@@ -76,7 +76,7 @@ optional_behind false letter fields rest = refl
 
 -- its question passes, with the right fields and a line behind it
 pub optional_passes : (there formed : Bool) (refusal : Refusal) (letter : ℕ) (fields rest : List (List ℕ)) → 1 ≤ length rest
-    → (there ≡ true → formed ≡ true) → ask_optional there formed refusal (optional_line there letter fields ++ rest) ≡ Passed
+    → (there ≡ true → formed ≡ true) → ask_optional there formed refusal (optional_line there letter fields ++ rest) ≡ Ok tt
 unfolding ask_optional optional_line
 optional_passes true formed refusal letter fields rest some right = rw (right refl, le-leb 2 (suc (length rest)) (omega arith))
 optional_passes false formed refusal letter fields rest some right = refl

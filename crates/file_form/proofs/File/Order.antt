@@ -7,11 +7,12 @@ use Prim.Native.Nat.{ℕ, ◌+◌, ◌≤◌, ◌<◌}
 use native.Mathlib.Omega.{arith}
 use lib.ListN.{length, get_or, drop, drop_of_length-le}
 use lib.Seq.{drop-cons}
+use Rattle.std.specs.Prelude.{Option, None, Some}
 use Rattle.lists.specs.Tests.{every, same_numbers as same_text}
 use Rattle.lists.proofs.Both.{or_cases}
 use Rattle.lists.proofs.Every.{every-head, same_numbers_iff}
-use Rattle.file_form.specs.declared.header.OrderWord.{OrderWord}
-use Rattle.file_form.specs.declared.header.OrderWord.TheVariants.{Unsaid, Advance, Closest}
+use Rattle.branching.specs.declared.order.Order.{Order}
+use Rattle.branching.specs.declared.order.Order.TheVariants.{Advance, Closest}
 use Rattle.file_form.specs.Bytes.{word_advance, word_closest}
 use Rattle.file_form.specs.Job.{order_fields}
 use Rattle.file_form.specs.Header.{order_said, order_in, is_order, order_known}
@@ -36,31 +37,31 @@ order_written (word ∷ []) h e = word_written word (every-head is_order word []
 order_written (word ∷ next ∷ fields) h e = absurd (omega arith)
 
 -- the field of each word says it
-pub order_back : (order : OrderWord) → order_said (order_fields order) ≡ order
+pub order_back : (order : Option Order) → order_said (order_fields order) ≡ order
 unfolding same_text
-order_back Unsaid = refl
-order_back Advance = refl
-order_back Closest = refl
+order_back None = refl
+order_back (Some Advance) = refl
+order_back (Some Closest) = refl
 
 -- it passes its question
-pub order_passes : (order : OrderWord) → every is_order (order_fields order) ≡ true
+pub order_passes : (order : Option Order) → every is_order (order_fields order) ≡ true
 unfolding every is_order same_text
-order_passes Unsaid = refl
-order_passes Advance = refl
-order_passes Closest = refl
+order_passes None = refl
+order_passes (Some Advance) = refl
+order_passes (Some Closest) = refl
 
 -- it holds neither a tab nor a line feed
-pub order-plain : (order : OrderWord) → every plain (order_fields order) ≡ true
+pub order-plain : (order : Option Order) → every plain (order_fields order) ≡ true
 unfolding every
-order-plain Unsaid = refl
-order-plain Advance = refl
-order-plain Closest = refl
+order-plain None = refl
+order-plain (Some Advance) = refl
+order-plain (Some Closest) = refl
 
 -- there is at most one
-pub order_single : (order : OrderWord) → length (order_fields order) ≤ 1
-order_single Unsaid = omega arith
-order_single Advance = omega arith
-order_single Closest = omega arith
+pub order_single : (order : Option Order) → length (order_fields order) ≤ 1
+order_single None = omega arith
+order_single (Some Advance) = omega arith
+order_single (Some Closest) = omega arith
 
 -- fields that `count` tabs part
 module _ (fields : List (List ℕ)) (count : ℕ) (e : count + 1 ≡ length fields) where
@@ -74,7 +75,7 @@ module _ (fields : List (List ℕ)) (count : ℕ) (e : count + 1 ≡ length fiel
   none-known h = sym (ap (every is_order) (none h))
 
   -- and no word is said
-  pub none_said : count < 3 → Unsaid ≡ order_in fields
+  pub none_said : count < 3 → None ≡ order_in fields
   unfolding order_in
   none_said h = sym (ap order_said (none h))
 
@@ -90,16 +91,11 @@ module _ (fields : List (List ℕ)) (count : ℕ) (e : count + 1 ≡ length fiel
     fourth_known few = ap (every is_order) (fourth ∙ ap (◌∷◌ word) (drop_of_length-le fields few)) ∙ and-true (is_order word)
 
     -- it is `advance`
-    pub advance_said : same_text word word_advance ≡ true → Advance ≡ order_in fields
+    pub advance_said : same_text word word_advance ≡ true → Some Advance ≡ order_in fields
     unfolding order_in
     advance_said a = sym (ap order_said fourth ∙ rw a)
 
     -- it is `closest`
-    pub closest_said : same_text word word_advance ≡ false → same_text word word_closest ≡ true → Closest ≡ order_in fields
+    pub closest_said : same_text word word_advance ≡ false → same_text word word_closest ≡ true → Some Closest ≡ order_in fields
     unfolding order_in
     closest_said a c = sym (ap order_said fourth ∙ rw (a, c))
-
-    -- it is neither word
-    pub neither_said : same_text word word_advance ≡ false → same_text word word_closest ≡ false → Unsaid ≡ order_in fields
-    unfolding order_in
-    neither_said a c = sym (ap order_said fourth ∙ rw (a, c))

@@ -3,8 +3,8 @@ use mathlib.Core.Path.{◌≡◌, refl}
 use Prim.Native.Nat.{ℕ}
 use native.Mathlib.Omega.{arith}
 use Rattle.matrix.specs.Outcomes.{Outcome, value, refused, on_line, then_with}
-use Rattle.matrix.specs.declared.refusal.Asked.{Asked}
-use Rattle.matrix.specs.declared.refusal.Asked.TheVariants.{Passed, Refused}
+use Rattle.matrix.specs.Outcomes.{Asked}
+use Rattle.std.specs.Prelude.{Ok, Err}
 
 module _ {A : Type 0} where
   -- a refusal holds no value
@@ -13,9 +13,9 @@ module _ {A : Type 0} where
 
   -- the questions put to a line passed, and what follows them holds the value
   pub line_passed : (line : ℕ) (asked : Asked) (rest : Outcome A) (a : A) → on_line line asked rest ≡ value a
-      → (asked ≡ Passed) × (rest ≡ value a)
-  line_passed line Passed rest a e = (refl, e)
-  line_passed line (Refused refusal) rest a e = absurd (not-refused _ line a e)
+      → (asked ≡ Ok tt) × (rest ≡ value a)
+  line_passed line (Ok _) rest a e = (refl, e)
+  line_passed line (Err refusal) rest a e = absurd (not-refused _ line a e)
 
   -- an outcome holds a value, and what follows it holds the other
   pub then_passed : {B : Type 0} (outcome : Outcome A) (follow : A → Outcome B) (b : B) → then_with outcome follow ≡ value b

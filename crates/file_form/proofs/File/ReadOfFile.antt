@@ -20,7 +20,7 @@ use Rattle.matrix.specs.Outcomes.{value, on_line, then_with}
 use Rattle.matrix.proofs.Passing.{one_to-true}
 use Rattle.file_form.specs.Bytes.{line_feed, parts_at}
 use Rattle.matrix.specs.declared.refusal.Refusal.TheVariants.{WeightForm}
-use Rattle.matrix.specs.declared.refusal.Asked.TheVariants.{Passed}
+use Rattle.std.specs.Prelude.{Ok}
 use Rattle.file_form.specs.Optional.{optional_there, optional_fields, optional_line, letter_free}
 use Rattle.file_form.specs.Weights.{letter_v, weight_in, weight_text, weights_form, weights_said}
 use Rattle.file_form.specs.Job.{Job, JobWithinLimits, first_text, weight_line, row_text, row_texts, ended, file_of}
@@ -133,7 +133,7 @@ module _ (job : Job) (within : JobWithinLimits job) where
       by false free = row_first job.names job.rows rest some-names (job_rows job within) free
 
   -- its weights pass their question
-  weights_pass : ask_weights (header_of job) behind ≡ Passed
+  weights_pass : ask_weights (header_of job) behind ≡ Ok tt
   unfolding ask_weights
   weights_pass =
       optional_passes job.weighed _ WeightForm letter_v (map weight_text job.weights) texts some_texts

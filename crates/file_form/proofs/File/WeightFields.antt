@@ -3,11 +3,11 @@
 use mathlib.Core.Path.{◌≡◌, refl, sym, ap, ap₂, ◌∙◌}
 use mathlib.Core.List.{List, [], ◌∷◌, map}
 use mathlib.Core.Bool.{Bool, true, false, false≢true}
-use Prim.Native.Nat.{ℕ, zero, suc, ◌+◌, ◌-◌, ◌≤◌, ◌<◌}
+use Prim.Native.Nat.{ℕ, zero, suc, ◌+◌, ◌-◌, ◌≤◌}
 use native.Mathlib.Omega.{arith}
 use borrow.Author.Tests.{leb-true, le-leb, lt-ltb, eqb-true, eq-eqb}
 use lib.Dec.{leb, eqb}
-use lib.ListN.{length, get_or, length-map, replicate, length-replicate}
+use lib.ListN.{length, length-map, replicate, length-replicate}
 use Rattle.lists.specs.Tests.{every}
 use Rattle.lists.proofs.Both.{and_left, and_right, and_both}
 use Rattle.lists.proofs.Every.{every-head, every-tail}
@@ -28,10 +28,6 @@ weight_digit (digit ∷ []) e = (
   leb-true digit 57 (and_right (leb 49 digit) (leb digit 57) e),
 )
 weight_digit (digit ∷ next ∷ digits) e = absurd (false≢true e)
-
--- so it has a first byte, which is no less than `0`
-pub weight_first : (field : List ℕ) → weight_form field ≡ true → (0 < length field) × (zero_digit ≤ get_or field 0 0)
-weight_first field e = let found = weight_digit field e in rw found.1 (omega arith, omega (arith, found.2))
 
 -- its weight is from 1 to 9
 weight_known : (field : List ℕ) → weight_form field ≡ true → is_weight (weight_in field) ≡ true

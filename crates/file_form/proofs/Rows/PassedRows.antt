@@ -11,7 +11,7 @@ use Rattle.lists.specs.Tests.{every}
 use Rattle.matrix.specs.Shape.{in_range}
 use Rattle.matrix.specs.Questions.{all_in_range, one_to, within_limits}
 use Rattle.matrix.specs.declared.refusal.Refusal.TheVariants.{NameForm, NameTaken, FieldCount, CodeForm, CodeRange}
-use Rattle.matrix.specs.declared.refusal.Asked.TheVariants.{Passed}
+use Rattle.std.specs.Prelude.{Ok}
 use Rattle.matrix.specs.Outcomes.{Outcome, value}
 use Rattle.file_form.specs.declared.header.Header.{Header}
 use Rattle.file_form.specs.Bytes.{tab, joined_by}
@@ -28,7 +28,7 @@ use Rattle.file_form.specs.Formed.{row_form}
 use Rattle.file_form.proofs.File.Outcomes.{line_passed, not-refused}
 
 -- codes that pass are from -999 to 999 and written in the one way
-codes_read : (fields : List (List ℕ)) → ask_codes fields ≡ Passed
+codes_read : (fields : List (List ℕ)) → ask_codes fields ≡ Ok tt
     → (all_in_range (map code_of fields) ≡ true) × (map decimal (map code_of fields) ≡ fields)
 unfolding ask_codes all_in_range every
 codes_read [] e = (refl, refl)
@@ -44,11 +44,11 @@ unfolding name_in fields_of
 fields_split line = rw (parts_some tab line).2
 
 -- a row that passes was answered "yes" four times
-module _ (header : Header) (earlier : List (List ℕ)) (line : List ℕ) (e : ask_row header earlier line ≡ Passed) where
+module _ (header : Header) (earlier : List (List ℕ)) (line : List ℕ) (e : ask_row header earlier line ≡ Ok tt) where
   -- the four answers
   pub row-answers :
       (length (fields_of line) ≡ suc header.m) × (name_form (name_in line) ≡ true) × (differs_from_all (name_in line) earlier ≡ true)
-      × (ask_codes (drop 1 (fields_of line)) ≡ Passed)
+      × (ask_codes (drop 1 (fields_of line)) ≡ Ok tt)
   unfolding ask_row
   row-answers =
       let count = ask_passed (eqb (length (fields_of line)) (suc header.m)) FieldCount _ e in
@@ -108,7 +108,7 @@ rows_read header earlier line (suc left) (row ∷ next ∷ lines) follow a e =
     )
 
 -- codes that pass have the right form
-codes-formed : (fields : List (List ℕ)) → ask_codes fields ≡ Passed → every code_form fields ≡ true
+codes-formed : (fields : List (List ℕ)) → ask_codes fields ≡ Ok tt → every code_form fields ≡ true
 unfolding ask_codes every
 codes-formed [] e = refl
 codes-formed (field ∷ fields) e =
@@ -118,7 +118,7 @@ codes-formed (field ∷ fields) e =
 
 -- a row that passes is well formed
 row-formed : (header : Header) (earlier : List (List ℕ)) (line : List ℕ) → within_limits header.n header.m ≡ true
-    → ask_row header earlier line ≡ Passed → row_form line ≡ true
+    → ask_row header earlier line ≡ Ok tt → row_form line ≡ true
 unfolding row_form within_limits
 row-formed header earlier line limits e =
     let answers = row-answers header earlier line e in

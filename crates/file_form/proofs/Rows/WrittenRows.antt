@@ -9,7 +9,7 @@ use lib.ListN.{length, length-map}
 use borrow.Author.Tests.{eq-eqb, eqb-true}
 use Rattle.matrix.specs.Shape.{in_range}
 use Rattle.matrix.specs.Questions.{all_in_range}
-use Rattle.matrix.specs.declared.refusal.Asked.TheVariants.{Passed}
+use Rattle.std.specs.Prelude.{Ok}
 use Rattle.matrix.specs.Outcomes.{Outcome}
 use Rattle.file_form.specs.declared.header.Header.{Header}
 use Rattle.lists.specs.Tests.{every}
@@ -31,7 +31,7 @@ codes_back [] = refl
 codes_back (code ∷ codes) = ap₂ ◌∷◌ (code_of-decimal code) (codes_back codes)
 
 -- codes from -999 to 999 pass their questions
-codes_pass : (codes : List ℤ) → all_in_range codes ≡ true → ask_codes (map decimal codes) ≡ Passed
+codes_pass : (codes : List ℤ) → all_in_range codes ≡ true → ask_codes (map decimal codes) ≡ Ok tt
 unfolding ask_codes all_in_range every
 codes_pass [] e = refl
 codes_pass (code ∷ codes) e =
@@ -66,7 +66,7 @@ module _ (name : List ℕ) (codes : List ℤ) (formed : name_form name ≡ true)
 
 -- a row's line passes its questions
 pub row_passes : (header : Header) (earlier : List (List ℕ)) (name : List ℕ) (codes : List ℤ)
-    → RowWithin header.m earlier name codes → ask_row header earlier (row_text name codes) ≡ Passed
+    → RowWithin header.m earlier name codes → ask_row header earlier (row_text name codes) ≡ Ok tt
 unfolding ask_row has_codes name_in
 row_passes header earlier name codes within =
     let count : length (map decimal codes) ≡ header.m = length-map codes decimal ∙ eqb-true (length codes) header.m within.full in
@@ -75,7 +75,7 @@ row_passes header earlier name codes within =
 
 -- the questions of a row that passes leave those of the rows behind it
 rows_step : {A : Type 0} (header : Header) (earlier : List (List ℕ)) (line left : ℕ) (row : List ℕ) (rows : List (List ℕ)) (next : List ℕ)
-    (others : List (List ℕ)) (follow : ℕ → List (List ℕ) → Outcome A) → ask_row header earlier row ≡ Passed
+    (others : List (List ℕ)) (follow : ℕ → List (List ℕ) → Outcome A) → ask_row header earlier row ≡ Ok tt
     → ask_rows header earlier line (suc left) (row ∷ rows ++ next ∷ others) follow
     ≡ ask_rows header (name_in row ∷ earlier) (suc line) left (rows ++ next ∷ others) follow
 unfolding ask_rows

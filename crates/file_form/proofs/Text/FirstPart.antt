@@ -2,15 +2,14 @@
 use mathlib.Core.Path.{◌≡◌, refl, sym, ap, ◌∙◌}
 use mathlib.Core.List.{List, [], ◌∷◌}
 use mathlib.Core.Bool.{Bool, true, false}
-use Prim.Native.Nat.{ℕ, zero, suc, ◌+◌, ◌-◌, ◌≤◌, ◌<◌}
-use native.Mathlib.Numerals.{add-one}
+use Prim.Native.Nat.{ℕ, suc, ◌-◌, ◌≤◌, ◌<◌}
 use native.Mathlib.Omega.{arith}
-use borrow.Author.Tests.{eq-eqb, ne_eqb, ltb-true, ltb-false}
+use borrow.Author.Tests.{ltb-true, ltb-false}
 use lib.Dec.{eqb, ltb}
-use lib.ListN.{length, get_or, take, drop, length-take, length-drop, drop_of_length-le}
-use lib.Seq.{drop-cons, take_all, take-length, length-take-le, take-take}
+use lib.ListN.{length, get_or, take, drop, length-drop}
+use lib.Seq.{take_all, take-length, length-take-le}
 use Rattle.file_form.specs.Bytes.{before_first, parts_at, part_length, first_part, behind_part}
-use Rattle.file_form.proofs.Text.Parts.{parts_at_lem, parts_other, parts_some}
+use Rattle.file_form.proofs.Text.Parts.{parts_at_lem, parts_other}
 
 -- at a separator the first part is empty
 part_at : (s b : ℕ) (bs : List ℕ) → eqb b s ≡ true → part_length s (b ∷ bs) ≡ 0
@@ -31,39 +30,6 @@ part-within s (b ∷ bs) = by (eqb b s) refl (part-within s bs)
     by : (t : Bool) → eqb b s ≡ t → part_length s bs ≤ length bs → part_length s (b ∷ bs) ≤ suc (length bs)
     by true e h = omega (arith, part_at s b bs e)
     by false e h = omega (arith, part-other s b bs e)
-
--- what is known at place i of a text
-module _ (s : ℕ) (text : List ℕ) (i : ℕ) where
-  -- from a separator on, the first part is empty
-  pub part-here : i < length text → get_or text i 0 ≡ s → part_length s (drop i text) ≡ 0
-  part-here h e = rw (drop-cons text i 0 h) (part_at s _ _ (eq-eqb (get_or text i 0) s e))
-
-  -- from any other byte on, it is that byte and the part behind it
-  pub part_on : i < length text → (get_or text i 0 ≡ s → ⊥) → part_length s (drop i text) ≡ suc (part_length s (drop (i + 1) text))
-  part_on h e = rw (add-one, drop-cons text i 0 h) (part-other s _ _ (ne_eqb (get_or text i 0) s e))
-
-  -- behind the text nothing is left
-  pub part_past : length text ≤ i → part_length s (drop i text) ≡ 0
-  unfolding part_length
-  part_past h = rw (drop_of_length-le text h)
-
-  -- from a separator on, there is one part more than behind it
-  pub parts_here : i < length text → get_or text i 0 ≡ s → length (parts_at s (drop i text)) ≡ suc (length (parts_at s (drop (i + 1) text)))
-  parts_here h e = rw (add-one, drop-cons text i 0 h) (ap length (parts_at_lem s _ _ (eq-eqb (get_or text i 0) s e)))
-
-  -- from any other byte on, there are as many as behind it
-  pub parts_on : i < length text → (get_or text i 0 ≡ s → ⊥) → length (parts_at s (drop i text)) ≡ length (parts_at s (drop (i + 1) text))
-  parts_on h e =
-      rw (add-one, drop-cons text i 0 h)
-      (ap length (parts_other s _ _ (ne_eqb (get_or text i 0) s e)) ∙ as_many (get_or text i 0) (drop (suc i) text))
-    where
-      as_many : (b : ℕ) (bs : List ℕ) → length (before_first b (parts_at s bs)) ≡ length (parts_at s bs)
-      as_many b bs = rw (parts_some s bs).2
-
-  -- behind the text there is one part, the empty one
-  pub parts_past : length text ≤ i → length (parts_at s (drop i text)) ≡ 1
-  unfolding parts_at
-  parts_past h = rw (drop_of_length-le text h)
 
 -- a text whose first part is the whole of it has no other part
 pub parts_one : (s : ℕ) (text : List ℕ) → part_length s text ≡ length text → parts_at s text ≡ text ∷ []
@@ -133,36 +99,3 @@ parts_several s text several = by (parted s text)
     by : Parted s text → parts_at s text ≡ first_part s text ∷ parts_at s (behind_part s text)
     by (whole h) = absurd (omega (arith, ap length (parts_one s text h)))
     by (shorter h) = parts_more s text h
-
--- an only part is the whole text
-pub parts_single : (s : ℕ) (text : List ℕ) → length (parts_at s text) ≡ 1 → parts_at s text ≡ text ∷ []
-parts_single s text single = by (parted s text)
-  where
-    by : Parted s text → parts_at s text ≡ text ∷ []
-    by (whole h) = parts_one s text h
-    by (shorter h) =
-        absurd (omega (arith, ap length (parts_more s text h), ap length (parts_some s (behind_part s text)).2))
-
--- the first part of a text's front is that of the text, if it ends within the front
-pub part_of_front : (s k : ℕ) (text : List ℕ) → part_length s (take k text) < length (take k text)
-    → part_length s text ≡ part_length s (take k text)
-unfolding part_length
-part_of_front s zero text h = absurd (omega arith)
-part_of_front s (suc k) [] h = absurd (omega arith)
-part_of_front s (suc k) (b ∷ bs) h = by (eqb b s) refl (part_of_front s k bs)
-  where
-    by : (t : Bool) → eqb b s ≡ t → (part_length s (take k bs) < length (take k bs) → part_length s bs ≡ part_length s (take k bs))
-        → part_length s (b ∷ bs) ≡ part_length s (b ∷ take k bs)
-    by true e front = part_at s b bs e ∙ sym (part_at s b (take k bs) e)
-    by false e front =
-        part-other s b bs e
-        ∙ ap suc (front (omega (arith, part-other s b (take k bs) e)))
-        ∙ sym (part-other s b (take k bs) e)
-
--- and so is the part itself
-pub first_of_front : (s k : ℕ) (text : List ℕ) → part_length s (take k text) < length (take k text)
-    → first_part s text ≡ first_part s (take k text)
-unfolding first_part
-first_of_front s k text h =
-    let low : part_length s (take k text) ≤ k = omega (arith, length-take k text) in
-    ap (λ n. take n text) (part_of_front s k text h) ∙ sym (take-take (part_length s (take k text)) k text low)

@@ -1,16 +1,15 @@
 -- Whether `C` lines are a branching, as the tree of a file is tested.
 use mathlib.Core.Path.{◌≡◌, sym, ap, ◌∙◌, subst}
-use mathlib.Core.Bool.{Bool, true, false, not}
+use mathlib.Core.Bool.{Bool, true, false}
 use mathlib.Core.List.{List}
 use Prim.Native.Nat.{ℕ, ◌-◌, ◌*◌, ◌≤◌, min}
 use native.Mathlib.Nat.{min-eq_left}
 use native.Mathlib.Omega.{arith}
-use borrow.Author.Tests.{not-true, not-false}
 use Rattle.lists.specs.Filled.{filled}
 use Rattle.lists.proofs.Filled.{filled_at}
 use Rattle.matrix.specs.Outcomes.{ask}
 use Rattle.matrix.specs.declared.refusal.Refusal.TheVariants.{NotBranching}
-use Rattle.matrix.specs.declared.refusal.Asked.TheVariants.{Passed, Refused}
+use Rattle.std.specs.Prelude.{Ok, Err}
 use Rattle.branching.specs.Ancestors.{ancestor, tree_with}
 use Rattle.branching.specs.Growing.{branching}
 use Rattle.branching.specs.Within.{branching_within}
@@ -23,7 +22,7 @@ use Rattle.file_form.specs.Formed.{BranchesFormed}
 use Rattle.matrix_file.proofs.BranchLines.Said.{said_in}
 
 -- in a `W` file nothing is asked
-pub tree-none : (text : List ℕ) (kind : Kind) (n : ℕ) → kind ≡ Wagner → Passed ≡ ask_tree kind n (said_in text (branch_count kind n))
+pub tree-none : (text : List ℕ) (kind : Kind) (n : ℕ) → kind ≡ Wagner → Ok tt ≡ ask_tree kind n (said_in text (branch_count kind n))
 tree-none text kind n w = sym (ap (λ k. ask_tree k n (said_in text (branch_count k n))) w)
 
 -- a tree with places to spare is a branching exactly if the tree is
@@ -59,9 +58,9 @@ module _ (text : List ℕ) (kind : Kind) (n count : ℕ) (given : (n ≤ 64) × 
     asked_is = ap (λ k. branched k n (said_in text (branch_count kind n))) own ∙ sym right_decides
 
     -- it is no branching
-    pub tree-refused : not right ≡ true → Refused NotBranching ≡ ask_tree kind n (said_in text (branch_count kind n))
-    tree-refused e = sym (ap (λ b. ask b NotBranching Passed) (asked_is ∙ not-true right e))
+    pub tree-refused : right ≡ false → Err NotBranching ≡ ask_tree kind n (said_in text (branch_count kind n))
+    tree-refused e = sym (ap (λ b. ask b NotBranching (Ok tt)) (asked_is ∙ e))
 
     -- it is one
-    pub tree_passed : not right ≡ false → Passed ≡ ask_tree kind n (said_in text (branch_count kind n))
-    tree_passed e = sym (ap (λ b. ask b NotBranching Passed) (asked_is ∙ not-false right e))
+    pub tree_passed : right ≡ true → Ok tt ≡ ask_tree kind n (said_in text (branch_count kind n))
+    tree_passed e = sym (ap (λ b. ask b NotBranching (Ok tt)) (asked_is ∙ e))

@@ -1,178 +1,191 @@
 -- A walk over the `C` lines of a file, line by line, puts the questions that the definition puts.
 use mathlib.Core.Path.{◌≡◌, refl, sym, ap, ap₂, ◌∙◌, subst}
 use mathlib.Core.Logic.{by_cases}
-use mathlib.Core.Bool.{Bool, true, false, not}
+use mathlib.Core.Bool.{Bool, true, false, ◌&&◌, cond}
 use mathlib.Core.List.{List, [], ◌∷◌}
 use Prim.Native.Nat.{ℕ, suc, ◌+◌, ◌-◌, ◌≤◌, ◌<◌}
 use native.Mathlib.Decide.{dec_le}
+use native.Mathlib.Nat.{add-zero, sub-zero}
 use native.Mathlib.Omega.{arith}
-use borrow.Author.Tests.{not-true, not-false}
+use lib.Dec.{eqb}
 use lib.ListN.{length, get_or, drop, length-drop}
+use Rattle.std.specs.Prelude.{Option, None, Some, Result, Ok, Err}
+use Rattle.std.specs.Option.{option_eq}
+use Rattle.lists.specs.Tests.{same_numbers as same_text}
 use Rattle.matrix.specs.Refusals.{refusal_number}
 use Rattle.matrix.specs.Outcomes.{ask, Outcome, refused, on_line}
+use Rattle.matrix.specs.declared.refusal.Refusal.{Refusal}
 use Rattle.matrix.specs.declared.refusal.Refusal.TheVariants.{BranchForm}
-use Rattle.matrix.specs.declared.refusal.Asked.TheVariants as Asked
-use Rattle.matrix_file.specs.declared.answer.LinesAnswer.TheVariants.{Ended, Refused}
+use Rattle.file_form.specs.Bytes.{line_feed, word_c}
+use Rattle.file_form.specs.Decimal.{number_form, number_of}
 use Rattle.file_form.specs.Job.{Job}
-use Rattle.file_form.specs.Bytes.{line_feed, parts_at, first_part}
 use Rattle.file_form.specs.Lines.{lines_of, fields_of}
 use Rattle.file_form.specs.Branches.{branch_form, ask_branches}
-use Rattle.matrix_file.specs.Walk.{BranchesAsked}
 use Rattle.file_form.proofs.Text.Parts.{parts_some}
-use Rattle.file_form.proofs.Text.PartsFrom.{parts_from, from-within, from_past, from_start, from_next, next-within}
-use Rattle.matrix_file.proofs.Lists.LinesWalk.{LinesLeft, lines_start, line-here, walk_on}
-use Rattle.matrix_file.proofs.Lists.LinesEnd.{refused_not_ended, lines_passed}
+use Rattle.file_form.proofs.BranchLines.Form.{node_decides}
+use Rattle.matrix_file.specs.declared.answer.Refused.{Refused}
+use Rattle.matrix_file.specs.Walk.{read_as, at_line, line_says, BranchAsked, BranchesAsked}
+use Rattle.matrix_file.proofs.Lists.LinesBehind.{rest_at, rest-next}
 
--- what a walk knows when it has passed `done` lines and stands at a place: they have the right form, and the lines from there on decide
-pub record BranchesLeft (text : List ℕ) (count first at done : ℕ) : Type 0 where
-  pub walk : LinesLeft text count at done
+-- the second field tells the node, where the others are right
+pub node_told : (v : ℕ) (fields : List (List ℕ)) → length fields ≡ 3 → same_text (get_or fields 0 []) word_c ≡ true
+    → number_form (get_or fields 2 []) ≡ true → (field : List ℕ) (r : Option ℕ) → field ≡ get_or fields 1 []
+    → r ≡ read_as number_form number_of field → option_eq eqb r (Some v) ≡ branch_form v fields
+node_told v fields three word third field r f e =
+    ap (λ x. option_eq eqb x (Some v)) e
+    ∙ by (number_form field)
+    ∙ ap (λ x. number_form x && eqb (number_of x) v) f
+    ∙ sym (node_decides v fields three word third)
+  where
+    by : (b : Bool) → option_eq eqb (cond b (Some (number_of field)) None) (Some v) ≡ b && eqb (number_of field) v
+    by true = refl
+    by false = refl
+
+-- of a text's lines there is always one
+pub lines_some : (text : List ℕ) → lines_of text ≡ (parts_some line_feed text).0 ∷ (parts_some line_feed text).1
+unfolding lines_of
+lines_some text = (parts_some line_feed text).2
+
+-- a last part that no line feed ends is no line
+pub branch_missing : (text : List ℕ) (v : ℕ) → lines_of text ≡ text ∷ [] → BranchAsked text v (Err BranchForm)
+unfolding ask_branches
+branch_missing text v l =
+    record { says = λ line left follow. ap (λ lines. ask_branches line v (suc left) lines follow) l; ends = λ rest e. cc }
+
+-- a line, and the lines behind it
+module _ (text line behind : List ℕ) (v : ℕ) (l : lines_of text ≡ line ∷ lines_of behind) where
+  -- its own question, and then those on the lines behind it
+  asked : (number left : ℕ) (follow : ℕ → List (List ℕ) → Outcome Job)
+      → ask_branches number v (suc left) (lines_of text) follow
+      ≡ on_line number (ask (branch_form v (fields_of line)) BranchForm (Ok tt)) (ask_branches (suc number) (suc v) left (lines_of behind) follow)
+  unfolding ask_branches
+  asked number left follow =
+      let more = lines_some behind in
+      ap (λ lines. ask_branches number v (suc left) lines follow) (l ∙ ap (◌∷◌ line) more)
+      ∙ ap (λ lines. on_line number (ask (branch_form v (fields_of line)) BranchForm (Ok tt)) (ask_branches (suc number) (suc v) left lines follow)) (sym more)
+
+  -- it has another form
+  pub branch_refused : branch_form v (fields_of line) ≡ false → BranchAsked text v (Err BranchForm)
+  branch_refused e =
+      record {
+        says =
+            λ number left follow.
+            asked number left follow
+            ∙ ap (λ b. on_line number (ask b BranchForm (Ok tt)) (ask_branches (suc number) (suc v) left (lines_of behind) follow)) e;
+        ends = λ rest same. cc;
+      }
+
+  -- it has the right one
+  pub branch_passed : branch_form v (fields_of line) ≡ true → BranchAsked text v (Ok behind)
+  branch_passed e =
+      record {
+        says =
+            λ number left follow.
+            asked number left follow
+            ∙ ap (λ b. on_line number (ask b BranchForm (Ok tt)) (ask_branches (suc number) (suc v) left (lines_of behind) follow)) e;
+        ends =
+            λ rest same.
+            let here : behind ≡ rest = cc in
+            (line, l ∙ ap (λ x. line ∷ lines_of x) here, e);
+      }
+
+-- what a walk knows when it has passed `done` lines and keeps the rest: they have the right form, and the lines that are left decide
+pub record BranchesLeft (text : List ℕ) (count first : ℕ) (rest : List ℕ) (done : ℕ) : Type 0 where
+  pub some : done ≤ count
+  pub walk : lines_of rest ≡ drop done (lines_of text)
   pub formed : (k : ℕ) → k < done → branch_form (k + 2) (fields_of (get_or (lines_of text) k [])) ≡ true
   pub decide :
       (follow : ℕ → List (List ℕ) → Outcome Job)
       → ask_branches first 2 count (lines_of text) follow
-      ≡ ask_branches (first + done) (done + 2) (count - done) (parts_from line_feed text at) follow
+      ≡ ask_branches (first + done) (done + 2) (count - done) (lines_of rest) follow
 
 -- at the start
-pub branches-start : (text : List ℕ) (count first : ℕ) → BranchesLeft text count first 0 0
-unfolding lines_of
+pub branches-start : (text : List ℕ) (count first : ℕ) → BranchesLeft text count first text 0
 branches-start text count first =
     record {
-      walk = lines_start text count;
+      some = omega arith;
+      walk = refl;
       formed = λ k h. absurd (omega arith);
       decide =
           λ follow.
-          let number : first ≡ first + 0 = omega arith in
-          let all : count ≡ count - 0 = omega arith in
-          ap₂ (λ line lines. ask_branches line 2 count lines follow) number (sym (from_start line_feed text))
-          ∙ ap (λ left. ask_branches (first + 0) 2 left (parts_from line_feed text 0) follow) all;
+          ap₂ (λ line left. ask_branches line 2 left (lines_of text) follow) (sym (add-zero first)) (sym (sub-zero count));
     }
 
--- the questions with what follows them
-module _ {A : Type 0} (line v left : ℕ) (follow : ℕ → List (List ℕ) → Outcome A) where
-  -- a last part that no line feed ends is no line
-  only_part : (part : List ℕ) → ask_branches line v (suc left) (part ∷ []) follow ≡ refused (refusal_number BranchForm) line
-  unfolding ask_branches
-  only_part part = refl
-
-  -- a line: its own question, and then those on the lines behind it
-  line-behind : (text next : List ℕ) (lines : List (List ℕ))
-      → ask_branches line v (suc left) (text ∷ next ∷ lines) follow
-      ≡ on_line line (ask (branch_form v (fields_of text)) BranchForm Asked.Passed) (ask_branches (suc line) (suc v) left (next ∷ lines) follow)
-  unfolding ask_branches
-  line-behind text next lines = refl
-
--- one line of the walk
-module _ (text : List ℕ) (count first at done : ℕ) (rest line : List ℕ) (left : BranchesLeft text count first at done) (h : done < count)
-    (r : rest ≡ drop at text) (l : line ≡ first_part line_feed rest) where
-  -- the lines behind this one
-  abbrev behind : List (List ℕ)
-  behind = parts_from line_feed text (at + length line + 1)
-
-  -- how many are left behind it
-  abbrev fewer : ℕ
-  fewer = count - (done + 1)
-
-  -- this line and those behind it decide
-  this_line : (follow : ℕ → List (List ℕ) → Outcome Job) → ask_branches first 2 count (lines_of text) follow
-      ≡ ask_branches (first + done) (done + 2) (suc fewer) (line ∷ behind) follow
+-- one line of the walk, asked
+module _ (text : List ℕ) (count first : ℕ) (rest : List ℕ) (done : ℕ) (left : BranchesLeft text count first rest done) (h : done < count)
+    (r : Result (List ℕ) Refusal) (asked : BranchAsked rest (done + 2) r) where
+  -- it decides, and then those behind it
+  this_line : (follow : ℕ → List (List ℕ) → Outcome Job)
+      → ask_branches first 2 count (lines_of text) follow
+      ≡ line_says r (first + done) (λ behind. ask_branches (suc (first + done)) (suc (done + 2)) (count - (done + 1)) (lines_of behind) follow)
   this_line follow =
       left.decide follow
-      ∙ ap₂ (λ k lines. ask_branches (first + done) (done + 2) k lines follow) (omega arith)
-      (from_next line_feed text at rest line left.walk.inside r l)
+      ∙ ap (λ k. ask_branches (first + done) (done + 2) k (lines_of rest) follow) (omega arith)
+      ∙ asked.says (first + done) (count - (done + 1)) follow
 
-  -- it is not ended by a line feed
-  pub branch_missing : at + length line ≡ length text → BranchesAsked text count first (Refused BranchForm (first + done))
-  branch_missing e =
+  -- it is refused
+  pub walk-refused : (e : Refused) → at_line (first + done) r ≡ Err e → BranchesAsked text count first (Err e)
+  walk-refused e same = by r refl same
+    where
+      by : (x : Result (List ℕ) Refusal) → r ≡ x → at_line (first + done) x ≡ Err e → BranchesAsked text count first (Err e)
+      by (Ok behind) i same = cc
+      by (Err refusal) i same =
+          let is : record { refusal = refusal; line = first + done } ≡ e = cc same in
+          record {
+            says =
+                λ follow.
+                sym (this_line follow
+                ∙ ap (λ x. line_says x (first + done) (λ behind. ask_branches (suc (first + done)) (suc (done + 2)) (count - (done + 1)) (lines_of behind) follow)) i
+                ∙ ap (λ (x : Refused). refused (refusal_number x.refusal) x.line) is);
+            ends = λ place never. cc;
+          }
+
+  -- it passes: the walk goes on behind it
+  pub walk_passed : (behind : List ℕ) → r ≡ Ok behind → BranchesLeft text count first behind (done + 1)
+  walk_passed behind i =
+      let told = asked.ends behind i in
+      let these = sym left.walk ∙ told.1 in
+      let here : branch_form (done + 2) (fields_of (get_or (lines_of text) done [])) ≡ true =
+      ap (λ line. branch_form (done + 2) (fields_of line)) (rest_at (lines_of text) done _ _ these []) ∙ told.2 in
       record {
-        says =
+        some = omega arith;
+        walk = sym (rest-next (lines_of text) done _ _ these);
+        formed =
+            λ k low.
+            by_cases (dec_le done k)
+            (λ last.
+            let same : done ≡ k = omega arith in
+            subst (λ i. branch_form (i + 2) (fields_of (get_or (lines_of text) i [])) ≡ true) same here)
+            (λ before. left.formed k (omega arith));
+        decide =
             λ follow.
-            sym (this_line follow
-            ∙ ap (λ lines. ask_branches (first + done) (done + 2) (suc fewer) (line ∷ lines) follow)
-            (from_past line_feed text (at + length line + 1) (omega arith))
-            ∙ only_part (first + done) (done + 2) fewer follow line);
-        ends = λ place next same. absurd (refused_not_ended same);
+            let number : suc (first + done) ≡ first + (done + 1) = omega arith in
+            let node : suc (done + 2) ≡ done + 1 + 2 = omega arith in
+            this_line follow
+            ∙ ap (λ x. line_says x (first + done) (λ rest. ask_branches (suc (first + done)) (suc (done + 2)) (count - (done + 1)) (lines_of rest) follow)) i
+            ∙ ap₂ (λ k v. ask_branches k v (count - (done + 1)) (lines_of behind) follow) number node;
       }
 
-  module _ (ended : at + length line ≡ length text → ⊥) (right : Bool) (f : right ≡ branch_form (done + 2) (fields_of line)) where
-    -- the next line begins within the text
-    next-inside : at + length line + 1 ≤ length text
-    next-inside = let end = next-within line_feed text at rest line left.walk.inside r l in next end
-      where
-        next : at + length line ≤ length text → at + length line + 1 ≤ length text
-        next end = omega arith
-
-    -- its own question decides, and then those on the lines behind it
-    asked : (follow : ℕ → List (List ℕ) → Outcome Job) → ask_branches first 2 count (lines_of text) follow
-        ≡ on_line (first + done) (ask right BranchForm Asked.Passed) (ask_branches (suc (first + done)) (suc (done + 2)) fewer behind follow)
-    asked follow =
-        let some = parts_some line_feed (drop (at + length line + 1) text) in
-        let more = from-within line_feed text (at + length line + 1) next-inside ∙ some.2 in
-        this_line follow
-        ∙ ap (λ lines. ask_branches (first + done) (done + 2) (suc fewer) (line ∷ lines) follow) more
-        ∙ line-behind (first + done) (done + 2) fewer follow line some.0 some.1
-        ∙ ap₂
-        (λ x lines. on_line (first + done) (ask x BranchForm Asked.Passed) (ask_branches (suc (first + done)) (suc (done + 2)) fewer lines follow))
-        (sym f) (sym more)
-
-    -- it has another form
-    pub branch_refused : not right ≡ true → BranchesAsked text count first (Refused BranchForm (first + done))
-    branch_refused e =
-        record {
-          says =
-              λ follow.
-              sym (asked follow
-              ∙ ap
-              (λ x. on_line (first + done) (ask x BranchForm Asked.Passed) (ask_branches (suc (first + done)) (suc (done + 2)) fewer behind follow))
-              (not-true right e));
-          ends = λ place next same. absurd (refused_not_ended same);
-        }
-
-    -- it has the right one: the walk goes on behind it
-    pub branch_passed : not right ≡ false → BranchesLeft text count first (at + length line + 1) (done + 1)
-    branch_passed e =
-        let here : branch_form (done + 2) (fields_of (get_or (lines_of text) done [])) ≡ true =
-        ap (λ found. branch_form (done + 2) (fields_of found)) (line-here text count at done rest line left.walk h r l)
-        ∙ sym f
-        ∙ not-false right e in
-        record {
-          walk = walk_on text count at done rest line left.walk h r l next-inside;
-          formed =
-              λ k low.
-              by_cases (dec_le done k)
-              (λ last.
-              let same : done ≡ k = omega arith in
-              subst (λ i. branch_form (i + 2) (fields_of (get_or (lines_of text) i [])) ≡ true) same here)
-              (λ before. left.formed k (omega arith));
-          decide =
-              λ follow.
-              let number : suc (first + done) ≡ first + (done + 1) = omega arith in
-              let node : suc (done + 2) ≡ done + 1 + 2 = omega arith in
-              asked follow
-              ∙ ap
-              (λ x. on_line (first + done) (ask x BranchForm Asked.Passed) (ask_branches (suc (first + done)) (suc (done + 2)) fewer behind follow))
-              (not-false right e)
-              ∙ ap₂ (λ k v. ask_branches k v fewer behind follow) number node;
-        }
-
 -- all lines passed: what follows them decides
-pub branches-ended : (text : List ℕ) (count first at done : ℕ) → BranchesLeft text count first at done → count ≤ done
-    → BranchesAsked text count first (Ended at (first + count))
-unfolding ask_branches lines_of
-branches-ended text count first at done left h =
-    let all : done ≡ count = let some = left.walk.some in omega arith in
+pub branches-ended : (text : List ℕ) (count first : ℕ) (rest : List ℕ) (done : ℕ) → BranchesLeft text count first rest done → count ≤ done
+    → BranchesAsked text count first (Ok rest)
+unfolding ask_branches
+branches-ended text count first rest done left h =
+    let all : done ≡ count = let some = left.some in omega arith in
     let none : count - done ≡ 0 = omega arith in
+    let walk : lines_of rest ≡ drop count (lines_of text) = left.walk ∙ ap (λ k. drop k (lines_of text)) all in
     record {
       says =
           λ follow.
           sym (left.decide follow
-          ∙ ap₂ (λ k lines. ask_branches (first + done) (done + 2) k lines follow) none (from-within line_feed text at left.walk.inside)
-          ∙ ap (λ k. follow (first + k) (parts_at line_feed (drop at text))) all);
+          ∙ ap (λ k. ask_branches (first + done) (done + 2) k (lines_of rest) follow) none
+          ∙ ap (λ k. follow (first + k) (lines_of rest)) all);
       ends =
-          λ place line e.
-          let passed = lines_passed text count first at done left.walk h place line e in (
-            passed,
+          λ place e.
+          let here : rest ≡ place = cc in (
+            ap lines_of (sym here) ∙ walk,
             record {
-              more = omega (arith, ap length passed.rest, length-drop count (lines_of text), ap length (parts_some line_feed (drop place text)).2);
+              more = omega (arith, ap length walk, length-drop count (lines_of text), ap length (lines_some rest));
               formed = λ k low. left.formed k (omega arith);
             },
           );

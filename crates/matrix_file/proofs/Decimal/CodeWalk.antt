@@ -1,55 +1,99 @@
--- The form of a code and the code that a text says, test by test.
-use mathlib.Core.Path.{◌≡◌, refl, sym, ap, ap₂, ◌∙◌}
-use mathlib.Core.Bool.{Bool, true, false, not, ◌&&◌}
+-- The code that a text says: a number, or a minus and a number that is not zero.
+use mathlib.Core.Path.{◌≡◌, refl, sym, ap, ◌∙◌}
+use mathlib.Core.Bool.{true, false, ◌&&◌, and-true}
 use mathlib.Core.List.{List, [], ◌∷◌}
-use Prim.Native.Nat.{ℕ, zero, suc, ◌<◌}
+use Prim.Native.Nat.{ℕ, zero, suc, ◌<◌, ◌≤◌}
 use native.Mathlib.Omega.{arith}
-use borrow.Author.Tests.{not-true, not-false}
 use borrow.Author.Rules.{sfits_of}
-use lib.Dec.{leb}
-use lib.ListN.{length, get_or, drop}
-use Rattle.file_form.specs.Decimal.{number_form, number_of, code_form}
-use Rattle.file_form.proofs.Decimal.Codes.{code_form-plain, code_form-minus, code_form-some}
+use borrow.Author.Tests.{le-leb}
+use lib.Dec.{leb, eqb}
+use lib.ListN.{take, drop}
+use Rattle.std.specs.Prelude.{None, Some}
+use Rattle.std.specs.Cmp.Lexicographic.{pointwise}
+use Rattle.file_form.specs.Decimal.{number_form, number_of, number_from, code_form, code_of}
 use Rattle.file_form.specs.Bytes.{minus}
 use lib.IntN.{pos, neg_ℤ, ◌-ℤ◌, +ℤ_idl}
-use mir.Facts.{to_z_pos}
-use Rattle.lists.proofs.Both.{and_left}
-use mir.Val.{to_z, SFits}
+use mir.Facts.{to_z_pos, to_z-of_z}
+use mir.Val.{to_z, of_z, SFits}
 use mir.Syntax.{w32}
+use Rattle.matrix_file.specs.Walk.{read_as}
+use Rattle.matrix_file.proofs.ReadAs.{read_formed, read_formless, formed_read, formless_read}
 
--- an empty text has not the form
-pub none : (text : List ℕ) → length text ≡ 0 → false ≡ code_form text
-unfolding code_form
-none [] e = refl
-none (byte ∷ bytes) e = absurd (omega arith)
+-- a text that does not begin with a minus
+module _ (text : List ℕ) (m : pointwise eqb (take 1 text) (minus ∷ []) ≡ false) where
+  -- it has the form of a code if it has that of a number
+  plain_form : code_form text ≡ number_form text
+  unfolding code_form number_form
+  plain_form = by text m
+    where
+      by : (xs : List ℕ) → pointwise eqb (take 1 xs) (minus ∷ []) ≡ false → code_form xs ≡ number_form xs
+      by [] e = refl
+      by (byte ∷ bytes) e = rw (sym (and-true (eqb byte minus)) ∙ e) refl
 
--- a text without a minus in front has it if it is a number
-pub plain : (text : List ℕ) → (length text ≡ 0 → ⊥) → (get_or text 0 0 ≡ minus → ⊥) → code_form text ≡ number_form text
-plain text h = code_form-plain text (omega arith)
+  -- and then says that number
+  plain_code : code_of text ≡ pos (number_of text)
+  unfolding code_of number_of number_from
+  plain_code = by text m
+    where
+      by : (xs : List ℕ) → pointwise eqb (take 1 xs) (minus ∷ []) ≡ false → code_of xs ≡ pos (number_of xs)
+      by [] e = refl
+      by (byte ∷ bytes) e = rw (sym (and-true (eqb byte minus)) ∙ e) refl
 
--- what stands behind a minus
-module _ (text rest : List ℕ) (b : Bool) (h : length text ≡ 0 → ⊥) (m : get_or text 0 0 ≡ minus) (r : rest ≡ drop 1 text)
-    (e : b ≡ number_form rest) where
-  -- the form is that of a number that is not `0`
-  behind : code_form text ≡ b && leb 1 (number_of rest)
-  behind =
-      code_form-minus text (omega arith) m
-      ∙ ap₂ (λ x y. x && leb 1 (number_of y)) (ap number_form (sym r) ∙ sym e) (sym r)
+  -- it is no number
+  pub plain_none : None ≡ read_as number_form number_of text → None ≡ read_as code_form code_of text
+  plain_none e = read_formless code_form code_of text (plain_form ∙ formless_read number_form number_of text e)
 
-  -- no number stands behind the minus
-  pub bad_digits : not b ≡ true → false ≡ code_form text
-  bad_digits t = sym (behind ∙ ap (λ x. x && leb 1 (number_of rest)) (not-true b t))
+  -- it is one
+  pub plain_some : (size : ℕ) → Some size ≡ read_as number_form number_of text → Some (pos size) ≡ read_as code_form code_of text
+  plain_some size e =
+      let read = formed_read number_form number_of text size e in
+      read_formed code_form code_of text (pos size) (plain_form ∙ read.0) (ap pos read.1 ∙ sym plain_code)
 
-  -- a number stands there: it must not be zero
-  pub digits : (number : ℕ) → not b ≡ false → number ≡ number_of rest → leb 1 number ≡ code_form text
-  digits number t n = sym (behind ∙ ap (λ x. x && leb 1 (number_of rest)) (not-false b t) ∙ ap (leb 1) (sym n))
+-- one that begins with a minus, and what stands behind it
+module _ (text digits : List ℕ) (m : pointwise eqb (take 1 text) (minus ∷ []) ≡ true) (d : digits ≡ drop 1 text) where
+  -- it has the form of a code if a number stands there that is not zero
+  minus_form : code_form text ≡ number_form digits && leb 1 (number_of digits)
+  unfolding code_form
+  minus_form = by text m ∙ ap (λ xs. number_form xs && leb 1 (number_of xs)) (sym d)
+    where
+      by : (xs : List ℕ) → pointwise eqb (take 1 xs) (minus ∷ []) ≡ true → code_form xs ≡ number_form (drop 1 xs) && leb 1 (number_of (drop 1 xs))
+      by [] e = cc
+      by (byte ∷ bytes) e = rw (sym (and-true (eqb byte minus)) ∙ e) refl
 
--- behind a minus stands a number
-pub digits_behind : (text rest : List ℕ) → code_form text ≡ true → get_or text 0 0 ≡ minus → rest ≡ drop 1 text → number_form rest ≡ true
-digits_behind text rest form m r =
-    ap number_form r
-    ∙ and_left (number_form (drop 1 text)) (leb 1 (number_of (drop 1 text)))
-    (sym (code_form-minus text (code_form-some text form) m) ∙ form)
+  -- and then says the number below zero
+  minus_code : code_of text ≡ neg_ℤ (pos (number_of digits))
+  unfolding code_of
+  minus_code = by text m ∙ ap (λ xs. neg_ℤ (pos (number_of xs))) (sym d)
+    where
+      by : (xs : List ℕ) → pointwise eqb (take 1 xs) (minus ∷ []) ≡ true → code_of xs ≡ neg_ℤ (pos (number_of (drop 1 xs)))
+      by [] e = cc
+      by (byte ∷ bytes) e = rw (sym (and-true (eqb byte minus)) ∙ e) refl
+
+  -- no number stands there
+  pub minus_none : None ≡ read_as number_form number_of digits → None ≡ read_as code_form code_of text
+  minus_none e =
+      read_formless code_form code_of text
+      (minus_form ∙ ap (λ b. b && leb 1 (number_of digits)) (formless_read number_form number_of digits e))
+
+  -- a number stands there
+  module _ (size : ℕ) (e : Some size ≡ read_as number_form number_of digits) where
+    -- it decides
+    size_decides : code_form text ≡ leb 1 size
+    size_decides =
+        let read = formed_read number_form number_of digits size e in
+        minus_form ∙ ap (λ b. b && leb 1 (number_of digits)) read.0 ∙ ap (leb 1) (sym read.1)
+
+    -- it is zero
+    pub minus_zero : size ≡ 0 → None ≡ read_as code_form code_of text
+    minus_zero z = read_formless code_form code_of text (size_decides ∙ ap (leb 1) z)
+
+    -- it is not
+    pub minus_some : (size ≡ 0 → ⊥) → Some (neg_ℤ (pos size)) ≡ read_as code_form code_of text
+    minus_some z =
+        let read = formed_read number_form number_of digits size e in
+        let some : 1 ≤ size = omega arith in
+        read_formed code_form code_of text (neg_ℤ (pos size)) (size_decides ∙ le-leb 1 size some)
+        (ap (λ n. neg_ℤ (pos n)) read.1 ∙ sym minus_code)
 
 -- zero less a number read as a signed one
 pub negation : (n : ℕ) → n < 1000000 → pos 0 -ℤ to_z w32 n ≡ neg_ℤ (pos n)
@@ -59,3 +103,7 @@ negation n h = ap (λ z. pos 0 -ℤ z) (to_z_pos w32 {n = n} (omega arith)) ∙ 
 pub negation_fits : (n : ℕ) → n < 1000000 → SFits w32 (neg_ℤ (pos n))
 negation_fits zero h = sfits_of (omega arith)
 negation_fits (suc n) h = sfits_of (omega arith)
+
+-- so zero less a number is the number below zero
+pub negated : (n : ℕ) → n < 1000000 → to_z w32 (of_z w32 (pos 0 -ℤ to_z w32 n)) ≡ neg_ℤ (pos n)
+negated n h = rw (negation n h) (to_z-of_z (negation_fits n h))

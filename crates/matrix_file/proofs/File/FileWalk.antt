@@ -1,4 +1,5 @@
--- The questions put to a file, as they are put one after another: its length, the header, the rows, and the end.
+-- The questions put to a file, as they are put one after another: its length, the header, the rows, the `C` lines, the end and the
+-- branching.
 use mathlib.Core.Path.{◌≡◌, refl, sym, ap, ap₂, ◌∙◌}
 use mathlib.Core.List.{List, [], ◌∷◌, map}
 use mathlib.Core.Bool.{Bool, true, false, and-eq-true_iff}
@@ -7,108 +8,45 @@ use native.Mathlib.Omega.{arith}
 use borrow.Author.Tests.{le-leb, lt-leb}
 use lib.Dec.{eqb}
 use lib.ListN.{length, take, drop}
+use Rattle.std.specs.Prelude.{Result, Ok, Err}
 use Rattle.matrix.specs.Refusals.{refusal_number}
-use Rattle.matrix.specs.declared.refusal.Refusal.{Refusal}
-use Rattle.matrix.specs.declared.refusal.Refusal.TheVariants.{FirstLine, UnknownOrder, BeyondLimits, FileGoesOn}
-use Rattle.matrix.specs.declared.refusal.Asked.{Asked}
-use Rattle.matrix.specs.Outcomes.{ask, Outcome, value, refused, on_line, then_with}
+use Rattle.matrix.specs.declared.refusal.Refusal.TheVariants.{FileTooLong, FileEmpty, FirstLine, FileGoesOn}
+use Rattle.matrix.specs.Outcomes.{Asked, ask, Outcome, value, refused, on_line, then_with}
 use Rattle.matrix.specs.Questions.{within_limits, one_to}
-use Rattle.matrix.proofs.Passing.{one_to-true}
+use Rattle.matrix.proofs.Passing.{ask_passed, one_to-true}
 use Rattle.file_form.specs.declared.header.Header.{Header}
-use Rattle.matrix_file.specs.declared.answer.Read.{Read}
-use Rattle.matrix_file.specs.declared.answer.Read.TheVariants.{Accepted, Refused}
-use Rattle.matrix_file.specs.declared.answer.LinesAnswer.{LinesAnswer}
-use Rattle.file_form.specs.Bytes.{line_feed, before_first, parts_at, part_length, first_part, behind_part}
-use Rattle.file_form.specs.Lines.{lines_of, fields_of}
-use Rattle.file_form.specs.Header.{header_lines, header_from, header_in, header_of}
-use Rattle.file_form.specs.Header.{first_form, first_line_form, order_known, ask_first_line, ask_weights, ask_header}
+use Rattle.file_form.specs.Bytes.{line_feed, before_first, parts_at, behind_part}
+use Rattle.file_form.specs.Lines.{lines_of}
+use Rattle.file_form.specs.Header.{header_lines, header_in, header_of, first_line_form, ask_first_line, ask_weights, ask_header}
 use Rattle.file_form.specs.Rows.{ask_rows}
 use Rattle.file_form.specs.Job.{Job}
 use Rattle.file_form.specs.Branches.{branch_count, ancestor_in, ask_branches, ask_tree}
 use Rattle.file_form.specs.Reading.{most_bytes, behind_rows, job_of, nothing_more, ask_end, ask_after, ask_behind, ask_file, ask_length}
 use Rattle.file_form.specs.Reading.{read_answer}
-use Rattle.matrix_file.specs.Report.{read_says, with_header}
 use Rattle.file_form.specs.Formed.{BranchesFormed}
-use Rattle.matrix_file.specs.Walk.{header_on, behind_rows_most, lines_say, RowsAsked, BranchesAsked, RestAsked}
-use Rattle.matrix_file.proofs.File.OptionalWalk.{taken_most}
 use Rattle.file_form.proofs.File.HeaderRead.{HeaderPassed, header_passed, several-lines, header_behind}
 use Rattle.file_form.proofs.Text.Parts.{parts_some, parts_at_lem, parts_other}
-use Rattle.file_form.proofs.Text.FirstPart.{first-length, part-within, parts_one, parts_more}
+use Rattle.file_form.proofs.Text.FirstPart.{parts_several}
+use Rattle.matrix_file.specs.declared.answer.Refused.{Refused}
+use Rattle.matrix_file.specs.Report.{read_says, with_header}
+use Rattle.matrix_file.specs.Walk.{at_line, passed_says, lines_say, RowsAsked, BranchesAsked, RestAsked}
+use Rattle.matrix_file.proofs.Answering.{line_refused, line_passed, asked_refused, asked_passed}
+use Rattle.matrix_file.proofs.File.HeaderWalk.{first_asked}
 
--- what the questions put to a header bring, by the fields of line 1 and the lines behind it
-abbrev fields_asked : List (List ℕ) → List (List ℕ) → Outcome Header
-fields_asked fields behind =
-    on_line 1
-    (ask (first_form fields) FirstLine
-    (ask (order_known fields) UnknownOrder
-    (ask (within_limits (header_from fields behind).n (header_from fields behind).m) BeyondLimits Asked.Passed)))
-    (on_line 2 (ask_weights (header_from fields behind) behind) (value (header_from fields behind)))
+-- a file that is too long
+pub too_long : (file : List ℕ) → most_bytes < length file → Err FileTooLong ≡ ask_length file
+unfolding ask_length
+too_long file h = rw (lt-leb (length file) most_bytes h)
 
--- the header or a refusal on a line, in document 01's terms
-header_says : (line : ℕ) (asked : Asked) (header : Header) → read_says (header_on line asked header) ≡ on_line line asked (value header)
-header_says line Asked.Passed header = refl
-header_says line (Asked.Refused refusal) header = refl
+-- an empty file
+pub empty : (file : List ℕ) → length file ≡ 0 → Err FileEmpty ≡ ask_length file
+unfolding ask_length
+empty file h = rw h
 
--- the header of a file with line 1
-module _ (file line : List ℕ) (l : line ≡ first_part line_feed file) where
-  -- line 1 is the first part at a line feed
-  line-length : length line ≡ part_length line_feed file
-  line-length = ap length l ∙ first-length line_feed file
-
-  -- it is not ended by a line feed
-  pub no_feed : length line ≡ length file → refused 3 1 ≡ ask_header (lines_of file)
-  unfolding ask_header ask_first_line first_line_form lines_of
-  no_feed e = sym (ap ask_header (parts_one line_feed file (sym line-length ∙ e)))
-
-  module _ (feed : length line ≡ length file → ⊥) where
-    -- the file's lines: line 1, and those behind it
-    lines : lines_of file ≡ line ∷ lines_of (behind_part line_feed file)
-    unfolding lines_of
-    lines =
-        parts_more line_feed file (omega (arith, line-length, part-within line_feed file))
-        ∙ ap (λ x. x ∷ parts_at line_feed (behind_part line_feed file)) (sym l)
-
-    -- its fields and the lines behind it decide
-    fields_decide : ask_header (lines_of file) ≡ fields_asked (fields_of line) (lines_of (behind_part line_feed file))
-    unfolding ask_header ask_first_line first_line_form header_in lines_of
-    fields_decide =
-        let more = parts_some line_feed (behind_part line_feed file) in
-        ap ask_header (lines ∙ ap (◌∷◌ line) more.2) ∙ ap (fields_asked (fields_of line)) (sym more.2)
-
-    -- its form is not right
-    pub bad_first : first_form (fields_of line) ≡ false → refused 3 1 ≡ ask_header (lines_of file)
-    bad_first e = sym (fields_decide ∙ rw e)
-
-    module _ (form : first_form (fields_of line) ≡ true) where
-      -- its form is right, but a fourth field is no word for the order
-      pub bad_order : order_known (fields_of line) ≡ false → refused 15 1 ≡ ask_header (lines_of file)
-      bad_order e = sym (fields_decide ∙ rw (form, e))
-
-      module _ (known : order_known (fields_of line) ≡ true) (behind : List ℕ) (b : behind ≡ behind_part line_feed file) (header : Header)
-          (h : header ≡ header_from (fields_of line) (lines_of behind)) where
-        -- the limits decide, and then the weights
-        limits_decide : ask_header (lines_of file)
-            ≡ on_line 1 (ask (within_limits header.n header.m) BeyondLimits Asked.Passed)
-            (on_line 2 (ask_weights header (lines_of behind)) (value header))
-        limits_decide =
-            fields_decide
-            ∙ ap (λ text. fields_asked (fields_of line) (lines_of text)) (sym b)
-            ∙ rw (form, known)
-            (ap
-            (λ read.
-            on_line 1 (ask (within_limits read.n read.m) BeyondLimits Asked.Passed)
-            (on_line 2 (ask_weights read (lines_of behind)) (value read)))
-            (sym h))
-
-        -- n or m is beyond its limits
-        pub beyond : within_limits header.n header.m ≡ false → refused 4 1 ≡ ask_header (lines_of file)
-        beyond e = sym (limits_decide ∙ rw e)
-
-        -- both are within them: the weights decide
-        pub header_found : within_limits header.n header.m ≡ true → (asked : Asked) → asked ≡ ask_weights header (lines_of behind)
-            → read_says (header_on 2 asked header) ≡ ask_header (lines_of file)
-        header_found e asked a =
-            header_says 2 asked header ∙ ap (λ x. on_line 2 x (value header)) a ∙ sym (limits_decide ∙ rw e)
+-- a file of the right length
+pub right_length : (file : List ℕ) → length file ≤ most_bytes → (length file ≡ 0 → ⊥) → Ok tt ≡ ask_length file
+unfolding ask_length
+right_length file low some = rw (le-leb (length file) most_bytes low, le-leb 1 (length file) (omega arith))
 
 -- something stands behind the last line
 more_than_nothing : (b : ℕ) (bs : List ℕ) → nothing_more (parts_at line_feed (b ∷ bs)) ≡ false
@@ -123,175 +61,190 @@ more_than_nothing b bs = by (eqb b line_feed) refl
     by false e = ap nothing_more (parts_other line_feed b bs e ∙ ap (before_first b) rest.2)
 
 -- the file goes on
-pub goes_on : (rest : List ℕ) → 0 < length rest → Asked.Refused FileGoesOn ≡ ask (nothing_more (lines_of rest)) FileGoesOn Asked.Passed
+pub goes_on : (rest : List ℕ) → (length rest ≡ 0 → ⊥) → Err FileGoesOn ≡ ask (nothing_more (lines_of rest)) FileGoesOn (Ok tt)
 unfolding lines_of
-goes_on [] h = absurd (omega arith)
-goes_on (byte ∷ bytes) h = sym (ap (λ x. ask x FileGoesOn Asked.Passed) (more_than_nothing byte bytes))
+goes_on [] h = absurd (h refl)
+goes_on (byte ∷ bytes) h = sym (ap (λ x. ask x FileGoesOn (Ok tt)) (more_than_nothing byte bytes))
 
 -- it ends
-pub ends : (rest : List ℕ) → length rest ≤ 0 → Asked.Passed ≡ ask (nothing_more (lines_of rest)) FileGoesOn Asked.Passed
+pub ends : (rest : List ℕ) → length rest ≡ 0 → Ok tt ≡ ask (nothing_more (lines_of rest)) FileGoesOn (Ok tt)
 unfolding lines_of nothing_more parts_at
 ends [] h = refl
 ends (byte ∷ bytes) h = absurd (omega arith)
 
--- and of what the file's lines bring, the header alone
-header_on_lem : (line : ℕ) (asked : Asked) (job : Job)
-    → read_says (header_on line asked (header_of job)) ≡ with_header (on_line line asked (value job))
-header_on_lem line Asked.Passed job = refl
-header_on_lem line (Asked.Refused refusal) job = refl
+-- what stands behind line 1, once its questions passed
+behind_first : (file : List ℕ) → ask_first_line (lines_of file) ≡ Ok tt → lines_of (behind_part line_feed file) ≡ drop 1 (lines_of file)
+unfolding ask_first_line lines_of
+behind_first file e =
+    let form = (ask_passed (first_line_form (lines_of file)) FirstLine _ e).0 in
+    sym (ap (drop 1) (parts_several line_feed file (several-lines (lines_of file) form)))
+
+-- the header of a file, once line 1 has been asked
+module _ (file : List ℕ) where
+  -- line 1 is refused
+  pub first_refused : (e : Refused) → at_line 1 (first_asked (lines_of file)) ≡ Err e
+      → refused (refusal_number e.refusal) e.line ≡ ask_header (lines_of file)
+  unfolding ask_header
+  first_refused e h = line_refused 1 (ask_first_line (lines_of file)) (header_in (lines_of file)) _ e h
+
+  -- it passes: the weights decide
+  module _ (header : Header) (h : at_line 1 (first_asked (lines_of file)) ≡ Ok header) (behind : List ℕ)
+      (b : behind ≡ behind_part line_feed file) where
+    -- what then is asked
+    weights_decide : ask_header (lines_of file) ≡ on_line 2 (ask_weights header (lines_of behind)) (value header)
+    unfolding ask_header
+    weights_decide =
+        let passed = line_passed 1 (ask_first_line (lines_of file)) (header_in (lines_of file)) header h in
+        ap
+        (λ asked. on_line 1 asked (on_line 2 (ask_weights (header_in (lines_of file)) (drop 1 (lines_of file))) (value (header_in (lines_of file)))))
+        passed.0
+        ∙ ap₂ (λ said lines. on_line 2 (ask_weights said lines) (value said)) (sym passed.1)
+        (sym (ap lines_of b ∙ behind_first file passed.0))
+
+    -- they are refused
+    pub weights-refused : (asked : Asked) → asked ≡ ask_weights header (lines_of behind) → (e : Refused) → at_line 2 asked ≡ Err e
+        → refused (refusal_number e.refusal) e.line ≡ ask_header (lines_of file)
+    weights-refused asked a e r =
+        asked_refused 2 asked (value header) e r ∙ ap (λ x. on_line 2 x (value header)) a ∙ sym weights_decide
+
+    -- they pass
+    pub weights_passed : (asked : Asked) → asked ≡ ask_weights header (lines_of behind) → {yes : Unit {0}} → at_line 2 asked ≡ Ok yes
+        → value header ≡ ask_header (lines_of file)
+    weights_passed asked a {yes} r =
+        sym (weights_decide ∙ ap (λ x. on_line 2 x (value header)) (sym a ∙ asked_passed 2 asked {yes = yes} r))
 
 -- what follows the `C` lines of a file that says a job: the end of the file, and whether its branching is one
 abbrev after_branches : Job → ℕ → List (List ℕ) → Outcome Job
 after_branches job = ask_end (on_line 0 (ask_tree job.kind job.n job.ancestors) (value job))
 
+-- the header or a refusal on a line, and of what the file's lines bring the header alone
+header_says : (line : ℕ) (asked : Asked) (job : Job)
+    → passed_says (header_of job) (at_line line asked) ≡ with_header (on_line line asked (value job))
+header_says line (Ok _) job = refl
+header_says line (Err refusal) job = refl
+
 -- what stands behind the rows of a file, once its `C` lines have been asked
-module _ (rest : List ℕ) (line : ℕ) (header : Header) (count : ℕ) (c : count ≡ branch_count header.kind header.n) (answer : LinesAnswer)
-    (asked : BranchesAsked rest count line answer) where
+module _ (rest : List ℕ) (line : ℕ) (header : Header) (count : ℕ) (c : count ≡ branch_count header.kind header.n)
+    (answer : Result (List ℕ) Refused) (asked : BranchesAsked rest count line answer) where
   -- what they bring, of a job with this header
-  branches_say : (job : Job) → header_of job ≡ header → lines_say rest answer (after_branches job) ≡ ask_after job line (lines_of rest)
+  branches_say : (job : Job) → header_of job ≡ header → lines_say answer (line + count) (after_branches job) ≡ ask_after job line (lines_of rest)
   unfolding ask_after
   branches_say job h =
       asked.says (after_branches job)
       ∙ ap (λ k. ask_branches line 2 k (lines_of rest) (after_branches job)) (c ∙ ap (λ said. branch_count said.kind said.n) (sym h))
 
   -- they are refused
-  pub branches-refused : (refusal : Refusal) (at : ℕ) → answer ≡ LinesAnswer.Refused refusal at → (r : Read) → r ≡ Refused refusal at
-      → RestAsked rest line header r
-  branches-refused refusal at e r said =
+  pub branches-refused : (e : Refused) → answer ≡ Err e → RestAsked rest line header (Err e)
+  branches-refused e a =
       record {
-        says =
-            λ job h a.
-            ap read_says said
-            ∙ ap with_header (sym (ap (λ x. lines_say rest x (after_branches job)) e) ∙ branches_say job h);
+        says = λ job h above. ap with_header (sym (ap (λ x. lines_say x (line + count) (after_branches job)) a) ∙ branches_say job h);
       }
 
   -- they end, and the end of the file was asked
-  module _ (at next : ℕ) (e : answer ≡ LinesAnswer.Ended at next) (behind : List ℕ) (b : behind ≡ drop at rest) (end : Asked)
-      (q : end ≡ ask (nothing_more (lines_of behind)) FileGoesOn Asked.Passed) where
+  module _ (behind : List ℕ) (a : answer ≡ Ok behind) (end : Asked) (q : end ≡ ask (nothing_more (lines_of behind)) FileGoesOn (Ok tt)) where
     -- the end decides, and then the branching
     end_decides : (job : Job) → header_of job ≡ header
-        → ask_after job line (lines_of rest) ≡ on_line next end (on_line 0 (ask_tree job.kind job.n job.ancestors) (value job))
+        → ask_after job line (lines_of rest) ≡ on_line (line + count) end (on_line 0 (ask_tree job.kind job.n job.ancestors) (value job))
     unfolding ask_end
     end_decides job h =
         sym (branches_say job h)
-        ∙ ap (λ x. lines_say rest x (after_branches job)) e
-        ∙ ap (λ x. on_line next x (on_line 0 (ask_tree job.kind job.n job.ancestors) (value job)))
-        (ap (λ text. ask (nothing_more (lines_of text)) FileGoesOn Asked.Passed) (sym b) ∙ sym q)
+        ∙ ap (λ x. lines_say x (line + count) (after_branches job)) a
+        ∙ ap (λ x. on_line (line + count) x (on_line 0 (ask_tree job.kind job.n job.ancestors) (value job))) (sym q)
 
     -- the file goes on
-    pub end_refused : (refusal : Refusal) → end ≡ Asked.Refused refusal → (r : Read) → r ≡ Refused refusal next → RestAsked rest line header r
-    end_refused refusal t r said =
-        record {
-          says =
-              λ job h a.
-              ap read_says said
-              ∙ sym (ap with_header
-              (end_decides job h ∙ ap (λ x. on_line next x (on_line 0 (ask_tree job.kind job.n job.ancestors) (value job))) t));
-        }
+    pub end_refused : (e : Refused) → at_line (line + count) end ≡ Err e → RestAsked rest line header (Err e)
+    end_refused e r =
+        record { says = λ job h above. ap with_header (asked_refused (line + count) end _ e r ∙ sym (end_decides job h)) }
 
     -- the `C` lines have the right form
     pub branches-formed : BranchesFormed (branch_count header.kind header.n) rest
-    branches-formed = rw c at (asked.ends at next e).1
+    branches-formed = rw c at (asked.ends behind a).1
 
     -- it ends: the branching decides
-    pub tree_decides : end ≡ Asked.Passed → (tree : Asked)
+    pub tree_decides : {yes : Unit {0}} → at_line (line + count) end ≡ Ok yes → (tree : Asked)
         → tree ≡ ask_tree header.kind header.n (map ancestor_in (take (branch_count header.kind header.n) (lines_of rest)))
-        → (r : Read) → r ≡ header_on 0 tree header → RestAsked rest line header r
-    tree_decides t tree w r said =
+        → (r : Result (Unit {0}) Refused) → r ≡ at_line 0 tree → RestAsked rest line header r
+    tree_decides {yes} t tree w r said =
         record {
           says =
-              λ job h a.
-              ap read_says said
-              ∙ ap₂ (λ x found. read_says (header_on 0 x found))
-              (w ∙ ap₂ (λ found above. ask_tree found.kind found.n above) (sym h) (sym a)) (sym h)
-              ∙ header_on_lem 0 (ask_tree job.kind job.n job.ancestors) job
+              λ job h above.
+              ap (passed_says header) said
+              ∙ ap₂ (λ found x. passed_says found (at_line 0 x)) (sym h)
+              (w ∙ ap₂ (λ found ancestors. ask_tree found.kind found.n ancestors) (sym h) (sym above))
+              ∙ header_says 0 (ask_tree job.kind job.n job.ancestors) job
               ∙ sym (ap with_header
-              (end_decides job h ∙ ap (λ x. on_line next x (on_line 0 (ask_tree job.kind job.n job.ancestors) (value job))) t));
+              (end_decides job h
+              ∙ ap (λ x. on_line (line + count) x (on_line 0 (ask_tree job.kind job.n job.ancestors) (value job)))
+              (asked_passed (line + count) end {yes = yes} t)));
         }
 
 -- what stands behind the header of a file, once its rows have been asked
 module _ (file : List ℕ) (header : Header) (passed : ℕ) (p : passed ≡ header_lines header) (rows : List ℕ)
-    (r : lines_of rows ≡ drop passed (lines_of file)) (answer : LinesAnswer) (asked : RowsAsked rows header (passed + 1) answer) where
+    (r : lines_of rows ≡ drop passed (lines_of file)) (answer : Result (List ℕ) Refused) (asked : RowsAsked rows header (passed + 1) answer) where
   -- the job that its lines say
   abbrev job : Job
   job = job_of header (lines_of file)
 
   -- what the rows bring, and then what stands behind them
-  rows_say : lines_say rows answer (ask_after job) ≡ ask_behind header (lines_of file)
+  rows_say : lines_say answer (passed + 1 + header.n) (ask_after job) ≡ ask_behind header (lines_of file)
   unfolding ask_behind
   rows_say =
       asked.says (ask_after job)
       ∙ ap₂ (λ k lines. ask_rows header [] (k + 1) header.n lines (ask_after job)) p (r ∙ ap (λ k. drop k (lines_of file)) p)
 
   -- the rows are refused
-  pub rows-refused : (refusal : Refusal) (line : ℕ) → answer ≡ LinesAnswer.Refused refusal line
-      → refused (refusal_number refusal) line ≡ with_header (ask_behind header (lines_of file))
-  rows-refused refusal line e = ap with_header (sym (ap (λ x. lines_say rows x (ask_after job)) e) ∙ rows_say)
+  pub rows-refused : (e : Refused) → answer ≡ Err e → passed_says header (Err e) ≡ with_header (ask_behind header (lines_of file))
+  rows-refused e a = ap with_header (sym (ap (λ x. lines_say x (passed + 1 + header.n) (ask_after job)) a) ∙ rows_say)
 
-  -- they end
-  module _ (at line : ℕ) (e : answer ≡ LinesAnswer.Ended at line) where
-    -- in front of a line with a low number
-    pub next_low : header.n ≤ 64 → line ≤ behind_rows_most
-    next_low most = omega (arith, (asked.ends at line e).next, p, taken_most header.weighed)
+  -- they end: what stands behind them decides
+  pub rest_decides : (rest : List ℕ) → answer ≡ Ok rest → (said : Result (Unit {0}) Refused)
+      → RestAsked rest (passed + 1 + header.n) header said → passed_says header said ≡ with_header (ask_behind header (lines_of file))
+  unfolding job_of
+  rest_decides rest a said found =
+      let lines : lines_of rest ≡ behind_rows header (lines_of file) =
+      asked.ends rest a ∙ ap (drop header.n) (r ∙ ap (λ k. drop k (lines_of file)) p) in
+      found.says job refl (ap (λ all. map ancestor_in (take (branch_count header.kind header.n) all)) (sym lines))
+      ∙ ap with_header (sym (ap (λ x. lines_say x (passed + 1 + header.n) (ask_after job)) a) ∙ rows_say)
 
-    -- what stands behind them decides
-    pub rest_decides : (rest : List ℕ) → rest ≡ drop at rows → (said : Read) → RestAsked rest line header said
-        → read_says said ≡ with_header (ask_behind header (lines_of file))
-    unfolding job_of
-    rest_decides rest d said found =
-        let lines : lines_of rest ≡ behind_rows header (lines_of file) =
-        ap lines_of d ∙ (asked.ends at line e).rest ∙ ap (drop header.n) (r ∙ ap (λ k. drop k (lines_of file)) p) in
-        found.says job refl (ap (λ all. map ancestor_in (take (branch_count header.kind header.n) all)) (sym lines))
-        ∙ ap with_header
-        (ap (λ text. ask_after job line (lines_of text)) d ∙ sym (ap (λ x. lines_say rows x (ask_after job)) e) ∙ rows_say)
-
--- a file that is too long, and an empty one
-pub too_long : (file : List ℕ) → most_bytes < length file → refused 1 0 ≡ with_header (read_answer file)
-unfolding read_answer ask_length
-too_long file h = rw (lt-leb (length file) most_bytes h)
-
--- an empty file
-pub empty : (file : List ℕ) → length file ≡ 0 → refused 2 0 ≡ with_header (read_answer file)
-unfolding read_answer ask_length
-empty file h = rw h
+-- a file whose length is refused
+pub length-refused : (file : List ℕ) (e : Refused) → at_line 0 (ask_length file) ≡ Err e
+    → refused (refusal_number e.refusal) e.line ≡ with_header (read_answer file)
+unfolding read_answer
+length-refused file e h = ap with_header (asked_refused 0 (ask_length file) (ask_file (lines_of file)) e h)
 
 -- a file of the right length, whose header has been asked
-module _ (file : List ℕ) (low : length file ≤ most_bytes) (some : length file ≡ 0 → ⊥) (answer : Read)
+module _ (file : List ℕ) {yes : Unit {0}} (l : at_line 0 (ask_length file) ≡ Ok yes) (answer : Result Header Refused)
     (a : read_says answer ≡ ask_header (lines_of file)) where
   -- the header and what stands behind it decide
   sized : read_answer file ≡ then_with (read_says answer) (λ header. ask_behind header (lines_of file))
-  unfolding read_answer ask_length ask_file
+  unfolding read_answer ask_file
   sized =
-      rw (le-leb (length file) most_bytes low, le-leb 1 (length file) (omega arith))
-      (ap (λ outcome. then_with outcome (λ header. ask_behind header (lines_of file))) (sym a))
+      ap (λ asked. on_line 0 asked (ask_file (lines_of file))) (asked_passed 0 (ask_length file) {yes = yes} l)
+      ∙ ap (λ outcome. then_with outcome (λ header. ask_behind header (lines_of file))) (sym a)
 
   -- the header is refused
-  pub header_refused : (refusal : Refusal) (line : ℕ) → answer ≡ Refused refusal line
-      → refused (refusal_number refusal) line ≡ with_header (read_answer file)
-  header_refused refusal line e =
-      sym (ap with_header (sized ∙ ap (λ r. then_with (read_says r) (λ header. ask_behind header (lines_of file))) e))
+  pub header_refused : (e : Refused) → answer ≡ Err e → refused (refusal_number e.refusal) e.line ≡ with_header (read_answer file)
+  header_refused e h = sym (ap with_header (sized ∙ ap (λ r. then_with (read_says r) (λ header. ask_behind header (lines_of file))) h))
 
-  module _ (header : Header) (e : answer ≡ Accepted header) where
+  module _ (header : Header) (h : answer ≡ Ok header) where
     -- what it was answered
     passed : HeaderPassed (lines_of file) header
-    passed = header_passed (lines_of file) header (sym a ∙ ap read_says e)
+    passed = header_passed (lines_of file) header (sym a ∙ ap read_says h)
 
     -- lines stand behind it
     pub header_several : header_lines header < length (lines_of file)
-    header_several =
-        rw passed.is at (header_behind (lines_of file) (several-lines (lines_of file) passed.form) passed.weights)
+    header_several = rw passed.is at (header_behind (lines_of file) (several-lines (lines_of file) passed.form) passed.weights)
 
-    -- it has at most 64 taxa, and a character
-    pub header_limits : (header.n ≤ 64) × (1 ≤ header.m)
+    -- it has at most 64 taxa
+    pub taxa_few : header.n ≤ 64
     unfolding within_limits
-    header_limits =
+    taxa_few =
         let limits : within_limits header.n header.m ≡ true =
         ap (λ read. within_limits read.n read.m) (sym passed.is) ∙ passed.limits in
         let both = (and-eq-true_iff (one_to 64 header.n) (one_to 128 header.m)).0 limits in
-        ((one_to-true 64 header.n both.0).1, (one_to-true 128 header.m both.1).0)
+        (one_to-true 64 header.n both.0).1
 
     -- what stands behind it decides
-    pub behind_decides : (outcome : Outcome Header) → outcome ≡ with_header (ask_behind header (lines_of file))
-        → outcome ≡ with_header (read_answer file)
-    behind_decides outcome o =
-        o ∙ sym (ap with_header (sized ∙ ap (λ r. then_with (read_says r) (λ header. ask_behind header (lines_of file))) e))
+    pub behind_decides : (r : Result (Unit {0}) Refused) → passed_says header r ≡ with_header (ask_behind header (lines_of file))
+        → passed_says header r ≡ with_header (read_answer file)
+    behind_decides r o = o ∙ sym (ap with_header (sized ∙ ap (λ x. then_with (read_says x) (λ header. ask_behind header (lines_of file))) h))

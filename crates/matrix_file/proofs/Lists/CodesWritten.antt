@@ -1,72 +1,84 @@
--- What a loop knows that writes the codes of a row.
+-- The codes of a row, written field by field.
 use mathlib.Core.Path.{◌≡◌, refl, sym, ap, ap₂, ◌∙◌}
 use mathlib.Core.Bool.{true}
 use mathlib.Core.List.{List, [], ◌∷◌, map}
-use Prim.Native.Nat.{ℕ, ◌+◌, ◌≤◌, ◌<◌}
+use Prim.Native.Nat.{ℕ, zero, suc, ◌+◌, ◌<◌}
+use native.Mathlib.Nat.{zero-add}
 use native.Mathlib.Omega.{arith}
 use lib.IntN.{ℤ}
-use lib.ListN.{length, take, drop, set, length-set, length-drop, length-map, get_or-map}
-use Rattle.matrix_file.proofs.Lists.LinesWalk.{rest_below, rest_at, rest-next}
-use Rattle.file_form.proofs.Text.PartsFrom.{parts_from, from_start, from_past, from_next, next-within}
-use Rattle.file_form.specs.Bytes.{tab, first_part}
+use lib.ListN.{length, get_or, take, drop, set, length-map, get_or-map}
+use lib.IntN.{pos}
+use Rattle.std.specs.Prelude.{Option, Some}
+use Rattle.std.specs.Option.{unwrap_or}
+use lib.Dec.{eqb}
+use Rattle.file_form.specs.Bytes.{tab}
+use Rattle.file_form.proofs.Text.Slices.{parts_split}
+use Rattle.std.specs.List.{enumerate_from, slice_split}
+use Rattle.std.proofs.lemmas.List.FromFn.{length-enumerate_from, get_or-enumerate_from}
 use Rattle.file_form.specs.Decimal.{code_form, code_of}
 use Rattle.file_form.specs.Lines.{fields_of}
+use Rattle.file_form.specs.Rows.{codes_in}
 use Rattle.lists.specs.Over.{over}
-use Rattle.lists.proofs.Over.{over_nothing}
-use Rattle.matrix_file.proofs.Lists.WrittenLines.{over-next, over-all}
 use Rattle.lists.specs.Tests.{every}
 use Rattle.lists.proofs.Every.{every_at}
+use Rattle.matrix_file.specs.Walk.{read_as}
+use Rattle.matrix_file.proofs.ReadAs.{read_formed}
+use Rattle.matrix_file.proofs.Lists.WrittenLines.{over-next, over-all}
 
--- what a loop that writes codes knows at a place of the text: j codes are written, and the fields behind them are left
-pub record CodesWritten (old : List ℤ) (text : List ℕ) (out : List ℤ) (j at : ℕ) : Type 0 where
-  pub near : at ≤ length text + 1
-  pub most : j ≤ length (fields_of text)
-  pub full : length out ≡ length old
-  pub left : drop j (fields_of text) ≡ parts_from tab text at
-  pub written : out ≡ over 0 (take j (map code_of (fields_of text))) old
+-- what stands at a place of a list does not depend on what stands behind its end
+get_or_any : {A : Type 0} (xs : List A) (i : ℕ) (d e : A) → i < length xs → get_or xs i d ≡ get_or xs i e
+get_or_any [] i d e h = absurd (omega arith)
+get_or_any (x ∷ xs) zero d e h = refl
+get_or_any (x ∷ xs) (suc i) d e h = get_or_any xs i d e (omega arith)
 
--- at the start
-pub none_written : (old : List ℤ) (text : List ℕ) → CodesWritten old text old 0 0
+-- the parts of a line behind the first one, as a loop goes over them
+abbrev parts : List ℕ → List (List ℕ)
+parts line = drop 1 (slice_split (λ byte. eqb byte tab) line)
+
+-- they are its fields behind the first one
+parts_fields : (line : List ℕ) → parts line ≡ drop 1 (fields_of line)
 unfolding fields_of
-none_written old text =
-    record { near = omega arith; most = omega arith; full = refl; left = sym (from_start tab text); written = sym (over_nothing 0 old) }
+parts_fields line = ap (drop 1) (sym (parts_split tab line))
 
-module _ (old : List ℤ) (text : List ℕ) (out : List ℤ) (j at : ℕ) (rest field : List ℕ) (inv : CodesWritten old text out j at)
-    (h : at ≤ length text) (r : rest ≡ drop at text) (f : field ≡ first_part tab rest) where
-  -- the fields that are left: this one, and those behind it
-  these : drop j (fields_of text) ≡ field ∷ parts_from tab text (at + length field + 1)
-  these = inv.left ∙ from_next tab text at rest field h r f
+-- a turn of a loop over them, with their places, behind `count` of them: this field and its place
+pub field_turn : (line : List ℕ) (count : ℕ) (p : ℕ × List ℕ)
+    → (count < length (enumerate_from 0 (parts line))) × (p ≡ get_or (enumerate_from 0 (parts line)) count p)
+    → (p.0 ≡ count) × (count < length (drop 1 (fields_of line))) × (p.1 ≡ get_or (drop 1 (fields_of line)) count [])
+field_turn line count p turn =
+    let below : count < length (parts line) = omega (arith, turn.0, length-enumerate_from 0 (parts line)) in
+    let same : p ≡ (0 + count, get_or (parts line) count p.1) = turn.1 ∙ get_or-enumerate_from 0 (parts line) count p below in (
+      ap (λ q. q.0) same ∙ zero-add count,
+      omega (arith, below, ap length (parts_fields line)),
+      ap (λ q. q.1) same ∙ get_or_any (parts line) count p.1 [] below ∙ ap (λ all. get_or all count []) (parts_fields line),
+    )
 
-  -- the field is the one at j
-  pub below : j < length (fields_of text)
-  below = rest_below (fields_of text) j field _ these
+-- and when it ends, all of them have been passed
+pub fields_passed : (line : List ℕ) (count : ℕ) → count ≡ length (enumerate_from 0 (parts line)) → count ≡ length (drop 1 (fields_of line))
+fields_passed line count e = e ∙ length-enumerate_from 0 (parts line) ∙ ap length (parts_fields line)
 
-  -- it has the form of a code
-  pub formed : every code_form (fields_of text) ≡ true → code_form field ≡ true
-  formed all = ap code_form (sym (rest_at (fields_of text) j field _ these [])) ∙ every_at code_form (fields_of text) all j [] below
+-- the codes of a line whose fields behind the first one have the form of codes
+module _ (line : List ℕ) (all : every code_form (drop 1 (fields_of line)) ≡ true) where
+  -- these fields
+  abbrev fields : List (List ℕ)
+  fields = drop 1 (fields_of line)
 
-  -- one code more
-  pub one_more : (code : ℤ) → length (fields_of text) ≤ length old → code ≡ code_of field
-      → CodesWritten old text (set out j code) (j + 1) (at + length field + 1)
-  one_more code room e =
-      let in-text = next-within tab text at rest field h r f in
-      record {
-        near = omega arith;
-        most = omega (arith, below);
-        full = length-set out j code ∙ inv.full;
-        left = rest-next (fields_of text) j field _ these;
-        written =
-            let in-codes : j < length (map code_of (fields_of text)) = omega (arith, below, length-map (fields_of text) code_of) in
-            ap₂ (λ xs x. set xs j x) inv.written
-            (e ∙ ap code_of (sym (rest_at (fields_of text) j field _ these [])) ∙ sym (get_or-map code_of (fields_of text) j []))
-            ∙ over-next (code_of []) (map code_of (fields_of text)) old j in-codes;
-      }
+  -- what the field at a place says is the next code
+  pub code_next : (old out : List ℤ) (count place : ℕ) (field : List ℕ) (code : ℤ) (r : Option ℤ)
+      → (place ≡ count) × (count < length fields) × (field ≡ get_or fields count [])
+      → out ≡ over 0 (take count (codes_in line)) old → r ≡ read_as code_form code_of field → code ≡ unwrap_or r (pos 0)
+      → set out place code ≡ over 0 (take (count + 1) (codes_in line)) old
+  unfolding codes_in
+  code_next old out count place field code r turn inv e w =
+      let form = ap code_form turn.2 ∙ every_at code_form fields all count [] turn.1 in
+      let said : r ≡ Some (code_of field) = e ∙ sym (read_formed code_form code_of field (code_of field) form refl) in
+      let is : code ≡ get_or (map code_of fields) count (code_of []) =
+      w ∙ ap (λ x. unwrap_or x (pos 0)) said ∙ ap code_of turn.2 ∙ sym (get_or-map code_of fields count []) in
+      let room : count < length (map code_of fields) = omega (arith, turn.1, length-map fields code_of) in
+      ap (λ k. set out k code) turn.0 ∙ ap₂ (λ xs x. set xs count x) inv is ∙ over-next (code_of []) (map code_of fields) old count room
 
 -- all codes
-pub all_written : (old : List ℤ) (text : List ℕ) (out : List ℤ) (j at : ℕ) → CodesWritten old text out j at → length text < at
-    → out ≡ over 0 (map code_of (fields_of text)) old
-all_written old text out j at inv h =
-    let none = ap length (inv.left ∙ from_past tab text at h) in
-    let count : j ≡ length (map code_of (fields_of text)) = omega
-    (arith, inv.most, length-drop j (fields_of text), length-map (fields_of text) code_of) in
-    inv.written ∙ over-all (map code_of (fields_of text)) old j (omega arith)
+pub codes_all : (line : List ℕ) (old out : List ℤ) (count : ℕ) → count ≡ length (drop 1 (fields_of line))
+    → out ≡ over 0 (take count (codes_in line)) old → out ≡ over 0 (codes_in line) old
+unfolding codes_in
+codes_all line old out count e inv =
+    inv ∙ over-all (codes_in line) old count (omega (arith, e, length-map (drop 1 (fields_of line)) code_of))

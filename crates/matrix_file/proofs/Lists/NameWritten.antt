@@ -1,30 +1,45 @@
--- What a loop knows that writes a padded name.
-use mathlib.Core.Path.{◌≡◌, sym, ap₂, ◌∙◌}
-use mathlib.Core.List.{List}
-use Prim.Native.Nat.{ℕ, ◌+◌, ◌≤◌, ◌<◌}
+-- A padded name over the front of a list: the name, and zeros behind it.
+use mathlib.Core.Path.{◌≡◌, refl, sym, ap, ap₂, ◌∙◌}
+use mathlib.Core.List.{List, ◌++◌, append_assoc}
+use Prim.Native.Nat.{ℕ, ◌+◌, ◌-◌, ◌≤◌}
+use native.Mathlib.Nat.{zero-add}
 use native.Mathlib.Omega.{arith}
-use lib.ListN.{length, get_or, take, set, length-set}
+use borrow.Rule.Slice.PartMut.{put_mid}
+use lib.ListN.{length, take, drop, replicate, length-append, length-drop}
+use lib.Seq.{take_at, drop_at, length-take-le}
+use Rattle.std.proofs.lemmas.List.{drop-drop}
+use Rattle.lists.specs.Filled.{filled}
 use Rattle.lists.specs.Over.{over}
-use Rattle.lists.proofs.Filled.{filled_at, length-filled}
+use Rattle.lists.proofs.Filled.{length-filled}
+use Rattle.lists.proofs.Over.{over-fits}
 use Rattle.file_form.specs.Written.{padded}
 use Rattle.file_form.specs.Job.{name_size}
-use Rattle.matrix_file.proofs.Lists.WrittenLines.{over-next, over-all}
 
--- what a loop that writes a name knows at place i: the first i bytes are those of the padded name
-abbrev pub Padded : List ℕ → List ℕ → List ℕ → ℕ → Type 0
-Padded old name out i = (i ≤ name_size) × (length out ≡ length old) × (out ≡ over 0 (take i (padded name)) old)
+-- a name written, and zeros behind it up to the size
+pub name_put : (out name front zeros : List ℕ) → length name ≤ name_size → name_size ≤ length out → front ≡ name
+    → zeros ≡ replicate (name_size - length name) 0
+    → put_mid (length name) (name_size - length name) (front ++ drop (length name) out) zeros ≡ over 0 (padded name) out
+unfolding filled
+name_put out name front zeros short room f z =
+    let left : ℕ = name_size - length name in
+    let whole : length name + left ≡ name_size = omega arith in
+    let size : length (padded name) ≡ name_size = length-filled 0 name_size name short in
+    ap₂ (λ xs ys. put_mid (length name) left (xs ++ drop (length name) out) ys) f z
+    ∙ ap₂ (λ xs ys. xs ++ (replicate left 0 ++ ys)) (take_at name (drop (length name) out) (length name) refl)
+    (ap (drop left) (drop_at name (drop (length name) out) (length name) refl) ∙ drop-drop left (length name) out)
+    ∙ sym (append_assoc name (replicate left 0) (drop (length name + left) out))
+    ∙ ap (λ k. padded name ++ drop k out) (whole ∙ sym size ∙ sym (zero-add (length (padded name))))
+    ∙ sym (over-fits 0 (padded name) out (omega arith))
 
--- one byte more
-pub one_more : (old name out : List ℕ) (i byte : ℕ) → Padded old name out i → i < name_size → length name ≤ name_size → byte ≡ get_or name i 0
-    → Padded old name (set out i byte) (i + 1)
-one_more old name out i byte inv h short e = (
-  omega arith,
-  length-set out i byte ∙ inv.1,
-  ap₂ (λ xs x. set xs i x) inv.2 (e ∙ sym (filled_at 0 name_size name i))
-      ∙ over-next 0 (padded name) old i (omega (arith, length-filled 0 name_size name short)),
-)
-
--- all bytes
-pub all_written : (old name out : List ℕ) (i : ℕ) → Padded old name out i → name_size ≤ i → length name ≤ name_size
-    → out ≡ over 0 (padded name) old
-all_written old name out i inv h short = inv.2 ∙ over-all (padded name) old i (omega (arith, length-filled 0 name_size name short))
+-- the part behind the name has room for so many zeros
+pub zeros_room : (out name front : List ℕ) → length name ≤ name_size → name_size ≤ length out → front ≡ name
+    → length (take (name_size - length name) (drop (length name) (front ++ drop (length name) out))) ≡ name_size - length name
+zeros_room out name front short room f =
+    length-take-le (name_size - length name) (drop (length name) (front ++ drop (length name) out))
+    (omega (
+      arith,
+      length-drop (length name) (front ++ drop (length name) out),
+      length-append front (drop (length name) out),
+      length-drop (length name) out,
+      ap length f,
+    ))

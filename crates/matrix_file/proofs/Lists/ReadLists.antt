@@ -15,7 +15,7 @@ use Rattle.lists.proofs.Filled.{length-filled}
 use Rattle.lists.proofs.Over.{length_over, over_item, over-behind}
 use Rattle.lists.proofs.Stripes.{Narrow, length-stripes, stripes_item, stripes-else}
 use Rattle.matrix.specs.declared.refusal.Refusal.TheVariants.{ListSize}
-use Rattle.matrix.specs.declared.refusal.Asked.TheVariants.{Passed}
+use Rattle.std.specs.Prelude.{Result, Ok}
 use Rattle.matrix.specs.Outcomes.{value, afterwards}
 use Rattle.branching.specs.LentNumbers.{lent_numbers, records_for, records_written}
 use Rattle.lists.specs.Over.{stripes}
@@ -26,8 +26,7 @@ use Rattle.file_form.specs.declared.header.Header.{Header}
 use Rattle.matrix.specs.Shape.{columns, matrix_size, row, is_weight}
 use Rattle.lists.specs.Tests.{every}
 use Rattle.matrix.specs.Questions.{all_in_range, are_weights, LentMatrix, LentWeights, one_to, within_limits}
-use Rattle.matrix_file.specs.declared.answer.Read.{Read}
-use Rattle.matrix_file.specs.declared.answer.Read.TheVariants.{Accepted}
+use Rattle.matrix_file.specs.declared.answer.Refused.{Refused}
 use Rattle.file_form.specs.Job.{Job, JobWithinLimits, has_codes, name_form, name_size}
 use Rattle.file_form.specs.Reading.{read_answer}
 use Rattle.matrix_file.specs.Report.{read_says, ask_size, read_outcome, lists_after, ReadDone}
@@ -194,13 +193,13 @@ pub record Accepting (file : List ℕ) (old new : LentLists) (header : Header) :
   pub written : new ≡ job_written job old
 
 -- an accepted read tells so
-pub read_accepting : (file : List ℕ) (old new : LentLists) (r : Read) (header : Header) → ReadDone file old new r → r ≡ Accepted header
+pub read_accepting : (file : List ℕ) (old new : LentLists) (r : Result Header Refused) (header : Header) → ReadDone file old new r → r ≡ Ok header
     → Accepting file old new header
 unfolding read_outcome ask_size lists_after
 read_accepting file old new r header done e =
     let found = then_passed (read_outcome file old) (λ job. value (header_of job)) header (sym done.says ∙ ap read_says e) in
     let size = line_passed 0 (ask_size old) (read_answer file) found.0 found.1 in
-    let full = (ask_passed (sized file old) ListSize Passed size.0).0 in
+    let full = (ask_passed (sized file old) ListSize (Ok tt) size.0).0 in
     record {
       job = found.0;
       read = size.1;
@@ -212,7 +211,7 @@ read_accepting file old new r header done e =
     }
 
 -- a `W` file leaves the lent records as they were
-pub wagner-keeps : (file : List ℕ) (old new : LentLists) (r : Read) (header : Header) → ReadDone file old new r → r ≡ Accepted header
+pub wagner-keeps : (file : List ℕ) (old new : LentLists) (r : Result Header Refused) (header : Header) → ReadDone file old new r → r ≡ Ok header
     → header.kind ≡ Wagner → new.branches ≡ old.branches
 unfolding records_for stripes zip_with numbers
 wagner-keeps file old new r header done e kind =

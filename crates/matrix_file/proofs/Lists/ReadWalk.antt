@@ -1,7 +1,7 @@
 -- A read into lent lists, step by step: lists of wrong size, a refused file, and an accepted one that is written.
-use mathlib.Core.Path.{◌≡◌, sym, ap, ap₂, ◌∙◌}
+use mathlib.Core.Path.{◌≡◌, refl, sym, ap, ap₂, ◌∙◌}
 use mathlib.Core.Logic.Iff
-use mathlib.Core.Bool.{Bool, true, false, ◌||◌, not}
+use mathlib.Core.Bool.{Bool, true, false, ◌&&◌, ◌||◌, not}
 use mathlib.Core.List.{List, map, map-map}
 use Prim.Native.Nat.{ℕ, ◌≤◌, ◌<◌}
 use native.Mathlib.Omega.{arith}
@@ -12,11 +12,10 @@ use Rattle.lists.proofs.Both.{and_left, and_right, implies_iff}
 use Rattle.matrix.specs.Shape.{columns, matrix_size}
 use Rattle.matrix.specs.Refusals.{refusal_number}
 use Rattle.matrix.specs.Outcomes.{value, refused, afterwards}
-use Rattle.matrix.specs.declared.refusal.Refusal.{Refusal}
 use Rattle.matrix.specs.declared.refusal.Refusal.TheVariants.{ListSize}
 use Rattle.file_form.specs.declared.header.Header.{Header}
-use Rattle.matrix_file.specs.declared.answer.Read.{Read}
-use Rattle.matrix_file.specs.declared.answer.Read.TheVariants.{Accepted, Refused}
+use Rattle.std.specs.Prelude.{Result, Ok, Err}
+use Rattle.matrix_file.specs.declared.answer.Refused.{Refused}
 use Rattle.file_form.specs.Bytes.{line_feed, behind_part}
 use Rattle.file_form.specs.Job.{Job}
 use Rattle.file_form.specs.Lines.{lines_of}
@@ -39,7 +38,18 @@ use Rattle.file_form.proofs.File.FileLength.{count_most}
 
 -- lent lists of full size, by their lengths
 module _ (matrix weights names branches : ℕ) where
-  -- the tests one after another
+  -- the tests together are those one after another
+  pub in_turn : ((eqb matrix matrix_size && eqb weights columns) && eqb names names_size) && eqb branches lent_numbers
+      ≡ full_size matrix weights names branches
+  unfolding full_size
+  in_turn = by (eqb matrix matrix_size) (eqb weights columns) (eqb names names_size) (eqb branches lent_numbers)
+    where
+      by : (a b c d : Bool) → ((a && b) && c) && d ≡ a && (b && (c && d))
+      by true true c d = refl
+      by true false c d = refl
+      by false b c d = refl
+
+  -- lists that have their sizes pass them
   pub full-lists : (matrix ≡ matrix_size) × (weights ≡ columns) × (names ≡ names_size) × (branches ≡ lent_numbers)
       → full_size matrix weights names branches ≡ true
   unfolding full_size
@@ -71,7 +81,7 @@ module _ (file : List ℕ) (lists : LentLists) where
   sized = full_size (length lists.matrix) (length lists.weights) (length lists.names) (length lists.branches)
 
   -- a refusal, with lists as they were
-  done : (answer : Read) (number line : ℕ) → read_says answer ≡ refused number line → read_outcome file lists ≡ refused number line
+  done : (answer : Result Header Refused) (number line : ℕ) → read_says answer ≡ refused number line → read_outcome file lists ≡ refused number line
       → ReadDone file lists lists answer
   unfolding lists_after
   done answer number line a e =
@@ -81,7 +91,7 @@ module _ (file : List ℕ) (lists : LentLists) where
       }
 
   -- one has not its full size
-  pub read_unsized : (answer : Read) → answer ≡ Refused ListSize 0 → sized ≡ false → ReadDone file lists lists answer
+  pub read_unsized : (answer : Result Header Refused) → answer ≡ Err (record { refusal = ListSize; line = 0 }) → sized ≡ false → ReadDone file lists lists answer
   unfolding read_outcome ask_size
   read_unsized answer a h = done answer 12 0 (ap read_says a) (rw h)
 
@@ -91,17 +101,16 @@ module _ (file : List ℕ) (lists : LentLists) where
   full h = rw h
 
   -- it was asked
-  module _ (h : sized ≡ true) (answer : Read) (a : read_says answer ≡ with_header (read_answer file)) where
+  module _ (h : sized ≡ true) (answer : Result Header Refused) (a : read_says answer ≡ with_header (read_answer file)) where
     -- it is refused
-    pub read_refused : (refusal : Refusal) (line : ℕ) → answer ≡ Refused refusal line → (r : Read) → r ≡ Refused refusal line
-        → ReadDone file lists lists r
-    read_refused refusal line e r said =
-        done r (refusal_number refusal) line (ap read_says said)
-        (full h ∙ then_refused (read_answer file) header_of (refusal_number refusal) line (sym a ∙ ap read_says e))
+    pub read_refused : (e : Refused) → answer ≡ Err e → ReadDone file lists lists (Err e)
+    read_refused e r =
+        done (Err e) (refusal_number e.refusal) e.line refl
+        (full h ∙ then_refused (read_answer file) header_of (refusal_number e.refusal) e.line (sym a ∙ ap read_says r))
 
     -- it is accepted, and what it says is written
-    pub read_written : (header : Header) → answer ≡ Accepted header → (new : LentLists) → new ≡ job_written (job_in file) lists
-        → ReadDone file lists new (Accepted header)
+    pub read_written : (header : Header) → answer ≡ Ok header → (new : LentLists) → new ≡ job_written (job_in file) lists
+        → ReadDone file lists new (Ok header)
     unfolding lists_after
     read_written header e new w =
         let found = then_passed (read_answer file) (λ job. value (header_of job)) header (sym a ∙ ap read_says e) in

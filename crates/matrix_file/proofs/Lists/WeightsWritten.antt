@@ -1,14 +1,14 @@
 -- The weights of a `V` line, asked and written field by field.
 use mathlib.Core.Path.{◌≡◌, refl, sym, ap, ap₂, ◌∙◌}
-use mathlib.Core.List.{List, [], ◌∷◌}
+use mathlib.Core.List.{List, [], ◌∷◌, ◌++◌, map}
 use mathlib.Core.Bool.{Bool, true, false, ◌&&◌, ◌||◌, not, cond}
 use mathlib.Core.Logic.Iff
 use Prim.Native.Nat.{ℕ, ◌+◌, ◌≤◌, ◌<◌}
 use native.Mathlib.Omega.{arith}
 use borrow.Author.Tests.{eq-eqb, ne_eqb, eqb-true}
 use lib.Dec.{leb, eqb}
-use lib.ListN.{length, get_or, take, drop, set, length-set, length-drop, get_or-map, get_or-replicate}
-use lib.Seq.{get_or-drop}
+use lib.ListN.{length, get_or, take, drop, set, replicate, length-set, length-drop, length-map, length-replicate, get_or-map}
+use native.Mathlib.Nat.{zero-add}
 use Rattle.lists.specs.Over.{over}
 use Rattle.lists.specs.Tests.{every}
 use Rattle.lists.proofs.Both.{and_left, and_right, implies_iff}
@@ -19,7 +19,12 @@ use Rattle.file_form.specs.Optional.{optional_fields}
 use Rattle.file_form.specs.Weights.{weight_form, weight_in, weights_form, weights_said}
 use Rattle.file_form.proofs.File.FirstForm.{fields_count}
 use Rattle.matrix_file.proofs.File.OptionalWalk.{line_fields}
-use Rattle.file_form.proofs.File.WeightFields.{said_count}
+use Rattle.std.specs.Prelude.{Option, None, Some, is_some}
+use Rattle.std.specs.Option.{unwrap_or}
+use Rattle.std.specs.List.{list_all}
+use Rattle.lists.proofs.Over.{over-fits}
+use Rattle.matrix_file.specs.Walk.{read_as}
+use Rattle.matrix_file.proofs.ReadAs.{read_formed}
 use Rattle.matrix_file.proofs.Lists.WrittenLines.{over-next, over-all}
 
 -- a field of another length than 1 is no weight
@@ -30,17 +35,11 @@ not-one (digit ∷ []) h = absurd (h refl)
 not-one (digit ∷ next ∷ digits) h = refl
 
 -- a field of one byte is one if that is from `1` to `9`
-pub one_byte : (field : List ℕ) → length field ≡ 1 → leb 49 (get_or field 0 0) && leb (get_or field 0 0) 57 ≡ weight_form field
+pub one_byte : (field : List ℕ) → 1 ≤ length field → length field < 2 → leb 49 (get_or field 0 0) && leb (get_or field 0 0) 57 ≡ weight_form field
 unfolding weight_form
-one_byte [] h = absurd (omega arith)
-one_byte (digit ∷ []) h = refl
-one_byte (digit ∷ next ∷ digits) h = absurd (omega arith)
-
--- the field at a place behind the first one
-pub field_at : (line : List ℕ) (j : ℕ) → get_or (fields_of line) (j + 1) [] ≡ get_or (drop 1 (fields_of line)) j []
-field_at line j =
-    let place : j + 1 ≡ 1 + j = omega arith in
-    ap (λ k. get_or (fields_of line) k []) place ∙ sym (get_or-drop 1 (fields_of line) j [])
+one_byte [] some few = absurd (omega arith)
+one_byte (digit ∷ []) some few = refl
+one_byte (digit ∷ next ∷ digits) some few = absurd (omega arith)
 
 -- a line with so many tabs
 module _ (line : List ℕ) (count m : ℕ) (e : count + 1 ≡ length (parts_at tab line)) where
@@ -58,58 +57,90 @@ module _ (line : List ℕ) (count m : ℕ) (e : count + 1 ≡ length (parts_at t
   unfolding weights_form
   fields_decide h = rw (fields_behind, eq-eqb count m h)
 
+-- a field says a weight exactly if it has the form of one
+some_read : (field : List ℕ) → is_some (read_as weight_form weight_in field) ≡ weight_form field
+some_read field = by (weight_form field)
+  where
+    by : (b : Bool) → is_some (cond b (Some (weight_in field)) None) ≡ b
+    by true = refl
+    by false = refl
+
+-- so all fields say weights exactly if each has the form
+pub all_read : (fields : List (List ℕ)) → list_all (λ field. is_some (read_as weight_form weight_in field)) fields ≡ every weight_form fields
+unfolding every
+all_read [] = refl
+all_read (field ∷ fields) = ap₂ ◌&&◌ (some_read field) (all_read fields)
+
 -- what is required of a line that is there
 pub required : (there formed : Bool) → (not there || formed) ≡ true → there ≡ true → formed ≡ true
 required there formed = (implies_iff Iff.rfl Iff.rfl).0
 
--- what a loop that writes the weights knows behind j of them
-abbrev pub Weighted : List ℕ → List ℕ → ℕ → Bool → List ℕ → ℕ → Type 0
-Weighted old line m weighed out j =
-    (j ≤ m) × (length out ≡ length old) × (out ≡ over 0 (take j (weights_said weighed m (drop 1 (fields_of line)))) old)
+-- what a loop that writes the weights of a text's first line knows behind some of them
+abbrev pub Weighted : List ℕ → List ℕ → List ℕ → ℕ → Type 0
+Weighted old text out count = (length out ≡ length old) × (out ≡ over 0 (take count (map weight_in (optional_fields (lines_of text)))) old)
 
--- the fields of a `V` line, if a text begins with one, are m weights
-module _ (text line : List ℕ) (m : ℕ) (weighed : Bool) (l : line ≡ first_part line_feed text)
-    (given : (not weighed || weights_form m (optional_fields (lines_of text))) ≡ true) where
-  -- those of the first line
-  formed : weighed ≡ true → weights_form m (drop 1 (fields_of line)) ≡ true
-  formed there =
-      ap (weights_form m) (sym (line_fields text line l)) ∙ required weighed (weights_form m (optional_fields (lines_of text))) given there
+-- a text that may begin with a `V` line, whose fields are then m weights
+module _ (text : List ℕ) (m : ℕ) (weighed : Bool) (given : (not weighed || weights_form m (optional_fields (lines_of text))) ≡ true) where
+  -- without the line all weights are 1
+  pub ones_written : (old new : List ℕ) → weighed ≡ false → new ≡ replicate m 1 → m ≤ length old
+      → new ++ drop m old ≡ over 0 (weights_said weighed m (optional_fields (lines_of text))) old
+  unfolding weights_said
+  ones_written old new none o room =
+      let ones : List ℕ = replicate m 1 in
+      let size : length ones ≡ m = length-replicate m 1 in
+      ap (λ xs. xs ++ drop m old) o
+      ∙ sym (over-fits 0 ones old (omega (arith, size)) ∙ ap (λ k. ones ++ drop k old) (zero-add (length ones) ∙ size))
+      ∙ ap (λ b. over 0 (weights_said b m (optional_fields (lines_of text))) old) (sym none)
 
-  -- the field of each character is a weight
-  pub weight_given : (j : ℕ) → j < m → (not weighed || weight_form (get_or (fields_of line) (j + 1) [])) ≡ true
-  unfolding weights_form
-  weight_given j h = (implies_iff Iff.rfl Iff.rfl).1 one
-    where
-      one : weighed ≡ true → weight_form (get_or (fields_of line) (j + 1) []) ≡ true
-      one there =
-          let fields = drop 1 (fields_of line) in
-          let count = eqb-true (length fields) m (and_left (eqb (length fields) m) (every weight_form fields) (formed there)) in
-          let each = and_right (eqb (length fields) m) (every weight_form fields) (formed there) in
-          ap weight_form (field_at line j) ∙ every_at weight_form fields each j [] (omega (arith, count))
+  -- with it they are those of its fields
+  module _ (line : List ℕ) (l : line ≡ first_part line_feed text) (there : weighed ≡ true) where
+    -- the fields are m weights
+    formed : weights_form m (drop 1 (fields_of line)) ≡ true
+    formed = ap (weights_form m) (sym (line_fields text line l)) ∙ required weighed (weights_form m (optional_fields (lines_of text))) given there
 
-  -- its weight is the one that is written
-  said_at : (b : Bool) (j : ℕ) → j < m
-      → cond b (weight_in (get_or (fields_of line) (j + 1) [])) 1 ≡ get_or (weights_said b m (drop 1 (fields_of line))) j 0
-  unfolding weights_said weight_in
-  said_at true j h = ap weight_in (field_at line j) ∙ sym (get_or-map weight_in (drop 1 (fields_of line)) j [])
-  said_at false j h = sym (get_or-replicate m j 1 0 h)
+    -- so many
+    fields-count : length (drop 1 (fields_of line)) ≡ m
+    unfolding weights_form
+    fields-count = eqb-true _ m (and_left (eqb (length (drop 1 (fields_of line))) m) (every weight_form (drop 1 (fields_of line))) formed)
 
-  -- one weight more
-  pub weight_next : (old out : List ℕ) (j weight : ℕ) → Weighted old line m weighed out j → j < m
-      → weight ≡ cond weighed (weight_in (get_or (fields_of line) (j + 1) [])) 1 → Weighted old line m weighed (set out j weight) (j + 1)
-  weight_next old out j weight inv h e = (
-    omega arith,
-    length-set out j weight ∙ inv.1,
-    ap₂ (λ xs x. set xs j x) inv.2 (e ∙ said_at weighed j h)
-        ∙ over-next 0 (weights_said weighed m (drop 1 (fields_of line))) old j
-        (omega (arith, said_count m (drop 1 (fields_of line)) weighed formed)),
-  )
+    -- the field of each character says a weight
+    weight_given : (j : ℕ) → j < length (drop 1 (fields_of line)) → weight_form (get_or (drop 1 (fields_of line)) j []) ≡ true
+    unfolding weights_form
+    weight_given j h =
+        let fields = drop 1 (fields_of line) in
+        let each = and_right (eqb (length fields) m) (every weight_form fields) formed in
+        every_at weight_form fields each j [] h
 
-  -- all of them
-  pub weights-done : (old out : List ℕ) (j : ℕ) → Weighted old line m weighed out j → m ≤ j
-      → out ≡ over 0 (weights_said weighed m (optional_fields (lines_of text))) old
-  weights-done old out j inv h =
-      inv.2
-      ∙ over-all (weights_said weighed m (drop 1 (fields_of line))) old j
-      (omega (arith, said_count m (drop 1 (fields_of line)) weighed formed))
-      ∙ ap (λ fields. over 0 (weights_said weighed m fields) old) (sym (line_fields text line l))
+    -- there is room for each
+    pub weight_room : {j count size : ℕ} → (j ≡ count) × (count < length (drop 1 (fields_of line))) → m ≤ size → j < size
+    weight_room turn room = omega (arith, turn.0, turn.1, fields-count)
+
+    -- one weight more
+    pub weight_next : (old out : List ℕ) (count j weight : ℕ) (field : List ℕ) (r : Option ℕ)
+        → (j ≡ count) × (count < length (drop 1 (fields_of line))) × (field ≡ get_or (drop 1 (fields_of line)) count [])
+        → Weighted old text out count → r ≡ read_as weight_form weight_in field → weight ≡ unwrap_or r 1
+        → Weighted old text (set out j weight) (count + 1)
+    unfolding weight_in
+    weight_next old out count j weight field r turn inv e w =
+        let fields = drop 1 (fields_of line) in
+        let same = line_fields text line l in
+        let room : count < length (map weight_in fields) = omega (arith, length-map fields weight_in, turn.1) in
+        let form = ap weight_form turn.2 ∙ weight_given count turn.1 in
+        let said : r ≡ Some (weight_in field) = e ∙ sym (read_formed weight_form weight_in field (weight_in field) form refl) in (
+          length-set out j weight ∙ inv.0,
+          ap (λ k. set out k weight) turn.0
+              ∙ ap₂ (λ xs x. set xs count x) (inv.1 ∙ ap (λ those. over 0 (take count (map weight_in those)) old) same)
+              (w ∙ ap (λ x. unwrap_or x 1) said ∙ ap weight_in turn.2 ∙ sym (get_or-map weight_in fields count []))
+              ∙ over-next 0 (map weight_in fields) old count room
+              ∙ ap (λ those. over 0 (take (count + 1) (map weight_in those)) old) (sym same),
+        )
+
+    -- all of them
+    pub weights-done : (old out : List ℕ) (count : ℕ) → Weighted old text out count → count ≡ length (drop 1 (fields_of line))
+        → out ≡ over 0 (weights_said weighed m (optional_fields (lines_of text))) old
+    unfolding weights_said
+    weights-done old out count inv e =
+        let fields = optional_fields (lines_of text) in
+        inv.1
+        ∙ over-all (map weight_in fields) old count (omega (arith, length-map fields weight_in, ap length (line_fields text line l), e))
+        ∙ ap (λ b. over 0 (weights_said b m fields) old) (sym there)

@@ -2,7 +2,6 @@
 -- record. One law for all.
 use mathlib.Core.Path.{◌≡◌, refl, sym, ap, ap₂, ◌∙◌}
 use mathlib.Core.List.{List, map}
-use mathlib.Core.Bool.{true}
 use Prim.Native.Nat.{ℕ, ◌+◌, ◌-◌, ◌*◌, ◌≤◌, ◌<◌}
 use native.Mathlib.Nat.{zero-add, mul-le-mul_right}
 use native.Mathlib.Omega.{arith}
@@ -10,18 +9,16 @@ use borrow.Rule.Slice.PartMut.{put_mid}
 use lib.ListN.{length, get_or, set, take, drop, length-take, length-drop, length-map}
 use lib.Seq.{take_all}
 use Rattle.lists.specs.Over.{over, stripes}
-use Rattle.lists.specs.Tests.{every}
 use Rattle.lists.proofs.Over.{over-lent, over-more}
 use Rattle.lists.proofs.Stripes.{length-stripes, stripes-snoc}
 use Rattle.matrix.specs.Shape.{columns}
 use Rattle.file_form.specs.Bytes.{tab, line_feed, first_part, behind_part}
-use Rattle.file_form.specs.Decimal.{code_form, code_of}
 use Rattle.file_form.specs.Lines.{lines_of, fields_of}
-use Rattle.file_form.specs.Rows.{name_in, codes_in}
+use Rattle.file_form.specs.Rows.{name_in}
 use Rattle.file_form.specs.Job.{name_size}
 use Rattle.file_form.proofs.File.FileLength.{name_length}
-use Rattle.file_form.proofs.Text.Fields.{name_first, codes-behind}
-use Rattle.matrix_file.proofs.Lists.LinesWalk.{RowFormed, LinesLeft, lines_start, line-more, lines_next}
+use Rattle.file_form.proofs.Text.Fields.{name_first}
+use Rattle.matrix_file.proofs.Lists.LinesBehind.{RowFormed, line-more, walk_on}
 
 -- a list that is written over from its front, element by element
 module _ {A : Type 0} where
@@ -34,24 +31,9 @@ module _ {A : Type 0} where
   pub over-all : (xs old : List A) (i : ℕ) → length xs ≤ i → over 0 (take i xs) old ≡ over 0 xs old
   over-all xs old i h = ap (λ front. over 0 front old) (take_all i xs h)
 
--- the codes of a line of the right form
-module _ (line codes : List ℕ) (formed : RowFormed line) (c : codes ≡ behind_part tab line) where
-  -- they are the fields behind the name
-  fields : fields_of codes ≡ drop 1 (fields_of line)
-  fields = ap fields_of c ∙ sym (codes-behind line formed.several)
-
-  -- each has the form of a code
-  pub codes-formed : every code_form (fields_of codes) ≡ true
-  codes-formed = ap (every code_form) fields ∙ formed.coded
-
-  -- they are at most 128
-  pub codes_few : length (fields_of codes) ≤ columns
-  codes_few = let few = formed.few in omega (arith, ap length fields, length-drop 1 (fields_of line))
-
-  -- they say the codes of the line
-  pub codes_said : map code_of (fields_of codes) ≡ codes_in line
-  unfolding codes_in
-  codes_said = ap (map code_of) fields
+-- a line of the right form has at most 128 codes
+pub codes_few : (line : List ℕ) → RowFormed line → length (drop 1 (fields_of line)) ≤ columns
+codes_few line formed = let few = formed.few in omega (arith, length-drop 1 (fields_of line))
 
 -- the name of a line of the right form has at most 16 bytes
 module _ (line name : List ℕ) (e : name ≡ first_part tab line) where
@@ -68,7 +50,7 @@ pub part_room : {A : Type 0} (start size : ℕ) (xs : List A) → start + size �
     → size ≤ length (take (length xs - start) (drop start xs))
 part_room start size xs h = omega (arith, length-take (length xs - start) (drop start xs), length-drop start xs)
 
--- what a walk that writes an item for each line knows when it has passed `done` lines and stands at a place
+-- what a walk that writes an item for each line knows when it has passed `done` lines and keeps the rest
 pub record ItemsWritten
     {A : Type 0}
     (width : ℕ)
@@ -76,16 +58,17 @@ pub record ItemsWritten
     (rows : List ℕ)
     (n : ℕ)
     (old new : List A)
-    (at done : ℕ) : Type 0 where
-  pub walk : LinesLeft rows n at done
+    (rest : List ℕ)
+    (done : ℕ) : Type 0 where
+  pub walk : lines_of rest ≡ drop done (lines_of rows)
   pub full : length new ≡ length old
   pub written : new ≡ stripes width 0 (take done (map says (take n (lines_of rows)))) old
 
 module _ {A : Type 0} (width : ℕ) (says : List ℕ → List A) (rows : List ℕ) (n : ℕ) (old : List A) where
   -- at the start
-  pub items_start : ItemsWritten width says rows n old old 0 0
+  pub items_start : ItemsWritten width says rows n old old rows 0
   unfolding stripes
-  items_start = record { walk = lines_start rows n; full = refl; written = refl }
+  items_start = record { walk = refl; full = refl; written = refl }
 
   -- the items passed are as many as the lines
   items_count : n < length (lines_of rows) → (done : ℕ) → done ≤ n → length (take done (map says (take n (lines_of rows)))) ≡ done
@@ -99,19 +82,22 @@ module _ {A : Type 0} (width : ℕ) (says : List ℕ → List A) (rows : List �
       )
 
   -- one line more: its item is written over what stands behind the items before it
-  pub items_next : (new last : List A) (at done : ℕ) (rest line : List ℕ) → n < length (lines_of rows) → n * width ≤ length old
-      → ItemsWritten width says rows n old new at done → done < n → rest ≡ drop at rows → line ≡ first_part line_feed rest
-      → (item : List A) → item ≡ says line → last ≡ over 0 item (take (length new - done * width) (drop (done * width) new))
-      → ItemsWritten width says rows n old (put_mid (done * width) (length new - done * width) new last) (at + length line + 1) (done + 1)
-  items_next new last at done rest line more room inv h r l item i e =
+  pub items_next : (new last : List A) (rest behind : List ℕ) (done : ℕ) → n < length (lines_of rows) → n * width ≤ length old
+      → ItemsWritten width says rows n old new rest done → done < n → behind ≡ behind_part line_feed rest
+      → (item : List A) → item ≡ says (first_part line_feed rest) → last ≡ over 0 item (take (length new - done * width) (drop (done * width) new))
+      → ItemsWritten width says rows n old (put_mid (done * width) (length new - done * width) new last) behind (done + 1)
+  items_next new last rest behind done more room inv h b item i e =
       record {
-        walk = lines_next rows n at done rest line more inv.walk h r l;
+        walk = ap lines_of b ∙ walk_on rows rest done inv.walk another;
         full = ap length one_more ∙ length-stripes width 0 (take (done + 1) (map says (take n (lines_of rows)))) old;
         written = one_more;
       }
     where
       before : List (List A)
       before = take done (map says (take n (lines_of rows)))
+
+      another : done + 1 < length (lines_of rows)
+      another = omega arith
 
       inside : done * width ≤ length new
       inside = let few : done ≤ n = omega arith in omega (arith, inv.full, mul-le-mul_right width few)
@@ -122,15 +108,15 @@ module _ {A : Type 0} (width : ℕ) (says : List ℕ → List A) (rows : List �
           ap (put_mid (done * width) (length new - done * width) new) e
           ∙ over-lent (done * width) item new inside
           ∙ ap₂ (over (done * width)) i inv.written
-          ∙ ap (λ k. over (k * width) (says line) (stripes width 0 before old)) (sym (items_count more done (omega arith)))
-          ∙ ap (λ k. over k (says line) (stripes width 0 before old)) (omega arith)
-          ∙ sym (stripes-snoc width 0 before (says line) old)
-          ∙ ap (λ items. stripes width 0 items old) (sym (line-more rows n at done rest line more inv.walk h r l says))
+          ∙ ap (λ k. over (k * width) (says (first_part line_feed rest)) (stripes width 0 before old)) (sym (items_count more done (omega arith)))
+          ∙ ap (λ k. over k (says (first_part line_feed rest)) (stripes width 0 before old)) (omega arith)
+          ∙ sym (stripes-snoc width 0 before (says (first_part line_feed rest)) old)
+          ∙ ap (λ items. stripes width 0 items old) (sym (line-more rows rest done inv.walk another says n h))
 
   -- all lines
-  pub items_all : (new : List A) (at done : ℕ) → ItemsWritten width says rows n old new at done → n ≤ done
+  pub items_all : (new : List A) (rest : List ℕ) (done : ℕ) → ItemsWritten width says rows n old new rest done → n ≤ done
       → new ≡ stripes width 0 (map says (take n (lines_of rows))) old
-  items_all new at done inv h =
+  items_all new rest done inv h =
       let count : length (map says (take n (lines_of rows))) ≤ done =
       omega (arith, length-map (take n (lines_of rows)) says, length-take n (lines_of rows)) in
       inv.written ∙ ap (λ items. stripes width 0 items old) (take_all done (map says (take n (lines_of rows))) count)

@@ -1,65 +1,110 @@
--- What a loop over the codes of a row knows: those that are left decide.
-use mathlib.Core.Path.{◌≡◌, sym, ap, ◌∙◌}
-use mathlib.Core.Bool.{Bool, true, false, not}
-use mathlib.Core.List.{List}
-use Prim.Native.Nat.{ℕ, ◌+◌, ◌≤◌, ◌<◌}
-use borrow.Author.Tests.{not-true, not-false}
-use lib.ListN.{length, drop}
-use Rattle.file_form.specs.Bytes.{tab, first_part}
+-- The questions on the codes of a row, field by field.
+use mathlib.Core.Path.{◌≡◌, refl, sym, ap, ◌∙◌}
+use mathlib.Core.Bool.{Bool, true, false}
+use mathlib.Core.List.{List, [], ◌∷◌}
+use Prim.Native.Nat.{ℕ, ◌+◌, ◌<◌, ◌≤◌}
+use native.Mathlib.Numerals.{add-one}
+use native.Mathlib.Omega.{arith}
+use lib.Dec.{eqb}
+use lib.IntN.{ℤ}
+use lib.ListN.{length, get_or, drop, drop_of_length-le}
+use lib.Seq.{drop-cons}
+use Rattle.std.specs.Prelude.{None, Some, Ok, Err}
+use Rattle.std.specs.List.{slice_split}
+use Rattle.file_form.specs.Bytes.{tab}
 use Rattle.file_form.specs.Decimal.{code_form, code_of}
 use Rattle.file_form.specs.Lines.{fields_of}
 use Rattle.file_form.specs.Rows.{ask_codes}
-use Rattle.file_form.proofs.Text.PartsFrom.{parts_from, from_start, from_past, from_next}
-use Rattle.matrix.specs.declared.refusal.Asked.{Asked}
-use Rattle.matrix.specs.declared.refusal.Asked.TheVariants.{Passed, Refused}
+use Rattle.file_form.proofs.Text.Slices.{parts_split}
+use Rattle.matrix.specs.declared.refusal.Refusal.{Refusal}
 use Rattle.matrix.specs.declared.refusal.Refusal.TheVariants.{CodeForm, CodeRange}
 use Rattle.matrix.specs.Outcomes.{ask}
 use Rattle.matrix.specs.Shape.{in_range}
+use Rattle.matrix_file.specs.Walk.{read_as}
+use Rattle.matrix_file.proofs.ReadAs.{formed_read, formless_read}
 
--- the codes from the start on
-pub all_codes : (text : List ℕ) → ask_codes (fields_of text) ≡ ask_codes (parts_from tab text 0)
-unfolding fields_of
-all_codes text = ap ask_codes (sym (from_start tab text))
-
--- what a loop over the codes knows at a place: the codes from there on decide
-abbrev pub Decide : List ℕ → ℕ → Type 0
-Decide text at = (at ≤ length text + 1) × (ask_codes (fields_of text) ≡ ask_codes (parts_from tab text at))
-
-module _ (text : List ℕ) (at : ℕ) (rest field : List ℕ) (form : Bool) (inv : Decide text at) (h : at ≤ length text)
-    (r : rest ≡ drop at text) (f : field ≡ first_part tab rest) (e : form ≡ code_form field) where
-  -- the questions on the codes behind this one
-  abbrev behind : Asked
-  behind = ask_codes (parts_from tab text (at + length field + 1))
-
-  -- the first of the codes, and those behind it
-  step : ask_codes (fields_of text) ≡ ask form CodeForm (ask (in_range (code_of field)) CodeRange behind)
-  unfolding ask_codes
-  step =
-      inv.1
-      ∙ ap ask_codes (from_next tab text at rest field h r f)
-      ∙ ap (λ x. ask x CodeForm (ask (in_range (code_of field)) CodeRange behind)) (sym e)
-
+-- the questions on one code
+module _ (field : List ℕ) where
   -- its form is not right
-  pub bad_form : not form ≡ true → Refused CodeForm ≡ ask_codes (fields_of text)
-  bad_form t = sym (step ∙ ap (λ x. ask x CodeForm (ask (in_range (code_of field)) CodeRange behind)) (not-true form t))
+  pub bad_form : None ≡ read_as code_form code_of field → Err CodeForm ≡ ask_codes (field ∷ [])
+  unfolding ask_codes
+  bad_form e = sym (ap (λ b. ask b CodeForm (ask (in_range (code_of field)) CodeRange (Ok tt))) (formless_read code_form code_of field e))
 
-  module _ (t : not form ≡ false) (near : Bool) (n : near ≡ in_range (code_of field)) where
-    -- its form is right
-    well_formed : ask_codes (fields_of text) ≡ ask near CodeRange behind
-    well_formed =
-        step
-        ∙ ap (λ x. ask x CodeForm (ask (in_range (code_of field)) CodeRange behind)) (not-false form t)
-        ∙ ap (λ x. ask x CodeRange behind) (sym n)
+  -- its form is right
+  module _ (code : ℤ) (e : Some code ≡ read_as code_form code_of field) (near : Bool) (n : near ≡ in_range code) where
+    -- the range decides
+    range_decides : ask_codes (field ∷ []) ≡ ask near CodeRange (Ok tt)
+    unfolding ask_codes
+    range_decides =
+        let read = formed_read code_form code_of field code e in
+        ap (λ b. ask b CodeForm (ask (in_range (code_of field)) CodeRange (Ok tt))) read.0
+        ∙ ap (λ b. ask b CodeRange (Ok tt)) (ap in_range (sym read.1) ∙ sym n)
 
     -- it is out of range
-    pub out_of_range : not near ≡ true → Refused CodeRange ≡ ask_codes (fields_of text)
-    out_of_range u = sym (well_formed ∙ ap (λ x. ask x CodeRange behind) (not-true near u))
+    pub out_of_range : near ≡ false → Err CodeRange ≡ ask_codes (field ∷ [])
+    out_of_range f = sym (range_decides ∙ ap (λ b. ask b CodeRange (Ok tt)) f)
 
     -- it is in range
-    pub next_decides : not near ≡ false → ask_codes (fields_of text) ≡ behind
-    next_decides u = well_formed ∙ ap (λ x. ask x CodeRange behind) (not-false near u)
+    pub in_range_lem : near ≡ true → Ok tt ≡ ask_codes (field ∷ [])
+    in_range_lem t = sym (range_decides ∙ ap (λ b. ask b CodeRange (Ok tt)) t)
 
--- no code is left
-pub none_left : (text : List ℕ) (at : ℕ) → Decide text at → length text < at → Passed ≡ ask_codes (fields_of text)
+-- a code that is refused refuses those from it on
+pub code_refused : (field : List ℕ) (fields : List (List ℕ)) (refusal : Refusal) → ask_codes (field ∷ []) ≡ Err refusal
+    → ask_codes (field ∷ fields) ≡ Err refusal
 unfolding ask_codes
-none_left text at inv h = sym (inv.1 ∙ ap ask_codes (from_past tab text at h))
+code_refused field fields refusal e = by (code_form field) (in_range (code_of field)) e
+  where
+    by : (a b : Bool) → ask a CodeForm (ask b CodeRange (Ok tt)) ≡ Err refusal → ask a CodeForm (ask b CodeRange (ask_codes fields)) ≡ Err refusal
+    by true true same = cc
+    by true false same = same
+    by false b same = same
+
+-- behind one that passes the others decide
+pub code_passes : (field : List ℕ) (fields : List (List ℕ)) → ask_codes (field ∷ []) ≡ Ok tt → ask_codes (field ∷ fields) ≡ ask_codes fields
+unfolding ask_codes
+code_passes field fields e = by (code_form field) (in_range (code_of field)) e
+  where
+    by : (a b : Bool) → ask a CodeForm (ask b CodeRange (Ok tt)) ≡ Ok tt → ask a CodeForm (ask b CodeRange (ask_codes fields)) ≡ ask_codes fields
+    by true true same = refl
+    by true false same = cc
+    by false b same = cc
+
+-- a turn of a loop over the fields of a line behind the first one, behind `count` of them, where those that are left decide
+module _ (line : List ℕ) (count : ℕ) (left : ask_codes (drop 1 (fields_of line)) ≡ ask_codes (drop count (drop 1 (fields_of line)))) where
+  -- the fields, and the parts that the loop goes over
+  abbrev fields : List (List ℕ)
+  fields = drop 1 (fields_of line)
+
+  -- they are the same
+  abbrev parts : List (List ℕ)
+  parts = drop 1 (slice_split (λ byte. eqb byte tab) line)
+
+  -- that is a law of parts
+  same : parts ≡ fields
+  unfolding fields_of
+  same = ap (drop 1) (sym (parts_split tab line))
+
+  module _ (field : List ℕ) (turn : (count < length parts) × (field ≡ get_or parts count field)) where
+    -- this field and those behind it
+    these : ask_codes fields ≡ ask_codes (field ∷ drop (count + 1) fields)
+    these =
+        let below : count < length fields = omega (arith, turn.0, ap length same) in
+        left
+        ∙ ap ask_codes (drop-cons fields count field below)
+        ∙ ap (λ k. ask_codes (get_or fields count field ∷ drop k fields)) (sym (add-one count))
+        ∙ ap (λ x. ask_codes (x ∷ drop (count + 1) fields)) (ap (λ all. get_or all count field) (sym same) ∙ sym turn.1)
+
+    -- it is refused
+    pub walk-refused : (refusal : Refusal) → ask_codes (field ∷ []) ≡ Err refusal → Err refusal ≡ ask_codes fields
+    walk-refused refusal e = sym (these ∙ code_refused field (drop (count + 1) fields) refusal e)
+
+    -- it passes
+    pub walk_passed : ask_codes (field ∷ []) ≡ Ok tt → ask_codes fields ≡ ask_codes (drop (count + 1) fields)
+    walk_passed e = these ∙ code_passes field (drop (count + 1) fields) e
+
+  -- no field is left
+  pub walk_ended : count ≡ length parts → Ok tt ≡ ask_codes fields
+  unfolding ask_codes
+  walk_ended e =
+      let past : length fields ≤ count = omega (arith, e, ap length same) in
+      sym (left ∙ ap ask_codes (drop_of_length-le fields past))

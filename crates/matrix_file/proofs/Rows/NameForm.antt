@@ -1,28 +1,52 @@
--- The form of a name, test by test.
+-- The form of a name, test by test, in std's words on bytes.
 use mathlib.Core.Path.{◌≡◌, refl, sym, ap, ap₂, ◌∙◌}
-use mathlib.Core.Bool.{Bool, true, false, ◌&&◌, and-true}
+use mathlib.Core.Bool.{Bool, true, false, ◌&&◌, ◌||◌}
 use mathlib.Core.List.{List, [], ◌∷◌}
 use Prim.Native.Nat.{ℕ, ◌≤◌, ◌<◌}
 use native.Mathlib.Omega.{arith}
 use borrow.Author.Tests.{le-leb, lt-leb}
-use lib.Dec.{leb}
+use lib.Dec.{leb, eqb}
 use lib.ListN.{length, get_or, drop}
-use Rattle.file_form.specs.Bytes.{is_letter}
+use Rattle.std.specs.Char.{is_ascii_alphabetic, is_ascii_alphanumeric}
+use Rattle.std.specs.List.{list_all}
+use Rattle.file_form.specs.Bytes.{is_digit, is_letter}
 use Rattle.file_form.specs.Job.{name_form, in_name}
-use Rattle.lists.specs.Tests.{every}
+use Rattle.file_form.proofs.Text.Slices.{every_all}
+
+-- four tests in two orders
+reordered : (digit upper lower other : Bool) → ((digit || upper) || lower) || other ≡ (upper || lower) || (digit || other)
+reordered true true lower other = refl
+reordered true false true other = refl
+reordered true false false other = refl
+reordered false true lower other = refl
+reordered false false true other = refl
+reordered false false false other = refl
+
+-- a byte may stand in a name if it is a letter or a digit, or `_`
+named : (byte : ℕ) → is_ascii_alphanumeric byte || eqb byte 95 ≡ in_name byte
+unfolding in_name is_letter is_digit
+named byte = reordered (leb 48 byte && leb byte 57) (leb 65 byte && leb byte 90) (leb 97 byte && leb byte 122) (eqb byte 95)
+
+-- a letter or a digit may
+pub alphanumeric : (byte : ℕ) (b : Bool) → b ≡ is_ascii_alphanumeric byte → b ≡ true → b ≡ in_name byte
+alphanumeric byte b e t = t ∙ ap (λ x. x || eqb byte 95) (sym t ∙ e) ∙ named byte
+
+-- of the others `_` alone
+pub other_byte : (byte : ℕ) (b : Bool) → b ≡ is_ascii_alphanumeric byte → b ≡ false → eqb byte 95 ≡ in_name byte
+other_byte byte b e f = ap (λ x. x || eqb byte 95) (sym f ∙ e) ∙ named byte
 
 -- an empty name is not well formed
-pub none : (name : List ℕ) → length name ≡ 0 → false ≡ name_form name
+pub empty : (name : List ℕ) → length name < 1 → false ≡ name_form name
 unfolding name_form
-none [] e = refl
-none (byte ∷ bytes) e = absurd (omega arith)
+empty [] h = refl
+empty (byte ∷ bytes) h = absurd (omega arith)
 
--- any other one is if its first byte is a letter, the others may stand in a name, and it is not too long
-some : (name : List ℕ) → (length name ≡ 0 → ⊥)
-    → name_form name ≡ is_letter (get_or name 0 0) && (every in_name (drop 1 name) && leb (length name) 16)
-unfolding name_form
-some [] h = absurd (h refl)
-some (byte ∷ bytes) h = refl
+-- any other one is if it is not too long, its first byte is a letter, and the others may stand in a name
+some : (name : List ℕ) → 1 ≤ length name
+    → name_form name ≡ is_ascii_alphabetic (get_or name 0 0) && (list_all in_name (drop 1 name) && leb (length name) 16)
+unfolding name_form is_letter
+some [] h = absurd (omega arith)
+some (byte ∷ bytes) h = ap (λ t. is_letter byte && (t && leb (length (byte ∷ bytes)) 16)) (sym (every_all in_name bytes))
 
 -- a test that fails behind two others
 both_false : (a b : Bool) → a && (b && false) ≡ false
@@ -30,23 +54,31 @@ both_false true true = refl
 both_false true false = refl
 both_false false b = refl
 
--- more than 16 bytes
-pub long : (name : List ℕ) → (length name ≡ 0 → ⊥) → 16 < length name → false ≡ name_form name
-long name h l =
-    sym (some name h ∙ ap (λ t. is_letter (get_or name 0 0) && (every in_name (drop 1 name) && t)) (lt-leb (length name) 16 l)
-    ∙ both_false (is_letter (get_or name 0 0)) (every in_name (drop 1 name)))
+-- a test that passes behind two others
+both_true : (a b : Bool) → a && (b && true) ≡ a && b
+both_true true true = refl
+both_true true false = refl
+both_true false b = refl
 
--- behind a letter the other bytes decide
-pub rest_decides : (name rest : List ℕ) (first others : Bool) → (length name ≡ 0 → ⊥) → length name ≤ 16 → first ≡ true
-    → first ≡ is_letter (get_or name 0 0) → rest ≡ drop 1 name → others ≡ every in_name rest → others ≡ name_form name
-rest_decides name rest first others h l t f r o =
-    sym (some name h
-    ∙ ap₂ (λ x y. x && (every in_name (drop 1 name) && y)) (sym f ∙ t) (le-leb (length name) 16 l)
-    ∙ and-true (every in_name (drop 1 name))
-    ∙ ap (every in_name) (sym r)
-    ∙ sym o)
+module _ (name : List ℕ) (h : 1 ≤ length name) where
+  -- more than 16 bytes
+  pub long : 16 < length name → false ≡ name_form name
+  long l =
+      sym (some name h ∙ ap (λ t. is_ascii_alphabetic (get_or name 0 0) && (list_all in_name (drop 1 name) && t)) (lt-leb (length name) 16 l)
+      ∙ both_false (is_ascii_alphabetic (get_or name 0 0)) (list_all in_name (drop 1 name)))
 
--- another first byte
-pub no_letter : (name : List ℕ) (first : Bool) → (length name ≡ 0 → ⊥) → first ≡ false → first ≡ is_letter (get_or name 0 0)
-    → first ≡ name_form name
-no_letter name first h t f = t ∙ sym (some name h ∙ ap (λ x. x && (every in_name (drop 1 name) && leb (length name) 16)) (sym f ∙ t))
+  module _ (l : length name ≤ 16) (first : Bool) (f : first ≡ is_ascii_alphabetic (get_or name 0 0)) where
+    -- not too long: the bytes decide
+    bytes_decide : name_form name ≡ first && list_all in_name (drop 1 name)
+    bytes_decide =
+        some name h
+        ∙ ap₂ (λ x t. x && (list_all in_name (drop 1 name) && t)) (sym f) (le-leb (length name) 16 l)
+        ∙ both_true first (list_all in_name (drop 1 name))
+
+    -- another first byte than a letter
+    pub no_letter : first ≡ false → first ≡ name_form name
+    no_letter t = t ∙ sym (bytes_decide ∙ ap (λ x. x && list_all in_name (drop 1 name)) t)
+
+    -- behind a letter the other bytes decide
+    pub others_decide : first ≡ true → (others : Bool) → others ≡ list_all in_name (drop 1 name) → others ≡ name_form name
+    others_decide t others o = o ∙ sym (bytes_decide ∙ ap (λ x. x && list_all in_name (drop 1 name)) t)

@@ -1,37 +1,31 @@
--- `matrix_file::branches::branch_form` meets its contract: each answer follows from the tests that led to it. Assumes nothing.
-use mathlib.Core.Path.{sym, ◌∙◌}
-use Rattle.file_form.proofs.BranchLines.Form.{other-count, bad_word, bad_third, bad_second, node_said}
+-- `matrix_file::branches::branch_form` meets its contract: each answer follows from the tests that led to it.
+use mathlib.Core.Path.{sym, ap, ◌∙◌}
+use native.Mathlib.Omega.{arith}
+use Rattle.lists.specs.Tests.{same_numbers as same_text}
+use Rattle.file_form.specs.Bytes.{word_c}
+use Rattle.file_form.specs.Decimal.{number_form, number_of}
+use Rattle.file_form.proofs.File.FirstForm.{fields_count}
+use Rattle.file_form.proofs.BranchLines.Form.{other-count, bad_word, bad_third}
+use Rattle.matrix_file.proofs.ReadAs.{read_none, read_some}
+use Rattle.matrix_file.proofs.BranchLines.Walk.{node_told}
 use Rattle.matrix_file.proofs.branches.branch_form.Goals as goal
 
 pub returns-then-separators-ne-ANCESTOR : goal.returns-then-separators-ne-ANCESTOR
-returns-then-separators-ne-ANCESTOR c = other-count _ _ _ c.separators.ensures c.if-separators-ne-ANCESTOR.true
+returns-then-separators-ne-ANCESTOR c =
+    sym (other-count _ _ (λ three. c.if-separators-ne-ANCESTOR.true (omega (arith, fields_count _ _ c.separators.ensures, three))))
 
 pub returns-then-not-same_text : goal.returns-then-not-same_text
 returns-then-not-same_text c =
-    bad_word _ _ _ c.separators.ensures c.if-separators-ne-ANCESTOR.false _ c.field.ensures _
-    c.same_text.ensures c.if-not-same_text.true-raw
+    sym (bad_word _ _ (ap (λ word. same_text word word_c) (sym c.field.ensures) ∙ sym c.same_text.ensures ∙ c.if-not-same_text.true))
 
-pub returns-then-not-number_form : goal.returns-then-not-number_form
-returns-then-not-number_form c =
-    bad_third _ _ _ c.separators.ensures c.if-separators-ne-ANCESTOR.false _ c.field.ensures _
-    c.same_text.ensures
-    c.if-not-same_text.false-raw _ c.field-2.ensures _ c.number_form.ensures c.if-not-number_form.true-raw
+pub returns-then-is_none : goal.returns-then-is_none
+returns-then-is_none c =
+    sym (bad_third _ _ (ap number_form (sym c.field-2.ensures) ∙ read_none number_form number_of c.field-2.result.now _ c.number.ensures.said _ c.is_none.ensures c.if-is_none.true))
 
-pub number_of-requires : goal.number_of-requires
-number_of-requires c = sym c.number_form-2.ensures ∙ c.if-number_form.true
-
-pub returns-then-number_form : goal.returns-then-number_form
-returns-then-number_form c =
-    node_said _ _ _ c.separators.ensures c.if-separators-ne-ANCESTOR.false _ c.field.ensures _
-    c.same_text.ensures
-    c.if-not-same_text.false-raw _ c.field-2.ensures _ c.number_form.ensures c.if-not-number_form.false-raw _
-    c.field-node.ensures _
-    c.number_form-2.ensures c.if-number_form.true _ c.number_of.ensures.is
-
-pub returns-else-number_form : goal.returns-else-number_form
-returns-else-number_form c =
-    bad_second _ _ _ c.separators.ensures c.if-separators-ne-ANCESTOR.false _ c.field.ensures _
-    c.same_text.ensures
-    c.if-not-same_text.false-raw _ c.field-2.ensures _ c.number_form.ensures c.if-not-number_form.false-raw _
-    c.field-node.ensures _
-    c.number_form-2.ensures c.if-number_form.false
+pub returns : goal.returns
+returns c =
+    c.eq.ensures
+    ∙ node_told _ _ (omega (arith, fields_count _ _ c.separators.ensures, c.if-separators-ne-ANCESTOR.false))
+    (ap (λ word. same_text word word_c) (sym c.field.ensures) ∙ sym c.same_text.ensures ∙ c.if-not-same_text.false)
+    (ap number_form (sym c.field-2.ensures) ∙ read_some number_form number_of c.field-2.result.now _ c.number.ensures.said _ c.is_none.ensures c.if-is_none.false)
+    _ _ c.field-3.ensures c.number-2.ensures.said

@@ -1,23 +1,12 @@
--- `matrix_file::branches::write_record` meets its contract: three numbers, one after another. Assumes nothing.
-use native.Mathlib.Omega.{arith}
-use lib.ListN.{set, length-set}
-use Rattle.matrix_file.proofs.BranchLines.Records.{three_written}
+-- `matrix_file::branches::write_record` meets its contract: three numbers, one after another.
+use mathlib.Core.Path.{sym, ap, ◌∙◌}
+use mathlib.Core.List.{◌++◌}
+use lib.ListN.{drop}
+use Rattle.branching.specs.LentNumbers.{record_numbers}
+use Rattle.lists.proofs.Over.{over-fits}
 use Rattle.matrix_file.proofs.branches.write_record.Goals as goal
 
-pub bounds-out-0 : goal.bounds-out-0
-bounds-out-0 c = omega (arith, c.requires)
-
-pub bounds-out-1 : goal.bounds-out-1
-bounds-out-1 c = omega (arith, c.requires, length-set c.args.out.now 0 c.args.node)
-
-pub bounds-out-2 : goal.bounds-out-2
-bounds-out-2 c =
-    omega (
-      arith,
-      c.requires,
-      length-set c.args.out.now 0 c.args.node,
-      length-set (set c.args.out.now 0 c.args.node) 1 c.args.ancestor,
-    )
-
 pub returns : goal.returns
-returns c = three_written _ _ _ c.requires
+returns c =
+    ap (λ xs. xs ++ drop 3 c.args.out.now) c.copy_from_slice.ensures.after
+    ∙ sym (over-fits 0 (record_numbers c.args.node c.args.ancestor) c.args.out.now c.requires)

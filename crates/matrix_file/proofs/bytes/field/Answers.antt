@@ -1,17 +1,17 @@
--- What the check leaves of `matrix_file::bytes::field`.
-use native.Mathlib.Omega.{arith}
-use Rattle.file_form.proofs.Text.Fields.{field_start, field_next, field_found}
+-- `matrix_file::bytes::field` meets its contract: the part at a place.
+use mathlib.Core.Path.{refl}
+use lib.Dec.{eqb}
+use Rattle.std.proofs.Common.{rules, tests}
+use Rattle.std.proofs.lemmas.Iterator.Consumers.{nth_from_yields_List}
+use Rattle.std.proofs.lemmas.Iterator.Splits.{YieldsList-from_slice_split}
+use Rattle.file_form.specs.Bytes.{tab}
+use Rattle.file_form.proofs.Text.Slices.{field_found}
 use Rattle.matrix_file.proofs.bytes.field.Goals as goal
 
-pub loop-passed-init : goal.loop-passed-init
-loop-passed-init c = field_start _ _
-
-pub loop-passed-smaller : goal.loop-passed-smaller
-loop-passed-smaller c = omega arith
-
-pub loop-passed-preserved : goal.loop-passed-preserved
-loop-passed-preserved c =
-    field_next _ _ _ _ _ c.loop-passed.invariant c.loop-passed-test.true c.behind_part-behind.ensures
-
 pub returns : goal.returns
-returns c = field_found _ _ _ _ _ c.loop-passed.invariant c.loop-passed-test.false c.first_part.ensures
+returns c =
+    field_found c.args.line.now c.args.place c.nth.result _ c.unwrap_or.result
+    (nth_from_yields_List c.nth.result c.nth.new.self c.args.place c.nth.ensures.ran
+    (YieldsList-from_slice_split _ (λ byte. eqb byte tab) c.args.line.now c.split.ensures.rest c.split.ensures.done c.split.ensures.closure
+    (λ x b q k. search (rules, tests))))
+    refl c.unwrap_or.ensures

@@ -1,13 +1,15 @@
--- What the check leaves of `matrix_file::bytes::part_length`.
-use native.Mathlib.Omega.{arith}
-use Rattle.file_form.proofs.Text.PartWalk.{found, goes_on, at_end}
+-- `matrix_file::bytes::part_length` meets its contract: the place of the first separator, if there is one.
+use mathlib.Core.Path.{◌∙◌}
+use lib.Dec.{eqb}
+use Rattle.std.proofs.Common.{rules, tests}
+use Rattle.std.proofs.lemmas.Iterator.{YieldsList-from_slice}
+use Rattle.std.proofs.lemmas.Iterator.Search.{position_from_yields_List}
+use Rattle.file_form.proofs.Text.Slices.{part_found}
 use Rattle.matrix_file.proofs.bytes.part_length.Goals as goal
 
-pub returns-then-text-i : goal.returns-then-text-i
-returns-then-text-i c = found _ _ _ c.loop-i.invariant.1 c.loop-i-test.true c.if-text-i.true
-
-pub loop-i-preserved : goal.loop-i-preserved
-loop-i-preserved c = (omega arith, goes_on _ _ _ c.loop-i.invariant.1 c.loop-i-test.true c.if-text-i.false)
-
 pub returns : goal.returns
-returns c = at_end _ _ _ c.loop-i.invariant.1 c.loop-i.invariant.0 c.loop-i-test.false
+returns c =
+    c.unwrap_or.ensures
+    ∙ part_found c.args.separator c.args.text.now c.position.result
+    (position_from_yields_List (λ byte. eqb byte c.args.separator) _ _ c.position.result c.position.ensures.ran
+    (YieldsList-from_slice c.args.text.now cc) (λ x b q k. search (rules, tests)))

@@ -1,13 +1,19 @@
--- What the check leaves of `matrix_file::bytes::separators`.
-use Rattle.file_form.proofs.Text.Separators.{counted, passed, all-counted}
+-- `matrix_file::bytes::separators` meets its contract: one less than the parts.
+use mathlib.Core.Path.{ap, ◌∙◌}
+use Prim.Native.Nat.{◌+◌}
+use lib.Dec.{eqb}
+use Rattle.std.proofs.Common.{rules, tests}
+use Rattle.std.proofs.lemmas.Iterator.{YieldsList-from_slice}
+use Rattle.std.proofs.lemmas.Iterator.Consumers.{YieldsList-from_filter, count_from_yields_List}
+use Rattle.std.proofs.lemmas.List.Sums.{length-filter}
+use Rattle.file_form.proofs.Text.Slices.{parts_counted}
 use Rattle.matrix_file.proofs.bytes.separators.Goals as goal
-use Rattle.matrix_file.proofs.bytes.separators.Goals.{then-text-i, else-text-i}
-
-pub loop-i-preserved : goal.loop-i-preserved
-loop-i-preserved c = elim c.if-text-i.branch [
-  | then-text-i w ↦ counted _ _ _ _ _ c.loop-i.invariant c.loop-i-test.true w.if-text-i.true w.count-is
-  | else-text-i w ↦ passed _ _ _ _ _ c.loop-i.invariant c.loop-i-test.true w.if-text-i.false w.count-is
-]
 
 pub returns : goal.returns
-returns c = all-counted _ _ _ _ c.loop-i.invariant c.loop-i-test.false
+returns c =
+    ap (λ k. k + 1)
+    (count_from_yields_List c.filter.result c.count.result c.count.ensures.ran
+    (YieldsList-from_filter _ (λ byte. eqb byte c.args.separator) (YieldsList-from_slice c.args.text.now cc) c.filter.ensures.closure
+    (λ x r q k. search (rules, tests)))
+    ∙ length-filter (λ byte. eqb byte c.args.separator) c.args.text.now)
+    ∙ parts_counted c.args.separator c.args.text.now

@@ -1,71 +1,61 @@
 -- What the check leaves of `matrix_file::judging::ask_codes`.
-use mir.Syntax.{w32}
-use mathlib.Core.Path.{◌≡◌, sym, ap, ◌∙◌}
-use Prim.Native.Nat.{◌+◌, ◌≤◌}
-use native.Mathlib.Omega.{arith}
-use borrow.Author.Tests.{not-false}
-use borrow.Author.Rules.{sfits_of}
-use lib.ListN.{length}
-use mir.Facts.{to_z-of_z}
+use mathlib.Core.Path.{refl, sym, ap, ◌∙◌}
+use mathlib.Core.List.{[], ◌∷◌}
+use lib.Dec.{eqb}
+use lib.ListN.{drop, length-append}
+use Rattle.std.proofs.Common.{rules, tests, of_calls}
+use Rattle.std.proofs.lemmas.Result.{err_from_is_err_and}
+use Rattle.std.proofs.lemmas.Iterator.Adapters.{YieldsList-from_skip}
+use Rattle.std.proofs.lemmas.Iterator.Consumers.{YieldsList-at, YieldsList-turn, YieldsList-end}
+use Rattle.std.proofs.lemmas.Iterator.Splits.{YieldsList-from_slice_split}
 use Rattle.file_form.specs.Bytes.{tab}
-use Rattle.file_form.specs.Decimal.{code_of}
-use Rattle.file_form.proofs.Text.PartsFrom.{next-within}
-use Rattle.matrix.specs.Shape.{in_range}
-use Rattle.matrix_file.proofs.Rows.CodesWalk.{all_codes, bad_form, out_of_range, next_decides, none_left}
+use Rattle.file_form.specs.Lines.{fields_of}
+use Rattle.file_form.specs.Rows.{ask_codes}
+use Rattle.matrix_file.proofs.Rows.CodesWalk.{walk-refused, walk_passed, walk_ended}
 use Rattle.matrix_file.proofs.judging.ask_codes.Goals as goal
 
-pub loop-at-init : goal.loop-at-init
-loop-at-init c = (omega arith, all_codes _)
+pub loop-field-init : goal.loop-field-init
+loop-field-init c = (search (rules, of_calls), search (rules, of_calls), refl)
 
-pub returns-then-not-code_form : goal.returns-then-not-code_form
-returns-then-not-code_form c =
-    bad_form _ _ _ _ _ c.loop-at.invariant c.loop-at-test.true
-    c.rest_from.ensures c.first_part-field.ensures c.code_form.ensures c.if-not-code_form.true-raw
+pub returns-in_err-ask_code : goal.returns-in_err-ask_code
+returns-in_err-ask_code c =
+    let told = err_from_is_err_and c.from_residual.result c.from_residual.ensures.1 in
+    let turn = YieldsList-turn
+    (YieldsList-at c.into_iter-field-iterator.ensures.into_iter_gives
+    (YieldsList-from_skip 1
+    (YieldsList-at c.skip-field-items.ensures.source
+    (YieldsList-from_slice_split _ (λ byte. eqb byte tab) c.args.line.now c.split.ensures.rest c.split.ensures.done c.split.ensures.closure
+    (λ x b q k. search (rules, tests))))
+    c.skip-field-items.ensures.count))
+    c.loop-field.yielded c.loop-field.field-iterator c.loop-field.yielded_by c.next.result c.next.new.self c.in-Some.field c.in-Some.is
+    c.next.ensures.steps in
+    rw (told.1, told.2) (walk-refused _ _ c.loop-field.invariant.2 _ turn _ (sym c.ask_code.ensures ∙ c.in_err-ask_code.was))
 
-pub code_of-requires : goal.code_of-requires
-code_of-requires c = sym c.code_form.ensures ∙ not-false _ c.if-not-code_form.false-raw
-
-pub returns-then-not-in_range : goal.returns-then-not-in_range
-returns-then-not-in_range c =
-    let range-answered : c.in_range.result ≡ in_range (code_of c.first_part-field.result.now) = rw (to_z-of_z {w = w32} (sfits_of c.code_of.type_inv)) at c.in_range.ensures ∙ ap in_range c.code_of.ensures in
-    out_of_range _ _ _ _ _ c.loop-at.invariant c.loop-at-test.true
-    c.rest_from.ensures c.first_part-field.ensures c.code_form.ensures
-    c.if-not-code_form.false-raw _
-    range-answered c.if-not-in_range.true-raw
-
-pub overflow_add-at : goal.overflow_add-at
-overflow_add-at c =
-    let field_end : c.loop-at.at + length c.first_part-field.result.now ≤ length c.args.text.now = next-within tab c.args.text.now c.loop-at.at
-    c.rest_from.result.now c.first_part-field.result.now c.loop-at-test.true
-    c.rest_from.ensures c.first_part-field.ensures in
-    omega (arith, field_end)
-
-pub overflow_add-at-in-loop-at : goal.overflow_add-at-in-loop-at
-overflow_add-at-in-loop-at c =
-    let field_end : c.loop-at.at + length c.first_part-field.result.now ≤ length c.args.text.now = next-within tab c.args.text.now c.loop-at.at
-    c.rest_from.result.now c.first_part-field.result.now c.loop-at-test.true
-    c.rest_from.ensures c.first_part-field.ensures in
-    omega (arith, field_end)
-
-pub loop-at-smaller : goal.loop-at-smaller
-loop-at-smaller c =
-    let field_end : c.loop-at.at + length c.first_part-field.result.now ≤ length c.args.text.now = next-within tab c.args.text.now c.loop-at.at
-    c.rest_from.result.now c.first_part-field.result.now c.loop-at-test.true
-    c.rest_from.ensures c.first_part-field.ensures in
-    omega (arith, field_end)
-
-pub loop-at-preserved : goal.loop-at-preserved
-loop-at-preserved c =
-    let field_end : c.loop-at.at + length c.first_part-field.result.now ≤ length c.args.text.now = next-within tab c.args.text.now c.loop-at.at
-    c.rest_from.result.now c.first_part-field.result.now c.loop-at-test.true
-    c.rest_from.ensures c.first_part-field.ensures in
-    let range-answered : c.in_range.result ≡ in_range (code_of c.first_part-field.result.now) = rw (to_z-of_z {w = w32} (sfits_of c.code_of.type_inv)) at c.in_range.ensures ∙ ap in_range c.code_of.ensures in (
-      omega (arith, field_end),
-      next_decides _ _ _ _ _ c.loop-at.invariant c.loop-at-test.true
-          c.rest_from.ensures c.first_part-field.ensures c.code_form.ensures
-          c.if-not-code_form.false-raw _
-          range-answered c.if-not-in_range.false-raw,
+pub loop-field-preserved : goal.loop-field-preserved
+loop-field-preserved c =
+    let turn = YieldsList-turn
+    (YieldsList-at c.into_iter-field-iterator.ensures.into_iter_gives
+    (YieldsList-from_skip 1
+    (YieldsList-at c.skip-field-items.ensures.source
+    (YieldsList-from_slice_split _ (λ byte. eqb byte tab) c.args.line.now c.split.ensures.rest c.split.ensures.done c.split.ensures.closure
+    (λ x b q k. search (rules, tests))))
+    c.skip-field-items.ensures.count))
+    c.loop-field.yielded c.loop-field.field-iterator c.loop-field.yielded_by c.next.result c.next.new.self c.in-Some.field c.in-Some.is
+    c.next.ensures.steps in (
+      search (rules, of_calls),
+      search (rules, of_calls),
+      walk_passed _ _ c.loop-field.invariant.2 _ turn (sym c.ask_code.ensures ∙ c.in_ok-ask_code.was)
+          ∙ ap (λ k. ask_codes (drop k (drop 1 (fields_of c.args.line.now)))) (sym (length-append c.loop-field.yielded (c.in-Some.field ∷ []))),
     )
 
 pub returns : goal.returns
-returns c = none_left _ _ c.loop-at.invariant c.loop-at-test.false
+returns c =
+    walk_ended _ _ c.loop-field.invariant.2
+    (YieldsList-end
+    (YieldsList-at c.into_iter-field-iterator.ensures.into_iter_gives
+    (YieldsList-from_skip 1
+    (YieldsList-at c.skip-field-items.ensures.source
+    (YieldsList-from_slice_split _ (λ byte. eqb byte tab) c.args.line.now c.split.ensures.rest c.split.ensures.done c.split.ensures.closure
+    (λ x b q k. search (rules, tests))))
+    c.skip-field-items.ensures.count))
+    c.loop-field.yielded c.loop-field.field-iterator c.loop-field.yielded_by c.next.result c.next.new.self c.in-None.is c.next.ensures.steps).1

@@ -1,11 +1,12 @@
--- `matrix_file::judging::ask_codes` meets its contract. The loop's invariant: the codes that are left decide. Assumes nothing.
-use Prim.Native.Nat.{◌+◌, ◌-◌}
-use lib.ListN.{length}
-use Rattle.matrix_file.proofs.Rows.CodesWalk.{Decide}
+-- `matrix_file::judging::ask_codes` meets its contract. The loop's invariant: the codes that are left decide.
+use mathlib.Core.Path.{◌≡◌}
+use lib.ListN.{length, drop}
+use Rattle.file_form.specs.Lines.{fields_of}
+use Rattle.file_form.specs.Rows.{ask_codes}
 use Rattle.matrix_file.proofs.judging.ask_codes.Given as goal
 
-abbrev pub invariant-loop-at : goal.invariant-loop-at
-invariant-loop-at l = Decide l.text l.at
-
-abbrev pub decreases-loop-at : goal.decreases-loop-at
-decreases-loop-at l = length l.text + 1 - l.at
+abbrev pub invariant-loop-field : goal.invariant-loop-field
+invariant-loop-field l =
+    (goal.iterator-loop-field).can_next l.field-iterator
+    × (goal.iterator-loop-field).is_finite l.field-iterator
+    × (ask_codes (drop 1 (fields_of l.fn.line)) ≡ ask_codes (drop (length l.yielded) (drop 1 (fields_of l.fn.line))))

@@ -1,9 +1,11 @@
--- `matrix_file::judging::ask_end` meets its contract: the file ends where no byte is left. Assumes nothing.
+-- `matrix_file::judging::ask_end` meets its contract: the file ends where no byte is left.
+use mathlib.Core.Path.{sym, ◌∙◌}
+use borrow.Author.Tests.{eqb-true, eqb-false}
 use Rattle.matrix_file.proofs.File.FileWalk.{goes_on, ends}
 use Rattle.matrix_file.proofs.judging.ask_end.Goals as goal
 
-pub returns-then-rest-gt0 : goal.returns-then-rest-gt0
-returns-then-rest-gt0 c = goes_on _ c.if-rest-gt0.true
+pub returns-then-not-is_empty : goal.returns-then-not-is_empty
+returns-then-not-is_empty c = goes_on _ (eqb-false _ 0 (sym c.is_empty.ensures ∙ c.if-not-is_empty.true))
 
 pub returns : goal.returns
-returns c = ends _ c.if-rest-gt0.false
+returns c = ends _ (eqb-true _ 0 (sym c.is_empty.ensures ∙ c.if-not-is_empty.false))

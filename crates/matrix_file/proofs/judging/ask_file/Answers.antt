@@ -1,29 +1,43 @@
--- `matrix_file::judging::ask_file` meets its contract: each answer follows from the questions that led to it. Assumes nothing.
-use mathlib.Core.Path.{ap, ◌∙◌}
-use Rattle.matrix_file.specs.Report.{read_says}
-use Rattle.matrix_file.proofs.File.FileWalk.{too_long, empty, header_refused, header_several, header_limits, behind_decides}
+-- `matrix_file::judging::ask_file` meets its contract: the length decides, then the header, then what stands behind it.
+use mathlib.Core.Path.{sym, ap, ◌∙◌}
+use Rattle.std.proofs.lemmas.Result.{err_from_is_err_and}
+use Rattle.matrix_file.specs.Walk.{at_line, passed_says}
+use Rattle.matrix_file.proofs.File.FileWalk.{length-refused, header_refused, taxa_few, header_several, behind_decides}
 use Rattle.matrix_file.proofs.judging.ask_file.Goals as goal
 
-pub returns-then-file-gt-MOST_BYTES : goal.returns-then-file-gt-MOST_BYTES
-returns-then-file-gt-MOST_BYTES c = ap read_says c.refused.ensures ∙ too_long _ c.if-file-gt-MOST_BYTES.true
+pub returns-in_err-on_line : goal.returns-in_err-on_line
+returns-in_err-on_line c =
+    let told = err_from_is_err_and c.from_residual.result c.from_residual.ensures.1 in
+    rw (told.1, told.2) (length-refused _ _ (ap (at_line 0) (sym c.ask_length.ensures) ∙ sym c.on_line.ensures ∙ c.in_err-on_line.was))
 
-pub returns-then-file-eq0 : goal.returns-then-file-eq0
-returns-then-file-eq0 c = ap read_says c.refused-then-file-eq0.ensures ∙ empty _ c.if-file-eq0.true
+pub returns-in_err-header : goal.returns-in_err-header
+returns-in_err-header c =
+    let told = err_from_is_err_and c.from_residual-in_err-header.result c.from_residual-in_err-header.ensures.1 in
+    rw (told.1, told.2)
+    (header_refused _ (ap (at_line 0) (sym c.ask_length.ensures) ∙ sym c.on_line.ensures ∙ c.in_ok-on_line.was) _ c.ask_header.ensures _
+    c.in_err-header.was)
 
 pub ask_behind-requires : goal.ask_behind-requires
 ask_behind-requires c =
     record {
-      within_limits = header_limits _ c.if-file-gt-MOST_BYTES.false c.if-file-eq0.false _ c.ask_header.ensures _ c.in-Accepted.is;
-      lines_left = header_several _ c.if-file-gt-MOST_BYTES.false c.if-file-eq0.false _ c.ask_header.ensures _ c.in-Accepted.is;
+      within_limits =
+          taxa_few _ (ap (at_line 0) (sym c.ask_length.ensures) ∙ sym c.on_line.ensures ∙ c.in_ok-on_line.was) _ c.ask_header.ensures _
+          c.in_ok-header.was;
+      lines_left =
+          header_several _ (ap (at_line 0) (sym c.ask_length.ensures) ∙ sym c.on_line.ensures ∙ c.in_ok-on_line.was) _ c.ask_header.ensures _
+          c.in_ok-header.was;
     }
 
-pub returns-in-Refused : goal.returns-in-Refused
-returns-in-Refused c =
-    ap read_says c.refused-in-Refused.ensures
-    ∙ header_refused _ c.if-file-gt-MOST_BYTES.false c.if-file-eq0.false _ c.ask_header.ensures _ _
-    c.in-Refused.is
+pub returns-in_err-ask_behind : goal.returns-in_err-ask_behind
+returns-in_err-ask_behind c =
+    let told = err_from_is_err_and c.from_residual-in_err-ask_behind.result c.from_residual-in_err-ask_behind.ensures.1 in
+    rw (told.1, told.2)
+    (ap (passed_says c.in_ok-header.header) (sym c.in_err-ask_behind.was)
+    ∙ behind_decides _ (ap (at_line 0) (sym c.ask_length.ensures) ∙ sym c.on_line.ensures ∙ c.in_ok-on_line.was) _ c.ask_header.ensures _
+    c.in_ok-header.was _ c.ask_behind.ensures)
 
-pub returns-in-Accepted : goal.returns-in-Accepted
-returns-in-Accepted c =
-    behind_decides _ c.if-file-gt-MOST_BYTES.false c.if-file-eq0.false _ c.ask_header.ensures _
-    c.in-Accepted.is _ c.ask_behind.ensures
+pub returns : goal.returns
+returns c =
+    ap (passed_says c.in_ok-header.header) (sym c.in_ok-ask_behind.was)
+    ∙ behind_decides _ (ap (at_line 0) (sym c.ask_length.ensures) ∙ sym c.on_line.ensures ∙ c.in_ok-on_line.was) _ c.ask_header.ensures _
+    c.in_ok-header.was _ c.ask_behind.ensures

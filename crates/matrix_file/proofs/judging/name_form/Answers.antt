@@ -1,18 +1,27 @@
--- `matrix_file::judging::name_form` meets its contract: each answer follows from the tests that led to it. Assumes nothing.
-use Rattle.matrix_file.proofs.Rows.NameForm.{none, long, rest_decides, no_letter}
+-- `matrix_file::judging::name_form` meets its contract: each answer follows from the tests that led to it.
+use Rattle.std.proofs.Common.{rules, tests}
+use Rattle.std.proofs.lemmas.Iterator.{YieldsList-from_slice}
+use Rattle.std.proofs.lemmas.Iterator.Search.{all_from_yields_List}
+use mathlib.Core.Path.{ap, ◌∙◌}
+use Rattle.std.specs.List.{list_all}
+use Rattle.file_form.proofs.Text.FirstPart.{part_to_end}
+use borrow.Author.Tests.{lt-leb}
+use Rattle.file_form.specs.Job.{in_name}
+use Rattle.matrix_file.proofs.Rows.NameForm.{empty, long, no_letter, others_decide}
 use Rattle.matrix_file.proofs.judging.name_form.Goals as goal
 
-pub returns-then-name-eq0 : goal.returns-then-name-eq0
-returns-then-name-eq0 c = none _ c.if-name-eq0.true
+pub returns-in_default : goal.returns-in_default
+returns-in_default c = empty _ c.in_default.len_below
 
-pub returns-then-name-gt-NAME_SIZE : goal.returns-then-name-gt-NAME_SIZE
-returns-then-name-gt-NAME_SIZE c = long _ c.if-name-eq0.false c.if-name-gt-NAME_SIZE.true
+pub returns-then-is_ascii_alphabetic : goal.returns-then-is_ascii_alphabetic
+returns-then-is_ascii_alphabetic c =
+    others_decide _ c.in-len1-up.len_at_least c.if-name-le-NAME_SIZE.true _ c.is_ascii_alphabetic.ensures.value c.if-is_ascii_alphabetic.true _
+    (all_from_yields_List in_name _ _ _ c.all.ensures.ran (YieldsList-from_slice _ c.iter.ensures.rest) (λ x b q k. search (rules, tests))
+    ∙ ap (list_all in_name) (part_to_end 1 c.args.name.now))
 
-pub returns-then-is_letter : goal.returns-then-is_letter
-returns-then-is_letter c =
-    rest_decides _ _ _ _ c.if-name-eq0.false
-    c.if-name-gt-NAME_SIZE.false c.if-is_letter.true c.is_letter.ensures
-    c.rest_from.ensures c.all_in.ensures
+pub returns-else-is_ascii_alphabetic : goal.returns-else-is_ascii_alphabetic
+returns-else-is_ascii_alphabetic c =
+    no_letter _ c.in-len1-up.len_at_least c.if-name-le-NAME_SIZE.true _ c.is_ascii_alphabetic.ensures.value c.if-is_ascii_alphabetic.false
 
-pub returns-else-is_letter : goal.returns-else-is_letter
-returns-else-is_letter c = no_letter _ _ c.if-name-eq0.false c.if-is_letter.false c.is_letter.ensures
+pub returns-else-name-le-NAME_SIZE : goal.returns-else-name-le-NAME_SIZE
+returns-else-name-le-NAME_SIZE c = lt-leb _ 16 c.if-name-le-NAME_SIZE.false ∙ long _ c.in-len1-up.len_at_least c.if-name-le-NAME_SIZE.false

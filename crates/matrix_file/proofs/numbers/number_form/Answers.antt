@@ -1,48 +1,34 @@
--- `matrix_file::numbers::number_form` meets its contract: each answer follows from the tests that led to it. Assumes nothing.
-use mathlib.Core.Path.{sym, ◌∙◌}
-use borrow.Author.Tests.{not-true, not-false, le-leb, lt-leb, eq-eqb}
-use Rattle.file_form.specs.Decimal.{number_form}
-use Rattle.file_form.proofs.Decimal.Digits.{leading_one, leading_more}
+-- `matrix_file::numbers::number_form` meets its contract: each answer follows from the tests that led to it.
+use Rattle.std.proofs.Common.{rules, tests}
+use Rattle.std.specs.Char.{is_ascii_digit}
+use Rattle.std.proofs.lemmas.Iterator.{YieldsList-from_slice}
+use Rattle.std.proofs.lemmas.Iterator.Search.{all_from_yields_List}
+use Rattle.matrix.proofs.Between.{nat_between}
+use Rattle.matrix_file.proofs.Decimal.NumberWalk.{bad_length, no_digit, one_digit, several_digits}
 use Rattle.matrix_file.proofs.numbers.number_form.Goals as goal
 
-pub returns-then-text-lt1 : goal.returns-then-text-lt1
-unfolding number_form
-returns-then-text-lt1 c = rw (lt-leb 1 _ c.if-text-lt1.true)
+pub returns-then-not-contains : goal.returns-then-not-contains
+returns-then-not-contains c =
+    bad_length _ _ (nat_between _ _ _ _ c.new.ensures.start c.new.ensures.end c.new.ensures.exhausted c.contains.ensures.value)
+    c.if-not-contains.true
 
-pub returns-then-text-gt-MOST_DIGITS : goal.returns-then-text-gt-MOST_DIGITS
-unfolding number_form
-returns-then-text-gt-MOST_DIGITS c = rw (le-leb 1 _ c.if-text-lt1.false, lt-leb _ 6 c.if-text-gt-MOST_DIGITS.true)
-
-pub returns-then-not-all_in : goal.returns-then-not-all_in
-unfolding number_form
-returns-then-not-all_in c =
-    rw (
-      le-leb 1 _ c.if-text-lt1.false,
-      le-leb _ 6 c.if-text-gt-MOST_DIGITS.false,
-      sym c.all_in.ensures ∙
-          not-true _ c.if-not-all_in.true-raw,
-    )
+pub returns-then-not-all : goal.returns-then-not-all
+returns-then-not-all c =
+    no_digit _ _ (nat_between _ _ _ _ c.new.ensures.start c.new.ensures.end c.new.ensures.exhausted c.contains.ensures.value)
+    c.if-not-contains.false _
+    (all_from_yields_List is_ascii_digit _ _ _ c.all.ensures.ran (YieldsList-from_slice c.args.text.now cc) (λ x b q k. search (rules, tests)))
+    c.if-not-all.true
 
 pub returns-then-text-eq1 : goal.returns-then-text-eq1
-unfolding number_form
 returns-then-text-eq1 c =
-    rw (
-      le-leb 1 _ c.if-text-lt1.false,
-      le-leb _ 6 c.if-text-gt-MOST_DIGITS.false,
-      sym
-          c.all_in.ensures ∙ not-false _ c.if-not-all_in.false-raw,
-      leading_one _ c.if-text-eq1.true,
-    )
-    (eq-eqb _ 1 c.if-text-eq1.true)
+    one_digit _ _ (nat_between _ _ _ _ c.new.ensures.start c.new.ensures.end c.new.ensures.exhausted c.contains.ensures.value)
+    c.if-not-contains.false _
+    (all_from_yields_List is_ascii_digit _ _ _ c.all.ensures.ran (YieldsList-from_slice c.args.text.now cc) (λ x b q k. search (rules, tests)))
+    c.if-not-all.false c.if-text-eq1.true
 
 pub returns-else-text-eq1 : goal.returns-else-text-eq1
-unfolding number_form
 returns-else-text-eq1 c =
-    rw (
-      le-leb 1 _ c.if-text-lt1.false,
-      le-leb _ 6 c.if-text-gt-MOST_DIGITS.false,
-      sym
-          c.all_in.ensures ∙ not-false _ c.if-not-all_in.false-raw,
-      leading_more _
-          c.if-text-lt1.false c.if-text-eq1.false,
-    )
+    several_digits _ _ (nat_between _ _ _ _ c.new.ensures.start c.new.ensures.end c.new.ensures.exhausted c.contains.ensures.value)
+    c.if-not-contains.false _
+    (all_from_yields_List is_ascii_digit _ _ _ c.all.ensures.ran (YieldsList-from_slice c.args.text.now cc) (λ x b q k. search (rules, tests)))
+    c.if-not-all.false c.if-text-eq1.false

@@ -1,17 +1,24 @@
--- `matrix_file::weights::ask_weights` meets its contract: the fields of the first line are asked, and then the line. Assumes nothing.
+-- `matrix_file::weights::ask_weights` meets its contract: the line is there, it is ended, and its fields are weights.
 use mathlib.Core.Path.{sym, ap, ◌∙◌}
+use borrow.Author.Tests.{not-true, not-false}
+use Rattle.std.specs.Prelude.{Ok}
+use Rattle.matrix.specs.Outcomes.{ask}
 use Rattle.matrix.specs.declared.refusal.Refusal.TheVariants.{WeightForm}
-use Rattle.file_form.specs.Lines.{lines_of}
-use Rattle.file_form.specs.Optional.{ask_optional}
-use Rattle.file_form.specs.Weights.{weights_form}
-use Rattle.file_form.specs.Header.{ask_weights}
-use Rattle.matrix_file.proofs.File.OptionalWalk.{line_fields}
+use Rattle.matrix_file.proofs.File.OptionalWalk.{absent, unended, fields_decide}
 use Rattle.matrix_file.proofs.weights.ask_weights.Goals as goal
 
+pub returns-then-not-header : goal.returns-then-not-header
+returns-then-not-header c = absent _ _ (not-true _ c.if-not-header.true)
+
+pub returns-in_default : goal.returns-in_default
+returns-in_default c = unended _ _ (not-false _ c.if-not-header.false) c.in_default.ensures
+
+pub returns-then-not-weights_form : goal.returns-then-not-weights_form
+returns-then-not-weights_form c =
+    ap (λ b. ask b WeightForm (Ok tt)) (sym c.if-not-weights_form.true)
+    ∙ fields_decide _ _ _ _ _ (not-false _ c.if-not-header.false) c.in-Some.ensures c.weights_form.ensures
+
 pub returns : goal.returns
-unfolding ask_weights
 returns c =
-    let start = c.args in
-    c.ask_optional.ensures
-    ∙ ap (λ formed. ask_optional start.header.weighed formed WeightForm (lines_of start.text.now))
-    (c.weights_form-formed.ensures ∙ ap (weights_form start.header.m) (sym (line_fields _ _ c.first_part.ensures)))
+    ap (λ b. ask b WeightForm (Ok tt)) (sym c.if-not-weights_form.false)
+    ∙ fields_decide _ _ _ _ _ (not-false _ c.if-not-header.false) c.in-Some.ensures c.weights_form.ensures

@@ -1,39 +1,36 @@
--- What the check leaves of `matrix_file::weights::weights_form`.
-use mathlib.Core.Path.{refl, ap, ◌∙◌}
-use mathlib.Core.List.{[]}
-use native.Mathlib.Omega.{arith}
-use Rattle.lists.proofs.Every.{every_fails, every_goes_on, every_passes}
-use Rattle.file_form.specs.Weights.{weight_form}
-use Rattle.matrix_file.proofs.Lists.WeightsWritten.{field_at, fields_behind, other-count, fields_decide}
+-- `matrix_file::weights::weights_form` meets its contract: the count decides, and then each field.
+use mathlib.Core.Path.{ap, sym, ◌∙◌}
+use lib.Dec.{eqb}
+use lib.ListN.{drop}
+use borrow.Author.Tests.{ne_eqb}
+use Rattle.std.proofs.Common.{rules, tests}
+use Rattle.std.specs.Prelude.{is_some}
+use Rattle.std.proofs.lemmas.Iterator.Adapters.{YieldsList-from_skip}
+use Rattle.std.proofs.lemmas.Iterator.Consumers.{YieldsList-at}
+use Rattle.std.proofs.lemmas.Iterator.Search.{all_from_yields_List}
+use Rattle.std.proofs.lemmas.Iterator.Splits.{YieldsList-from_slice_split}
+use Rattle.std.specs.List.{list_all}
+use Rattle.file_form.specs.Bytes.{tab}
+use Rattle.file_form.specs.Lines.{fields_of}
+use Rattle.file_form.specs.Weights.{weight_form, weight_in}
+use Rattle.file_form.proofs.Text.Slices.{parts_split}
+use Rattle.matrix_file.specs.Walk.{read_as}
+use Rattle.matrix_file.proofs.Lists.WeightsWritten.{all_read, other-count, fields_decide}
 use Rattle.matrix_file.proofs.weights.weights_form.Goals as goal
 
 pub returns-then-separators-m : goal.returns-then-separators-m
-returns-then-separators-m c = other-count _ _ _ c.separators.ensures c.if-separators-m.true
+unfolding fields_of
+returns-then-separators-m c =
+    all_from_yields_List (λ field. is_some (read_as weight_form weight_in field)) _ _ c.all.result c.all.ensures.ran
+    (YieldsList-from_skip 1
+    (YieldsList-at c.skip.ensures.source
+    (YieldsList-from_slice_split _ (λ byte. eqb byte tab) c.args.line.now c.split.ensures.rest c.split.ensures.done c.split.ensures.closure
+    (λ x b q k. search (rules, tests))))
+    c.skip.ensures.count)
+    (λ x b q k. search (rules, tests))
+    ∙ ap (λ parts. list_all (λ field. is_some (read_as weight_form weight_in field)) (drop 1 parts)) (sym (parts_split tab c.args.line.now))
+    ∙ all_read (drop 1 (fields_of c.args.line.now))
+    ∙ fields_decide _ _ _ c.separators.ensures c.if-separators-m.true
 
-pub loop-j-init : goal.loop-j-init
-loop-j-init c = (omega arith, refl)
-
-pub returns-then-not-weight_form : goal.returns-then-not-weight_form
-returns-then-not-weight_form c =
-    let tabs = c.separators.ensures in
-    every_fails weight_form [] _ _ c.loop-j.invariant.1 (omega (arith, fields_behind _ _ 0 tabs, c.if-separators-m.false))
-    (c.weight_form.ensures ∙ ap weight_form (c.field.ensures ∙ field_at _ _)) c.if-not-weight_form.true-raw
-    ∙ fields_decide _ _ _ tabs c.if-separators-m.false
-
-pub loop-j-smaller : goal.loop-j-smaller
-loop-j-smaller c = omega arith
-
-pub loop-j-preserved : goal.loop-j-preserved
-loop-j-preserved c =
-    let tabs = c.separators.ensures in (
-      omega arith,
-      every_goes_on weight_form [] _ _ c.loop-j.invariant.1 (omega (arith, fields_behind _ _ 0 tabs, c.if-separators-m.false))
-          (c.weight_form.ensures ∙ ap weight_form (c.field.ensures ∙ field_at _ _)) c.if-not-weight_form.false-raw,
-    )
-
-pub returns : goal.returns
-returns c =
-    let tabs = c.separators.ensures in
-    every_passes weight_form [] _ c.loop-j.j c.loop-j.invariant.1
-    (omega (arith, fields_behind _ _ 0 tabs, c.if-separators-m.false, c.loop-j-test.false))
-    ∙ fields_decide _ _ _ tabs c.if-separators-m.false
+pub returns-else-separators-m : goal.returns-else-separators-m
+returns-else-separators-m c = ne_eqb _ _ c.if-separators-m.false ∙ other-count _ _ _ c.separators.ensures c.if-separators-m.false

@@ -1,33 +1,84 @@
 -- What the check leaves of `matrix_file::weights::write_weights`.
-use mathlib.Core.Path.{refl, sym}
+use mathlib.Core.Path.{refl, sym, ap, subst, ◌∙◌}
+use mathlib.Core.List.{[], ◌∷◌}
+use borrow.Author.Tests.{not-true, not-false}
 use native.Mathlib.Omega.{arith}
+use lib.Dec.{eqb}
+use lib.ListN.{length, replicate, set, length-append}
+use lib.Seq.{length-take-le}
+use Rattle.std.proofs.Common.{rules, tests, of_calls}
+use Rattle.std.proofs.lemmas.Iterator.Adapters.{YieldsList-from_skip}
+use Rattle.std.proofs.lemmas.Iterator.Consumers.{YieldsList-at, YieldsList-from_enumerate, YieldsList-turn, YieldsList-end}
+use Rattle.std.proofs.lemmas.Iterator.Splits.{YieldsList-from_slice_split}
 use Rattle.lists.proofs.Over.{over_nothing}
-use Rattle.matrix_file.proofs.Lists.WeightsWritten.{weight_given, weight_next, weights-done}
+use Rattle.file_form.specs.Bytes.{tab}
+use Rattle.matrix_file.proofs.Lists.CodesWritten.{field_turn, fields_passed}
+use Rattle.matrix_file.proofs.Lists.WeightsWritten.{Weighted, ones_written, weight_room, weight_next, weights-done}
 use Rattle.matrix_file.proofs.weights.write_weights.Goals as goal
 
-pub loop-done-init : goal.loop-done-init
-loop-done-init c = (omega arith, refl, sym (over_nothing 0 _))
+pub returns-then-not-header : goal.returns-then-not-header
+returns-then-not-header c =
+    ones_written _ _ _ c.requires.weights_formed _ _ (not-true _ c.if-not-header.true)
+    (c.fill.ensures.after (λ y same. same)
+    ∙ ap (λ count. replicate count 1) (length-take-le c.args.header.m c.args.weights.now c.requires.room))
+    c.requires.room
 
-pub weight_said-requires : goal.weight_said-requires
-weight_said-requires c =
-    weight_given _ _ _ c.args.header.weighed c.first_part-line.ensures c.requires.weights_formed _ c.loop-done-test.true
+pub loop-j-init : goal.loop-j-init
+loop-j-init c = (search (rules, of_calls), search (rules, of_calls), (refl, sym (over_nothing 0 _)))
 
-pub bounds-weights-done : goal.bounds-weights-done
-bounds-weights-done c =
-    omega (arith, c.loop-done.invariant.1, c.loop-done-test.true, c.requires.room)
+pub bounds-weights-j : goal.bounds-weights-j
+bounds-weights-j c =
+    let turn = field_turn c.first_part-line.result.now (length c.loop-j.yielded) (c.in-Some.j, c.in-Some.field.now)
+    (YieldsList-turn
+    (YieldsList-at c.into_iter-j-iterator.ensures.into_iter_gives
+    (YieldsList-from_enumerate
+    (YieldsList-at c.enumerate-j-items.ensures.source
+    (YieldsList-from_skip 1
+    (YieldsList-at c.skip.ensures.source
+    (YieldsList-from_slice_split _ (λ byte. eqb byte tab) c.first_part-line.result.now c.split.ensures.rest c.split.ensures.done c.split.ensures.closure
+    (λ x b q k. search (rules, tests))))
+    c.skip.ensures.count))
+    c.enumerate-j-items.ensures.count))
+    c.loop-j.yielded c.loop-j.j-iterator c.loop-j.yielded_by c.next.result c.next.new.self (c.in-Some.j, c.in-Some.field) c.in-Some.is
+    c.next.ensures.steps) in
+    weight_room _ _ _ c.requires.weights_formed _ c.first_part-line.ensures (not-false _ c.if-not-header.false) (turn.0, turn.1)
+    (omega (arith, c.requires.room, c.loop-j.invariant.2.0))
 
-pub loop-done-smaller : goal.loop-done-smaller
-loop-done-smaller c = omega arith
-
-pub loop-done-preserved : goal.loop-done-preserved
-loop-done-preserved c =
-    weight_next _ _ _ _ c.first_part-line.ensures c.requires.weights_formed _ _ _ _ c.loop-done.invariant
-    c.loop-done-test.true c.weight_said.ensures
-
-pub shape_of-weights : goal.shape_of-weights
-shape_of-weights c = c.loop-done.invariant.1
+pub loop-j-preserved : goal.loop-j-preserved
+loop-j-preserved c =
+    let turn = field_turn c.first_part-line.result.now (length c.loop-j.yielded) (c.in-Some.j, c.in-Some.field.now)
+    (YieldsList-turn
+    (YieldsList-at c.into_iter-j-iterator.ensures.into_iter_gives
+    (YieldsList-from_enumerate
+    (YieldsList-at c.enumerate-j-items.ensures.source
+    (YieldsList-from_skip 1
+    (YieldsList-at c.skip.ensures.source
+    (YieldsList-from_slice_split _ (λ byte. eqb byte tab) c.first_part-line.result.now c.split.ensures.rest c.split.ensures.done c.split.ensures.closure
+    (λ x b q k. search (rules, tests))))
+    c.skip.ensures.count))
+    c.enumerate-j-items.ensures.count))
+    c.loop-j.yielded c.loop-j.j-iterator c.loop-j.yielded_by c.next.result c.next.new.self (c.in-Some.j, c.in-Some.field) c.in-Some.is
+    c.next.ensures.steps) in (
+      search (rules, of_calls),
+      search (rules, of_calls),
+      subst (Weighted c.args.weights.now c.args.text.now (set c.loop-j.weights c.in-Some.j c.unwrap_or.result))
+          (sym (length-append c.loop-j.yielded ((c.in-Some.j, c.in-Some.field) ∷ [])))
+          (weight_next _ _ _ c.requires.weights_formed _ c.first_part-line.ensures (not-false _ c.if-not-header.false) _ _ _ _ _ _ _ turn
+          c.loop-j.invariant.2 c.weight.ensures c.unwrap_or.ensures),
+    )
 
 pub returns : goal.returns
 returns c =
-    weights-done _ _ _ _ c.first_part-line.ensures c.requires.weights_formed _ _ _ c.loop-done.invariant
-    c.loop-done-test.false
+    weights-done _ _ _ c.requires.weights_formed _ c.first_part-line.ensures (not-false _ c.if-not-header.false) _ _ _ c.loop-j.invariant.2
+    (fields_passed c.first_part-line.result.now (length c.loop-j.yielded)
+    (YieldsList-end
+    (YieldsList-at c.into_iter-j-iterator.ensures.into_iter_gives
+    (YieldsList-from_enumerate
+    (YieldsList-at c.enumerate-j-items.ensures.source
+    (YieldsList-from_skip 1
+    (YieldsList-at c.skip.ensures.source
+    (YieldsList-from_slice_split _ (λ byte. eqb byte tab) c.first_part-line.result.now c.split.ensures.rest c.split.ensures.done c.split.ensures.closure
+    (λ x b q k. search (rules, tests))))
+    c.skip.ensures.count))
+    c.enumerate-j-items.ensures.count))
+    c.loop-j.yielded c.loop-j.j-iterator c.loop-j.yielded_by c.next.result c.next.new.self c.in-None.is c.next.ensures.steps).1)

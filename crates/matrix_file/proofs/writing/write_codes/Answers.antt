@@ -1,91 +1,98 @@
 -- What the check leaves of `matrix_file::writing::write_codes`.
-use mir.Syntax.{w32}
-use mathlib.Core.Path.{◌∙◌}
-use Prim.Native.Nat.{◌+◌, ◌≤◌, ◌<◌}
+use mathlib.Core.Path.{refl, sym, ap, ◌∙◌}
+use mathlib.Core.List.{[], ◌∷◌}
+use Prim.Native.Nat.{◌<◌}
 use native.Mathlib.Omega.{arith}
 use borrow.Author.Rules.{sfits_of}
-use lib.ListN.{length}
+use lib.Dec.{eqb}
+use lib.ListN.{length, take, length-set, length-append}
 use mir.Facts.{to_z-of_z}
-use Rattle.file_form.proofs.Text.PartsFrom.{next-within}
+use mir.Syntax.{w32}
+use Rattle.std.proofs.Common.{rules, tests, of_calls}
+use Rattle.std.proofs.lemmas.Iterator.Adapters.{YieldsList-from_skip}
+use Rattle.file_form.specs.Rows.{codes_in}
+use Rattle.std.proofs.lemmas.Iterator.Consumers.{YieldsList-at, YieldsList-from_enumerate, YieldsList-turn, YieldsList-end}
+use Rattle.std.proofs.lemmas.Iterator.Splits.{YieldsList-from_slice_split}
+use Rattle.lists.specs.Over.{over}
+use Rattle.lists.proofs.Over.{over_nothing}
 use Rattle.file_form.specs.Bytes.{tab}
-use Rattle.matrix_file.proofs.Lists.CodesWritten.{none_written, below, formed, one_more, all_written}
+use Rattle.matrix_file.proofs.Lists.CodesWritten.{field_turn, fields_passed, code_next, codes_all}
 use Rattle.matrix_file.proofs.writing.write_codes.Goals as goal
 
-pub loop-at-init : goal.loop-at-init
-loop-at-init c = none_written _ _
-
-pub code_of-requires : goal.code_of-requires
-code_of-requires c =
-    formed _ _ _ _ _ _ _ c.loop-at.invariant c.loop-at-test.true c.rest_from.ensures
-    c.first_part-field.ensures c.requires.codes_formed
-
-pub offset_bounds-out-j : goal.offset_bounds-out-j
-offset_bounds-out-j c =
-    let room : c.loop-at.j < length c.loop-at.out = omega (
-      arith,
-      below c.args.out.now c.args.text.now
-          c.loop-at.out c.loop-at.j c.loop-at.at
-          c.rest_from.result.now
-          c.first_part-field.result.now c.loop-at.invariant c.loop-at-test.true
-          c.rest_from.ensures c.first_part-field.ensures,
-      c.requires.room,
-      c.loop-at.invariant.full,
-    ) in
-    omega (arith, room)
+pub loop-j-init : goal.loop-j-init
+loop-j-init c = (search (rules, of_calls), search (rules, of_calls), refl, sym (over_nothing 0 _))
 
 pub bounds-out-j : goal.bounds-out-j
 bounds-out-j c =
-    let room : c.loop-at.j < length c.loop-at.out = omega (
-      arith,
-      below c.args.out.now c.args.text.now
-          c.loop-at.out c.loop-at.j c.loop-at.at
-          c.rest_from.result.now
-          c.first_part-field.result.now c.loop-at.invariant c.loop-at-test.true
-          c.rest_from.ensures c.first_part-field.ensures,
-      c.requires.room,
-      c.loop-at.invariant.full,
-    ) in
-    room
+    let turn = field_turn c.args.line.now (length c.loop-j.yielded) (c.in-Some.j, c.in-Some.field.now)
+    (YieldsList-turn
+    (YieldsList-at c.into_iter-j-iterator.ensures.into_iter_gives
+    (YieldsList-from_enumerate
+    (YieldsList-at c.enumerate-j-items.ensures.source
+    (YieldsList-from_skip 1
+    (YieldsList-at c.skip.ensures.source
+    (YieldsList-from_slice_split _ (λ byte. eqb byte tab) c.args.line.now c.split.ensures.rest c.split.ensures.done c.split.ensures.closure
+    (λ x b q k. search (rules, tests))))
+    c.skip.ensures.count))
+    c.enumerate-j-items.ensures.count))
+    c.loop-j.yielded c.loop-j.j-iterator c.loop-j.yielded_by c.next.result c.next.new.self (c.in-Some.j, c.in-Some.field) c.in-Some.is
+    c.next.ensures.steps) in
+    omega (arith, turn.0, turn.1, c.requires.room, c.loop-j.invariant.2)
 
-pub overflow_add-at : goal.overflow_add-at
-overflow_add-at c =
-    let field_end : c.loop-at.at + length c.first_part-field.result.now ≤ length c.args.text.now = next-within tab c.args.text.now c.loop-at.at
-    c.rest_from.result.now c.first_part-field.result.now c.loop-at-test.true
-    c.rest_from.ensures c.first_part-field.ensures in
-    omega (arith, field_end)
+pub offset_bounds-out-j : goal.offset_bounds-out-j
+offset_bounds-out-j c =
+    let turn = field_turn c.args.line.now (length c.loop-j.yielded) (c.in-Some.j, c.in-Some.field.now)
+    (YieldsList-turn
+    (YieldsList-at c.into_iter-j-iterator.ensures.into_iter_gives
+    (YieldsList-from_enumerate
+    (YieldsList-at c.enumerate-j-items.ensures.source
+    (YieldsList-from_skip 1
+    (YieldsList-at c.skip.ensures.source
+    (YieldsList-from_slice_split _ (λ byte. eqb byte tab) c.args.line.now c.split.ensures.rest c.split.ensures.done c.split.ensures.closure
+    (λ x b q k. search (rules, tests))))
+    c.skip.ensures.count))
+    c.enumerate-j-items.ensures.count))
+    c.loop-j.yielded c.loop-j.j-iterator c.loop-j.yielded_by c.next.result c.next.new.self (c.in-Some.j, c.in-Some.field) c.in-Some.is
+    c.next.ensures.steps) in
+    let room : c.in-Some.j < length c.loop-j.out = omega (arith, turn.0, turn.1, c.requires.room, c.loop-j.invariant.2) in
+    omega arith
 
-pub overflow_add-at-in-loop-at : goal.overflow_add-at-in-loop-at
-overflow_add-at-in-loop-at c =
-    let field_end : c.loop-at.at + length c.first_part-field.result.now ≤ length c.args.text.now = next-within tab c.args.text.now c.loop-at.at
-    c.rest_from.result.now c.first_part-field.result.now c.loop-at-test.true
-    c.rest_from.ensures c.first_part-field.ensures in
-    omega (arith, field_end)
-
-pub overflow_add-j : goal.overflow_add-j
-overflow_add-j c =
-    let room : c.loop-at.j < length c.loop-at.out = omega (
-      arith,
-      below c.args.out.now c.args.text.now
-          c.loop-at.out c.loop-at.j c.loop-at.at
-          c.rest_from.result.now
-          c.first_part-field.result.now c.loop-at.invariant c.loop-at-test.true
-          c.rest_from.ensures c.first_part-field.ensures,
-      c.requires.room,
-      c.loop-at.invariant.full,
-    ) in
-    omega (arith, room)
-
-pub loop-at-smaller : goal.loop-at-smaller
-loop-at-smaller c = omega (arith, c.loop-at-test.true)
-
-pub loop-at-preserved : goal.loop-at-preserved
-loop-at-preserved c =
-    one_more _ _ _ _ _ _ _ c.loop-at.invariant c.loop-at-test.true
-    c.rest_from.ensures c.first_part-field.ensures _ c.requires.room
-    (to_z-of_z {w = w32} (sfits_of c.code_of.type_inv) ∙ c.code_of.ensures)
-
-pub shape_of-out : goal.shape_of-out
-shape_of-out c = c.loop-at.invariant.full
+pub loop-j-preserved : goal.loop-j-preserved
+loop-j-preserved c =
+    let turn = field_turn c.args.line.now (length c.loop-j.yielded) (c.in-Some.j, c.in-Some.field.now)
+    (YieldsList-turn
+    (YieldsList-at c.into_iter-j-iterator.ensures.into_iter_gives
+    (YieldsList-from_enumerate
+    (YieldsList-at c.enumerate-j-items.ensures.source
+    (YieldsList-from_skip 1
+    (YieldsList-at c.skip.ensures.source
+    (YieldsList-from_slice_split _ (λ byte. eqb byte tab) c.args.line.now c.split.ensures.rest c.split.ensures.done c.split.ensures.closure
+    (λ x b q k. search (rules, tests))))
+    c.skip.ensures.count))
+    c.enumerate-j-items.ensures.count))
+    c.loop-j.yielded c.loop-j.j-iterator c.loop-j.yielded_by c.next.result c.next.new.self (c.in-Some.j, c.in-Some.field) c.in-Some.is
+    c.next.ensures.steps) in (
+      search (rules, of_calls),
+      search (rules, of_calls),
+      length-set c.loop-j.out c.in-Some.j _ ∙ c.loop-j.invariant.2,
+      code_next _ c.requires.codes_formed _ _ _ _ _ _ _ turn c.loop-j.invariant.3 c.code.ensures
+          (to_z-of_z {w = w32} (sfits_of c.unwrap_or.type_inv) ∙ c.unwrap_or.ensures)
+          ∙ ap (λ k. over 0 (take k (codes_in c.args.line.now)) c.args.out.now)
+          (sym (length-append c.loop-j.yielded ((c.in-Some.j, c.in-Some.field) ∷ []))),
+    )
 
 pub returns : goal.returns
-returns c = all_written _ _ _ _ _ c.loop-at.invariant c.loop-at-test.false
+returns c =
+    codes_all _ _ _ _ (fields_passed c.args.line.now (length c.loop-j.yielded)
+    (YieldsList-end
+    (YieldsList-at c.into_iter-j-iterator.ensures.into_iter_gives
+    (YieldsList-from_enumerate
+    (YieldsList-at c.enumerate-j-items.ensures.source
+    (YieldsList-from_skip 1
+    (YieldsList-at c.skip.ensures.source
+    (YieldsList-from_slice_split _ (λ byte. eqb byte tab) c.args.line.now c.split.ensures.rest c.split.ensures.done c.split.ensures.closure
+    (λ x b q k. search (rules, tests))))
+    c.skip.ensures.count))
+    c.enumerate-j-items.ensures.count))
+    c.loop-j.yielded c.loop-j.j-iterator c.loop-j.yielded_by c.next.result c.next.new.self c.in-None.is c.next.ensures.steps).1)
+    c.loop-j.invariant.3

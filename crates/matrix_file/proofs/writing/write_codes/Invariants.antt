@@ -1,12 +1,13 @@
--- `matrix_file::writing::write_codes` meets its contract. The loop's invariant: the codes passed are written over the front, and the
--- fields behind them are left. Assumes nothing.
-use Prim.Native.Nat.{◌+◌, ◌-◌}
-use lib.ListN.{length}
-use Rattle.matrix_file.proofs.Lists.CodesWritten.{CodesWritten}
+-- `matrix_file::writing::write_codes` meets its contract. The loop's invariant: the codes passed are written over the front.
+use mathlib.Core.Path.{◌≡◌}
+use lib.ListN.{length, take}
+use Rattle.lists.specs.Over.{over}
+use Rattle.file_form.specs.Rows.{codes_in}
 use Rattle.matrix_file.proofs.writing.write_codes.Given as goal
 
-abbrev pub invariant-loop-at : goal.invariant-loop-at
-invariant-loop-at l = CodesWritten l.initial.out l.text l.out l.j l.at
-
-abbrev pub decreases-loop-at : goal.decreases-loop-at
-decreases-loop-at l = length l.text + 1 - l.at
+abbrev pub invariant-loop-j : goal.invariant-loop-j
+invariant-loop-j l =
+    (goal.iterator-loop-j).can_next l.j-iterator
+    × (goal.iterator-loop-j).is_finite l.j-iterator
+    × (length l.out ≡ length l.initial.out)
+    × (l.out ≡ over 0 (take (length l.yielded) (codes_in l.fn.line)) l.initial.out)
