@@ -5,15 +5,15 @@ use Prim.Native.Nat.{ℕ}
 use lib.IntN.{ℤ}
 use lib.ListN.{length}
 use Rattle.lists.specs.Over.{over}
-use Rattle.matrix.specs.Outcomes.{value, asked_says}
+use Rattle.matrix.specs.Outcomes.{Asked, value}
+use Rattle.std.specs.Prelude.{Ok}
 use Rattle.matrix.specs.Questions.{LentMatrix, LentWeights}
-use Rattle.matrix.specs.declared.refusal.Asked.{Asked}
 use Rattle.difference.specs.Rows.{difference}
 use Rattle.branching.specs.declared.branch.Branch.{Branch}
 use Rattle.branching.specs.Ancestors.{ancestor}
-use Rattle.branching.specs.Asking.{branches_size}
+use Rattle.branching.specs.Asking.{branches_size, ask_records}
 use Rattle.branching.specs.Branches.{with_records}
-use Rattle.wagner.specs.declared.order.Order.{Order}
+use Rattle.branching.specs.declared.order.Order.{Order}
 use Rattle.wagner.specs.Build.{Built, wagner_branches}
 use Rattle.wagner.specs.Answers.{wagner_in}
 use Rattle.wagner.specs.Matrix.{matrix_after}
@@ -35,13 +35,14 @@ module _ (order : Order) (codes : List ℤ) (weights : List ℕ) (n m : ℕ) (le
   -- what the call writes are the branches of the finished tree, over the first 2n-3 records
   pub built_written : (old new : List Branch) (r : Asked) → length old ≡ branches_size
       → RecordsWritten after weights n m ours.tree old new r
-      → (asked_says r ≡ value tt) × (new ≡ over 0 (wagner_branches (difference weights) n ours) old)
+      → (r ≡ Ok tt) × (new ≡ over 0 (wagner_branches (difference weights) n ours) old)
   unfolding records_say
   built_written old new r size written =
-      let says : records_say after weights n m ours.tree (length old) ≡ value tt =
-      rw (size, built_passes order codes weights n m lent weighted) in
+      let passes : ask_records after weights n m ours.tree (length old) ≡ Ok tt =
+      rw size (built_passes order codes weights n m lent weighted) in
+      let says : records_say after weights n m ours.tree (length old) ≡ value tt = rw passes in
       let records : new ≡ with_records (code_difference after weights m) n ours.tree old = rw says at written.records in
-      (written.says ∙ says, records ∙ same ∙ built-branches order codes weights n m lent old size)
+      (written.says ∙ passes, records ∙ same ∙ built-branches order codes weights n m lent old size)
     where
       same : with_records (code_difference after weights m) n ours.tree old ≡ with_records (length_in after weights m) n ours.tree old
       same =

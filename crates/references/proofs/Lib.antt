@@ -1,5 +1,4 @@
--- What is proved about the calls over references: what their loops share, and that each call answers what the one by value does.
-pub mod RecordRows
+-- What is proved about the calls over references: that each call answers what the one by value does.
 pub mod KeptLaws
 pub mod Recording
 pub mod Finished

@@ -1,4 +1,3 @@
 -- What the calls over references to structs answer.
 pub mod Kept
 pub mod Written
-pub mod Lent

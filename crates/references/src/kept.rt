@@ -3,17 +3,11 @@ ghost use Rattle.references.specs.Kept.{PlacementKept};
 
 use branching::placement::Placement;
 use branching::tree::Tree;
-use matrix::refusal::Asked;
-
-// What the questions answered, and what was done: a placement of zeros if they refused.
-#[derive(Clone, Copy)]
-pub struct PlacedIn {
-    pub asked: Asked,
-    pub placement: Placement,
-}
+use matrix::refusal::Refusal;
 
 // The placement of taxon b on a tree that the caller keeps, with its questions: `Tree::place`, whose tree is stored over the caller's. A
 // refused placement leaves the tree as it was, and writes nothing.
+// Kept: no plainer, a call takes the lists and numbers as they are lent, not yet known to be right; behind its questions `Nodes` has them.
 pub fn place_in(
     tree: &mut Tree,
     matrix: &mut [i32],
@@ -21,13 +15,15 @@ pub fn place_in(
     n: usize,
     m: usize,
     b: usize,
-) -> PlacedIn
+) -> Result<Placement, Refusal>
     ensures { PlacementKept matrix.old matrix.new weights.now n m tree.old tree.new b result }
 {
-    let placed = Tree::place(*tree, matrix, weights, n, m, b);
-    *tree = placed.tree;
-    PlacedIn {
-        asked: placed.asked,
-        placement: placed.placement,
+    match tree.place(matrix, weights, n, m, b) {
+        Ok(placed) => {
+            *tree = placed.tree;
+            Ok(placed.placement)
+        }
+        // Kept: no plainer, `map_err` and `?` take the reason out as well, and the two cases of the contract are the two arms.
+        Err(kept) => Err(kept.refusal),
     }
 }

@@ -27,8 +27,8 @@ use Rattle.branching.specs.Hanging.{no_branches}
 use Rattle.branching.specs.Branches.{tree_length}
 use Rattle.branching.specs.RowLengths.{node_interval, length_under}
 use Rattle.branching.specs.Placing.{AfterPlacing, from_interval, nearest_interval, link_first, hang, place_on, place}
-use Rattle.wagner.specs.declared.order.Order.{Order}
-use Rattle.wagner.specs.declared.order.Order.TheVariants.{Advance, Closest}
+use Rattle.branching.specs.declared.order.Order.{Order}
+use Rattle.branching.specs.declared.order.Order.TheVariants.{Advance, Closest}
 use Rattle.wagner.specs.Next.{advancement, by_advancement, next_by}
 use Rattle.wagner.specs.Build.{Built, build_on, build, wagner, wagner_length}
 use Rattle.wagner.specs.Answers.{wagner_in}

@@ -6,7 +6,7 @@ use lib.IntN.{ℤ}
 use lib.ListN.{length}
 use Rattle.difference.specs.Rows.{difference}
 use Rattle.branching.specs.Hanging.{no_branches}
-use Rattle.wagner.specs.declared.order.Order.{Order}
+use Rattle.branching.specs.declared.order.Order.{Order}
 use Rattle.wagner.specs.Next.{next_by}
 use Rattle.wagner.specs.Build.{added_length, wagner, wagner_length}
 use Rattle.wagner.proofs.Whole.{order_chooses}

@@ -24,8 +24,8 @@ use Rattle.branching.specs.Hanging.{no_branches, linked, hung, next_htu}
 use Rattle.branching.specs.Branches.{tree_length, branch_of, branch_records, branches_read, ancestors_of, named_in_order, lent_branching}
 use Rattle.lists.specs.Sums.{sum_over}
 use Rattle.branching.specs.RowLengths.{node_interval, length_under}
-use Rattle.wagner.specs.declared.order.Order.{Order}
-use Rattle.wagner.specs.declared.order.Order.TheVariants.{Advance, Closest}
+use Rattle.branching.specs.declared.order.Order.{Order}
+use Rattle.branching.specs.declared.order.Order.TheVariants.{Advance, Closest}
 use Rattle.wagner.specs.Next.{hangings, taxon_of, advancement, by_advancement, by_closeness, next_by}
 use Rattle.wagner.specs.Build.{Built, build_on, build, wagner, wagner_length, wagner_branches}
 use Rattle.branching.specs.Placing.{AfterPlacing, median_row, from_interval, nearest_interval, link_first, hang, place_on, place}

@@ -1,4 +1,5 @@
 -- The finished tree that a build hands back passes the questions of the call that writes it as branch records.
+use Rattle.std.specs.Prelude.{Ok}
 use mathlib.Core.Path.{◌≡◌, refl, sym, ap, ◌∙◌}
 use mathlib.Core.Bool.{true, and-eq-true_iff}
 use mathlib.Core.List.{List, []}
@@ -16,7 +17,6 @@ use Rattle.lists.proofs.Numbers.{numbers-within}
 use Rattle.matrix.specs.Shape.{row}
 use Rattle.matrix.specs.NodeRows.{row_of, rows_of}
 use Rattle.matrix.specs.Questions.{LentMatrix, LentWeights, all_in_range, htu_in_range, htus_in_range}
-use Rattle.matrix.specs.declared.refusal.Asked.TheVariants.{Passed}
 use Rattle.matrix.proofs.Passing.{matrix_passes}
 use Rattle.matrix.proofs.NodeRows.{length-rows_of, row_of-next, row_of-rows_of}
 use Rattle.difference.specs.Rows.{difference}
@@ -25,7 +25,7 @@ use Rattle.branching.specs.Nodes.{taxa_placed}
 use Rattle.branching.specs.Growing.{growing_tree, branching}
 use Rattle.branching.specs.Asking.{branches_size, htus_of, ask_records}
 use Rattle.branching.proofs.Test.{branching_iff}
-use Rattle.wagner.specs.declared.order.Order.{Order}
+use Rattle.branching.specs.declared.order.Order.{Order}
 use Rattle.wagner.specs.Next.{next_by}
 use Rattle.wagner.specs.Build.{Built, build, wagner}
 use Rattle.wagner.specs.Answers.{wagner_in}
@@ -85,7 +85,7 @@ module _ (order : Order) (codes : List ℤ) (weights : List ℕ) (n m : ℕ) (le
   }
 
   -- the tree and the matrix that a build hands back are refused by no question of the call that writes its branch records
-  pub built_passes : LentWeights weights m → ask_records after weights n m ours.tree branches_size ≡ Passed
+  pub built_passes : LentWeights weights m → ask_records after weights n m ours.tree branches_size ≡ Ok tt
   unfolding ask_records htus_in_range htus_of htu_in_range branching
   built_passes weighted =
       let test : branching n ours.tree ≡ true = (branching_iff ours.tree n lent.taxon).1

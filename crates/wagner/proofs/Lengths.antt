@@ -2,12 +2,12 @@
 use mathlib.Core.Path.{◌≡◌, refl, sym, ap, ap₂, ◌∙◌}
 use mathlib.Core.Logic.{by_cases}
 use mathlib.Core.List.{List, map}
-use Prim.Native.Nat.{ℕ, suc, ◌+◌, ◌*◌, ◌-◌, ◌≤◌, ◌<◌}
+use Prim.Native.Nat.{ℕ, suc, ◌+◌, ◌*◌, ◌-◌, ◌≤◌, ◌<◌, min}
 use native.Mathlib.Omega.{arith}
-use native.Mathlib.Decide.{ℕ_discrete}
+use native.Mathlib.Decide.{dec_le}
 use lib.IntN.{ℤ, pos}
-use lib.ListN.{length, get_or, take, set, length-take}
-use lib.Seq.{ext_get_or, get_or-take, get_or-set_same, get_or-set_other}
+use lib.ListN.{length, get_or, take, drop, length-take}
+use lib.Seq.{ext_get_or, get_or-take, take-take}
 use Rattle.lists.specs.Numbers.{numbers}
 use Rattle.lists.specs.Over.{over}
 use Rattle.lists.specs.Sums.{sum_over}
@@ -31,7 +31,7 @@ use Rattle.branching.proofs.Records.{records-length}
 use Rattle.branching.proofs.Whole.{branching_nodes, growing_ancestor_le}
 use Rattle.wagner.specs.Build.{Built, wagner_length, wagner_branches}
 use Rattle.wagner.specs.Records.{length_in, LengthsOf}
-use Rattle.wagner.specs.declared.order.Order.{Order}
+use Rattle.branching.specs.declared.order.Order.{Order}
 use Rattle.wagner.specs.Answers.{wagner_in}
 use Rattle.wagner.specs.Matrix.{matrix_after}
 use Rattle.wagner.proofs.Whole.{wagner-branching}
@@ -42,17 +42,6 @@ use Rattle.wagner.proofs.BuildLength.{Sound}
 -- a record of zeros
 abbrev no_branch : Branch
 no_branch = record { node = 0; ancestor = 0; length = 0 }
-
--- one length more is kept
-pub length-next : (codes : List ℤ) (weights : List ℕ) (m : ℕ) (tree all : List ℕ) (v x : ℕ) → v < length all
-    → x ≡ length_in codes weights m v (ancestor tree v)
-    → ((u : ℕ) → u < v → get_or all u 0 ≡ length_in codes weights m u (ancestor tree u))
-    → (u : ℕ) → u < v + 1 → get_or (set all v x) u 0 ≡ length_in codes weights m u (ancestor tree u)
-length-next codes weights m tree all v x room is before u high =
-    by_cases
-    (ℕ_discrete u v)
-    (λ e. rw e (get_or-set_same all v x 0 room ∙ is))
-    (λ ne. get_or-set_other all v u x 0 ne ∙ before u (omega arith))
 
 -- records of two differences that agree on the branches of nodes 2 to 126 are one list of 125
 pub records_agree : (d d' : ℕ → ℕ → ℕ) (n : ℕ) (tree : List ℕ) (old : List Branch) → length old ≡ 125
@@ -100,6 +89,21 @@ pub length_in-plain : (codes : List ℤ) (weights : List ℕ) (m u v : ℕ) → 
     → length_in codes weights m u v ≡ node_difference (difference weights) (row codes m) u v
 unfolding length_in node_difference
 length_in-plain codes weights m u v narrow = ap₂ (difference weights) (row_128 codes m u narrow) (row_128 codes m v narrow)
+
+-- the row in the first 128 characters
+row_first : (codes : List ℤ) (m v : ℕ) → row codes (min m 128) v ≡ take 128 (row codes m v)
+unfolding row
+row_first codes m v =
+    by_cases
+    (dec_le m 128)
+    (λ narrow. let few : min m 128 ≡ m = omega arith in rw few (sym (row_128 codes m v narrow)))
+    (λ wide. let many : min m 128 ≡ 128 = omega arith in rw many (sym (take-take 128 m (drop (row_start v) codes) (omega arith))))
+
+-- it is the difference of the two rows in the first 128 characters
+pub length_in-first : (codes : List ℤ) (weights : List ℕ) (m u v : ℕ)
+    → node_difference (difference weights) (row codes (min m 128)) u v ≡ length_in codes weights m u v
+unfolding length_in node_difference
+length_in-first codes weights m u v = ap₂ (difference weights) (row_first codes m u) (row_first codes m v)
 
 -- of a branching, the lengths of the branch records sum to the length of the tree
 pub records_sum : (d : ℕ → ℕ → ℕ) (n : ℕ) (tree : List ℕ) → Branching n tree

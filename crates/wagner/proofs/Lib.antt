@@ -5,11 +5,11 @@ pub mod Whole
 pub mod BuildLength
 pub mod Matrix
 pub mod Difference
+pub mod LeastKey
 pub mod Choosing
 pub mod Renewing
 pub mod Changing
 pub mod UnderWay
-pub mod Stepping
 pub mod Lengths
 pub mod StillLent
 pub mod EachRow

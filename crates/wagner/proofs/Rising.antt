@@ -31,7 +31,7 @@ use Rattle.branching.proofs.Test.{growing-placed}
 use Rattle.branching.proofs.Placing.{place-only, place_in, place-taxon}
 use Rattle.branching.proofs.RowLengths.{OfLength, Growth}
 use Rattle.branching.proofs.Rival.{difference_laws}
-use Rattle.wagner.specs.declared.order.Order.TheVariants.{Advance}
+use Rattle.branching.specs.declared.order.Order.TheVariants.{Advance}
 use Rattle.wagner.specs.Next.{advancement, by_advancement, next_by}
 use Rattle.wagner.specs.Build.{build_on, build, wagner}
 use Rattle.wagner.specs.Rising.{InOrder, all_placed, placed_next, Rising, none, one, more}

@@ -10,7 +10,7 @@ use Rattle.matrix.specs.Shape.{row}
 use Rattle.matrix.specs.Questions.{LentMatrix, all_in_range}
 use Rattle.matrix.proofs.NodeRows.{length-rows_of, get_or-rows_of}
 use Rattle.difference.specs.Rows.{difference}
-use Rattle.wagner.specs.declared.order.Order.{Order}
+use Rattle.branching.specs.declared.order.Order.{Order}
 use Rattle.wagner.specs.Answers.{wagner_in}
 use Rattle.wagner.specs.Matrix.{matrix_after}
 use Rattle.wagner.proofs.Matrix.{after_size, after_taxon}

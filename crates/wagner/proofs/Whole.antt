@@ -19,8 +19,8 @@ use Rattle.branching.proofs.Nodes.{no_branches-none, no_branches-places}
 use Rattle.branching.proofs.Counts.{some-unplaced, unplaced-taxon}
 use Rattle.branching.proofs.Test.{growing-placed}
 use Rattle.branching.proofs.Records.{records-lent}
-use Rattle.wagner.specs.declared.order.Order.{Order}
-use Rattle.wagner.specs.declared.order.Order.TheVariants.{Advance, Closest}
+use Rattle.branching.specs.declared.order.Order.{Order}
+use Rattle.branching.specs.declared.order.Order.TheVariants.{Advance, Closest}
 use Rattle.wagner.specs.Next.{advancement, by_advancement, next_by}
 use Rattle.wagner.specs.Build.{build_on, build, wagner, wagner_branches}
 use Rattle.wagner.proofs.Closest.{adds, closeness_least}

@@ -9,7 +9,7 @@ use Rattle.branching.specs.Branches.{branch_records}
 use Rattle.lists.specs.Sums.{sum_over}
 use Rattle.branching.specs.RowLengths.{length_under}
 use Rattle.branching.specs.Placing.{AfterPlacing, place}
-use Rattle.wagner.specs.declared.order.Order.{Order}
+use Rattle.branching.specs.declared.order.Order.{Order}
 use Rattle.wagner.specs.Next.{next_by}
 
 -- what comes out of a build: the tree, the rows of all nodes, and the placements in order

@@ -1,28 +1,27 @@
 -- For the proofs of the private functions alone; no public contract cites this file.
 -- The interval differences that are kept of each taxon and each interval, and what a placement changes of them.
-use Rattle.std.specs.Prelude.{◌≡◌, ◌≢◌, ◌⊎◌, ℕ, ◌+◌, ◌*◌, ◌<◌, ℤ, length, get_or}
-use mathlib.Core.List.{List, Memᴰ}
-use Rattle.lists.specs.Least.{least_of}
+use Rattle.std.specs.Prelude.{◌≡◌, ◌≢◌, ◌⊎◌, ℕ, ◌<◌, ℤ, get_or}
+use mathlib.Core.List.{List, [], Memᴰ}
 use Rattle.matrix.specs.Shape.{row}
 use Rattle.difference.specs.Rows.{difference, node_difference}
 use Rattle.branching.specs.declared.placement.Placement.{Placement}
 use Rattle.branching.specs.Nodes.{nodes_in, other_nodes, Unplaced}
 use Rattle.branching.specs.Unasked.{interval_at}
-use Rattle.wagner.specs.declared.order.Order.{Order}
-use Rattle.wagner.specs.declared.order.Order.TheVariants.{Closest}
-use Rattle.wagner.specs.Order.{key_count, key_by, Keys}
+use Rattle.branching.specs.declared.order.Order.{Order}
+use Rattle.branching.specs.declared.order.Order.TheVariants.{Closest}
+use Rattle.wagner.specs.Order.{key_by, KeysRight}
 
 -- so many places are kept for a taxon, one for each node
-abbrev pub stripe : ℕ
-stripe = 128
-
--- and so many for all, by row; those of row 0 are of no taxon
 abbrev pub kept_size : ℕ
-kept_size = key_count * stripe
+kept_size = 128
 
--- what is kept of taxon v and the interval with lower end c
-unfoldable pub kept : List ℕ → ℕ → ℕ → ℕ
-kept table v c = get_or table (v * stripe + c) 0
+-- what is kept of a taxon and the interval with lower end c
+unfoldable pub kept : List ℕ → ℕ → ℕ
+kept places c = get_or places c 0
+
+-- what is kept of taxon v; of row 0 it is of no taxon
+unfoldable pub kept_of : List (List ℕ) → ℕ → List ℕ
+kept_of table v = get_or table v []
 
 -- the intervals of a tree, by their lower ends
 abbrev pub intervals : ℕ → List ℕ → List ℕ
@@ -30,25 +29,14 @@ intervals n tree = nodes_in tree (other_nodes n)
 
 -- what is kept of taxon v are its interval differences from the intervals of a tree
 abbrev pub RowRight : List ℤ → List ℕ → ℕ → ℕ → List ℕ → ℕ → List ℕ → Type 0
-RowRight codes weights n m tree v table = (c : ℕ) → Memᴰ c (intervals n tree) → kept table v c ≡ interval_at codes weights m tree v c
+RowRight codes weights n m tree v places = (c : ℕ) → Memᴰ c (intervals n tree) → kept places c ≡ interval_at codes weights m tree v c
 
--- one place is written, that of taxon v and node c if there is one
-pub record KeptOne (codes : List ℤ) (weights : List ℕ) (m : ℕ) (tree : List ℕ) (v c : ℕ) (old new : List ℕ) : Type 0 where
-  pub size : length new ≡ length old
-  pub here : c < stripe → kept new v c ≡ interval_at codes weights m tree v c
-  pub else : (w e : ℕ) → e < stripe → (w ≢ v) ⊎ (e ≢ c) → kept new w e ≡ kept old w e
-
--- the places of taxon v and the three nodes of a placement are written
+-- the places of the three nodes of a placement are written, of what is kept of taxon v
 pub record KeptThree (codes : List ℤ) (weights : List ℕ) (m : ℕ) (tree : List ℕ) (v : ℕ) (done : Placement)
     (old new : List ℕ) : Type 0 where
-  pub size : length new ≡ length old
-  pub here : (e : ℕ) → e < stripe → (e ≡ done.taxon) ⊎ ((e ≡ done.htu) ⊎ (e ≡ done.lower))
-      → kept new v e ≡ interval_at codes weights m tree v e
-  pub else : (w e : ℕ) → e < stripe → (w ≢ v) ⊎ ((e ≢ done.taxon) × (e ≢ done.htu) × (e ≢ done.lower)) → kept new w e ≡ kept old w e
-
--- the least of what is kept of taxon v and the intervals of a tree
-unfoldable pub least_kept : List ℕ → ℕ → List ℕ → ℕ → ℕ
-least_kept table n tree v = kept table v (least_of (kept table v) (intervals n tree))
+  pub here : (e : ℕ) → e < kept_size → (e ≡ done.taxon) ⊎ ((e ≡ done.htu) ⊎ (e ≡ done.lower))
+      → kept new e ≡ interval_at codes weights m tree v e
+  pub else : (e : ℕ) → e ≢ done.taxon → e ≢ done.htu → e ≢ done.lower → kept new e ≡ kept old e
 
 -- what a placement leaves for taxon v, which is not placed: it was not placed before, its advancement stays, there is an interval, and each
 -- interval belongs to the placement or is an earlier one from which the taxon is as far as before
@@ -65,19 +53,18 @@ pub record Changed (codes now : List ℤ) (weights : List ℕ) (n m : ℕ) (old 
 abbrev pub AllChanged : List ℤ → List ℤ → List ℕ → ℕ → ℕ → List ℕ → List ℕ → Placement → Type 0
 AllChanged codes now weights n m old new done = (v : ℕ) → Unplaced n new v → Changed codes now weights n m old new v done
 
--- after a placement: what is kept of the other taxa is as before; what is kept of taxon v, and its key, are right again
-pub record RowRenewed (now : List ℤ) (weights : List ℕ) (n m : ℕ) (new : List ℕ) (v : ℕ) (done : Placement) (old table : List ℕ)
+-- after a placement: what is kept of taxon v, and its key, are right again
+pub record RowRenewed (now : List ℤ) (weights : List ℕ) (n m : ℕ) (new : List ℕ) (v : ℕ) (done : Placement) (old places : List ℕ)
     (r : ℕ) : Type 0 where
-  pub size : length table ≡ length old
-  pub others : (w e : ℕ) → e < stripe → w ≢ v → kept table w e ≡ kept old w e
   pub row : (codes : List ℤ) (before : List ℕ) → Changed codes now weights n m before new v done → RowRight codes weights n m before v old
-      → RowRight now weights n m new v table
+      → RowRight now weights n m new v places
   pub key : (codes : List ℤ) (before : List ℕ) → Changed codes now weights n m before new v done → RowRight codes weights n m before v old
       → r ≡ key_by Closest now weights n m new v
 
 -- by closeness all that is kept of the taxa that are not placed is right
-abbrev pub Table : Order → List ℤ → List ℕ → ℕ → ℕ → List ℕ → List ℕ → Type 0
-Table order codes weights n m tree table = order ≡ Closest → (v : ℕ) → Unplaced n tree v → RowRight codes weights n m tree v table
+abbrev pub Table : Order → List ℤ → List ℕ → ℕ → ℕ → List ℕ → List (List ℕ) → Type 0
+Table order codes weights n m tree table =
+    order ≡ Closest → (v : ℕ) → Unplaced n tree v → RowRight codes weights n m tree v (kept_of table v)
 
 -- after a placement keys and what is kept are right again
 pub record KeysNext
@@ -87,8 +74,10 @@ pub record KeysNext
     (n m : ℕ)
     (new : List ℕ)
     (done : Placement)
-    (keys old table r : List ℕ) : Type 0 where
-  pub size : length table ≡ length old
+    (keys : List ℕ)
+    (old : List (List ℕ))
+    (r : List ℕ)
+    (table : List (List ℕ)) : Type 0 where
   pub each : (codes : List ℤ) (before : List ℕ) → AllChanged codes now weights n m before new done
-      → Keys order codes weights n m before keys
-      → Table order codes weights n m before old → Keys order now weights n m new r × Table order now weights n m new table
+      → KeysRight order codes weights n m before keys
+      → Table order codes weights n m before old → KeysRight order now weights n m new r × Table order now weights n m new table

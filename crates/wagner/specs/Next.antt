@@ -7,8 +7,8 @@ use Rattle.matrix.specs.NodeRows.{row_of}
 use Rattle.difference.specs.Rows.{node_difference}
 use Rattle.branching.specs.Nodes.{nodes_in, nodes_out, other_nodes}
 use Rattle.branching.specs.Placing.{from_interval}
-use Rattle.wagner.specs.declared.order.Order.{Order}
-use Rattle.wagner.specs.declared.order.Order.TheVariants.{Advance, Closest}
+use Rattle.branching.specs.declared.order.Order.{Order}
+use Rattle.branching.specs.declared.order.Order.TheVariants.{Advance, Closest}
 
 -- every unplaced taxon with every interval of the tree, which its lower end names: by rising row of the taxon, then by rising lower end
 unfoldable pub hangings : ℕ → List ℕ → List (ℕ × ℕ)

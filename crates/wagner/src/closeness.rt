@@ -1,152 +1,54 @@
 // The keys by closeness: for each taxon that is not placed, the length that its placement would add. The interval difference of each taxon
 // from each interval is kept, and a placement changes it for three intervals alone.
-ghost use Rattle.std.specs.Prelude.{◌≡◌, List, ℕ, ◌≤◌, length};
-ghost use Rattle.matrix.specs.Shape.{most_taxa, most_characters};
-ghost use Rattle.branching.specs.Ancestors.{ancestors, ancestor};
-ghost use Rattle.wagner.specs.declared.order.Order.TheVariants.{Closest};
-ghost use Rattle.wagner.specs.Closeness.{kept_size, least_kept, KeptOne, KeptThree, RowRenewed, KeysNext};
+ghost use Rattle.std.specs.Prelude.{◌≡◌, ◌≤◌};
+ghost use Rattle.matrix.specs.Shape.{most_taxa};
+ghost use Rattle.branching.specs.Ancestors.{ancestors};
+ghost use Rattle.wagner.specs.Order.{least_key};
+ghost use Rattle.wagner.specs.Closeness.{kept, intervals, KeptThree, RowRenewed};
 
-use crate::order::{KEYS, Order, is_placed, sooner};
 use branching::placement::Placement;
 use branching::tree::Tree;
-use difference::rows::interval_difference;
-use matrix::rows::row;
+use difference::nodes::Nodes;
 
 // For each taxon so many places are kept, one for each node.
-const STRIPE: usize = 128;
+pub(crate) const KEPT: usize = 128;
 
-// A place for each taxon and each node; those of row 0 are of no taxon.
-pub(crate) const KEPT: usize = KEYS * STRIPE;
-
-// Keeps the interval difference of taxon v from the interval of node c, whose immediate ancestor is the node above.
-fn keep(
-    table: &mut [u64],
-    matrix: &[i32],
-    weights: &[u8],
-    m: usize,
-    v: usize,
-    c: usize,
-    above: usize,
-)
-    requires { (m ≤ most_characters) × (v ≤ most_taxa) × (length table.old ≡ kept_size) }
-    ensures { (tree : List ℕ) → above ≡ ancestor tree c
-        → KeptOne matrix.now weights.now m tree v c table.old table.new }
+// Keeps the interval differences of taxon v from the three intervals that belong to a placement.
+fn keep_three(places: &mut [u64; KEPT], nodes: &Nodes, tree: &Tree, v: usize, done: Placement)
+    ensures { KeptThree nodes.now.matrix.now nodes.now.weights.now nodes.now.m (ancestors tree.now) v done places.old places.new }
 {
-    if STRIPE <= c {
-        return;
+    for c in [done.lower, done.htu, done.taxon] {
+        if c < KEPT {
+            places[c] = nodes.interval_difference(v, c, tree.ancestor(c));
+        }
     }
-    table[v * STRIPE + c] = interval_difference(
-        weights,
-        row(matrix, m, v),
-        row(matrix, m, c),
-        row(matrix, m, above),
-    );
 }
 
-// Keeps those of taxon v from the three intervals that belong to a placement.
-fn keep_three(
-    table: &mut [u64],
-    matrix: &[i32],
-    weights: &[u8],
-    m: usize,
-    tree: Tree,
-    v: usize,
-    done: Placement,
-)
-    requires { (m ≤ most_characters) × (v ≤ most_taxa) × (length table.old ≡ kept_size) }
-    ensures { KeptThree matrix.now weights.now m (ancestors tree) v done
-        table.old table.new }
+// The least of what is kept of a taxon and the intervals of a tree, if it has one.
+// Kept: no plainer, one row of `Keys` is lent, with n; a method that writes a row would have to say of all the others that they stay.
+fn least_kept(places: &[u64; KEPT], n: usize, tree: &Tree) -> Option<u64>
+    requires { (1 ≤ n) × (n ≤ most_taxa) }
+    ensures { result ≡ least_key (kept places.now) (intervals n (ancestors tree.now)) }
 {
-    let c = done.lower;
-    let y = done.htu;
-    let b = done.taxon;
-    keep(table, matrix, weights, m, v, c, tree.ancestor(c));
-    keep(table, matrix, weights, m, v, y, tree.ancestor(y));
-    keep(table, matrix, weights, m, v, b, tree.ancestor(b));
+    (2..2 * n - 1)
+        .filter(|c| tree.in_tree(*c))
+        .map(|c| places[c])
+        .min()
 }
 
-// The least of what is kept of taxon v and the intervals of a tree.
-fn least_kept(table: &[u64], n: usize, tree: Tree, v: usize) -> u64
-    requires { (2 ≤ n) × (n ≤ most_taxa) × (v ≤ most_taxa) × (length table.now ≡ kept_size) }
-    ensures { result ≡ least_kept table.now n (ancestors tree) v }
-{
-    let places = tree.ancestors;
-    let at = v * STRIPE;
-    let end = 2 * n - 1;
-    let mut best = 0;
-    let mut c = 2;
-    while c < end {
-        best = sooner(best, c, places[c] == 0, table[at + c], table[at + best]);
-        c += 1;
-    }
-    table[at + best]
-}
-
-// The key of taxon v after a placement; nothing is kept for a placed taxon.
-fn renewed(
-    table: &mut [u64],
-    matrix: &[i32],
-    weights: &[u8],
+// The key of taxon v after a placement, from what was kept of it before.
+// Kept: no plainer, one row of `Keys` is lent, with n; a method that writes a row would have to say of all the others that they stay.
+pub(crate) fn renewed(
+    places: &mut [u64; KEPT],
+    nodes: &Nodes,
     n: usize,
-    m: usize,
-    tree: Tree,
+    tree: &Tree,
     v: usize,
     done: Placement,
 ) -> u64
-    requires { (1 ≤ v) × (v ≤ n) × (n ≤ most_taxa) × (m ≤ most_characters) × (length table.old ≡ kept_size) }
-    ensures { RowRenewed matrix.now weights.now n m (ancestors tree) v done
-        table.old table.new result }
+    requires { (1 ≤ n) × (n ≤ most_taxa) }
+    ensures { RowRenewed nodes.now.matrix.now nodes.now.weights.now n nodes.now.m (ancestors tree.now) v done places.old places.new result }
 {
-    if is_placed(v, tree.ancestor(v)) {
-        return 0;
-    }
-    keep_three(table, matrix, weights, m, tree, v, done);
-    least_kept(table, n, tree, v)
-}
-
-// The keys by closeness after a placement.
-fn renew(
-    keys: [u64; 65],
-    table: &mut [u64],
-    matrix: &[i32],
-    weights: &[u8],
-    n: usize,
-    m: usize,
-    tree: Tree,
-    done: Placement,
-) -> [u64; 65]
-    requires { (n ≤ most_taxa) × (m ≤ most_characters) × (length table.old ≡ kept_size) }
-    ensures { KeysNext Closest matrix.now weights.now n m (ancestors tree) done keys
-        table.old table.new result }
-{
-    let mut all = keys;
-    let mut v = 1;
-    while v <= n {
-        let key = renewed(table, matrix, weights, n, m, tree, v, done);
-        all[v] = key;
-        v += 1;
-    }
-    all
-}
-
-// The keys after a placement: by advancement they stay.
-pub(crate) fn next_keys(
-    order: Order,
-    keys: [u64; 65],
-    table: &mut [u64],
-    matrix: &[i32],
-    weights: &[u8],
-    n: usize,
-    m: usize,
-    tree: Tree,
-    done: Placement,
-) -> [u64; 65]
-    requires { (n ≤ most_taxa) × (m ≤ most_characters) × (length table.old ≡ kept_size) }
-    ensures { KeysNext order matrix.now weights.now n m (ancestors tree) done keys
-        table.old table.new result }
-{
-    match order {
-        Order::Advance => keys,
-        Order::Closest => renew(keys, table, matrix, weights, n, m, tree, done),
-    }
+    keep_three(places, nodes, tree, v, done);
+    least_kept(places, n, tree).unwrap_or(0)
 }

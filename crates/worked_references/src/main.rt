@@ -7,50 +7,50 @@ ghost use Rattle.matrix.specs.Outcomes.{afterwards};
 ghost use Rattle.branching.specs.Ancestors.{ancestors};
 ghost use Rattle.branching.specs.Branches.{with_records};
 ghost use Rattle.branching.specs.Placed.{placement_says, place_in};
-ghost use Rattle.fitting.specs.Handing.{FitAnswer};
 ghost use Rattle.references.specs.Written.{code_difference, records_say};
 
-use branching::branch::Branch;
+use branching::branch::{BRANCHES, Branch};
+use branching::placement::Placement;
 use branching::tree::Tree;
-use fitting::calls::Fitted;
 use fitting::whole::Fit;
-use matrix::refusal::Asked;
-use matrix::rows::{row_start, write_row};
-use references::kept::{PlacedIn, place_in};
+use matrix::COLUMNS;
+use matrix::refusal::Refusal;
+use matrix::rows::{row, write_row};
+use references::kept::place_in;
 use references::lent::fit_lent;
 use references::written::write_branches;
 use std::io;
-use worked_cases::lines::{end_line, print_field, print_fitted, print_refusal, print_state};
+use worked_cases::SIZE;
+use worked_cases::example::write_example;
+use worked_cases::lines::{print_fitted, print_refusal};
 use worked_cases::trees::{print_branch, print_placement, print_tree};
 use worked_cases::weights::first_three;
 
-// The W line or the R line of a placement on a tree that the caller keeps.
-fn print_placed(rt: &impl Print, placed: PlacedIn) -> io::Result<()> {
-    let asked = placed.asked;
-    match asked {
-        Asked::Passed => {
-            let placement = placed.placement;
-            print_placement(rt, placement)
-        }
-        Asked::Refused(why) => print_refusal(rt, why),
-    }
+// A record of other numbers than any that is written here.
+const OTHER: Branch = Branch {
+    node: 200,
+    ancestor: 201,
+    length: 202,
+};
+
+// The matrix of document 01's example, and the weights of its characters.
+#[derive(Drop)]
+struct Example<'a> {
+    codes: [i32; SIZE],
+    weights: &'a [u8],
 }
 
-// A tree that was kept here for a placement, as it is afterwards, and what the placement answered.
+// The three lists for the states of a fit.
+// Kept: no plainer, the call for a fit writes three lists.
 #[derive(Drop)]
-struct KeptTree {
-    tree: Tree,
-    placed: PlacedIn,
-}
-
-// A list of branch records that was lent from here, as it is afterwards, and what its writing answered.
-#[derive(Drop)]
-struct LentRecords {
-    asked: Asked,
-    records: [Branch; 125],
+struct States {
+    low: [i32; SIZE],
+    high: [i32; SIZE],
+    chosen: [i32; SIZE],
 }
 
 // A placement of taxon b on a tree that is kept here: the tree afterwards, and the answer.
+// Kept: no plainer, it takes what the call takes, whose clause it has.
 fn placed_in(
     mut tree: Tree,
     matrix: &mut [i32],
@@ -58,188 +58,78 @@ fn placed_in(
     n: usize,
     m: usize,
     b: usize,
-) -> KeptTree
-    ensures { ancestors result.tree ≡ afterwards (placement_says matrix.old weights.now n m (ancestors tree) b) (place_in matrix.old weights.now n m (ancestors tree) b).tree (ancestors tree) }
+) -> (Tree, Result<Placement, Refusal>)
+    ensures { ancestors result.0 ≡ afterwards (placement_says matrix.old weights.now n m (ancestors tree) b)
+        (place_in matrix.old weights.now n m (ancestors tree) b).tree (ancestors tree) }
 {
     let placed = place_in(&mut tree, matrix, weights, n, m, b);
-    KeptTree { tree, placed }
-}
-
-// The R line of an answer, if it refuses.
-fn print_asked(rt: &impl Print, asked: Asked) -> io::Result<()> {
-    match asked {
-        Asked::Passed => Ok(()),
-        Asked::Refused(why) => print_refusal(rt, why),
-    }
+    (tree, placed)
 }
 
 // The branch records of a finished tree written into a list that is lent from here: the list afterwards, and the answer.
+// Kept: no plainer, it takes what the call takes, whose clause it has.
 fn written(
     matrix: &[i32],
     weights: &[u8],
     n: usize,
     m: usize,
     tree: Tree,
-    mut records: [Branch; 125],
-) -> LentRecords
-    ensures { result.records ≡ afterwards (records_say matrix.now weights.now n m (ancestors tree) (length records)) (with_records (code_difference matrix.now weights.now m) n (ancestors tree) records) records }
+    mut records: [Branch; BRANCHES],
+) -> ([Branch; BRANCHES], Result<(), Refusal>)
+    ensures { result.0 ≡ afterwards (records_say matrix.now weights.now n m (ancestors tree) (length records))
+        (with_records (code_difference matrix.now weights.now m) n (ancestors tree) records) records }
 {
     let asked = write_branches(matrix, weights, n, m, tree, &mut records);
-    LentRecords { asked, records }
+    (records, asked)
 }
 
-// The fit of a list of branch records that is lent from here.
-fn fitted(
-    matrix: &[i32],
-    weights: &[u8],
-    n: usize,
-    m: usize,
-    records: [Branch; 125],
-    low: &mut [i32],
-    high: &mut [i32],
-    chosen: &mut [i32],
-) -> Fitted
-    ensures { FitAnswer matrix.now weights.now n m records low.old low.new high.old high.new chosen.old chosen.new result }
-{
-    fit_lent(matrix, weights, n, m, &records, low, high, chosen)
+// The number of node v in the column behind the first `before` ones, in a list of the matrix's shape, and 0 beyond it.
+fn code_of(list: &[i32; SIZE], v: usize, before: usize) -> i32 {
+    row(list, COLUMNS, v).get(before).copied().unwrap_or(0)
 }
 
-// The state of node v in character j in a list of the matrix's shape, and 0 beyond it.
-fn state_of(list: &[i32; 16128], v: usize, j: usize) -> i32 {
-    let start = row_start(16128, v);
-    if j == 0 {
-        return 0;
+// The W line or the R line of a placement on a tree that the caller keeps.
+fn print_placed(rt: &impl Print, placed: Result<Placement, Refusal>) -> io::Result<()> {
+    match placed {
+        Ok(placement) => print_placement(rt, placement),
+        Err(why) => print_refusal(rt, why),
     }
-    if 16128 - start < j {
-        return 0;
-    }
-    list[start + (j - 1)]
 }
 
 // The M line of a node: its first three codes.
-fn print_row(rt: &impl Print, codes: &[i32; 16128], v: usize) -> io::Result<()> {
-    print!(rt; "M")?;
-    print_field(rt, v as u64)?;
-    print_state(rt, state_of(codes, v, 1))?;
-    print_state(rt, state_of(codes, v, 2))?;
-    print_state(rt, state_of(codes, v, 3))?;
-    end_line(rt)
-}
-
-// A record of other numbers than any that is written here.
-fn other() -> Branch {
-    Branch {
-        node: 200,
-        ancestor: 201,
-        length: 202,
-    }
+fn print_row(rt: &impl Print, codes: &[i32; SIZE], v: usize) -> io::Result<()> {
+    let first = code_of(codes, v, 0);
+    let second = code_of(codes, v, 1);
+    let third = code_of(codes, v, 2);
+    println!(rt; "M\t{v}\t{first}\t{second}\t{third}")
 }
 
 // The B lines of the first six records and of the last one.
-fn print_records(rt: &impl Print, records: [Branch; 125]) -> io::Result<()> {
-    let first = records[0];
-    print_branch(rt, first)?;
-    let second = records[1];
-    print_branch(rt, second)?;
-    let third = records[2];
-    print_branch(rt, third)?;
-    let fourth = records[3];
-    print_branch(rt, fourth)?;
-    let fifth = records[4];
-    print_branch(rt, fifth)?;
-    let sixth = records[5];
-    print_branch(rt, sixth)?;
-    let last = records[124];
-    print_branch(rt, last)
+fn print_records(rt: &impl Print, records: &[Branch; BRANCHES]) -> io::Result<()> {
+    for i in [0, 1, 2, 3, 4, 5, BRANCHES - 1] {
+        print_branch(rt, records[i])?;
+    }
+    Ok(())
 }
 
 // The T lines of nodes 2 to 6, and the t line.
-fn print_fit(rt: &impl Print, fit: Fit) -> io::Result<()> {
-    print_fitted(rt, 2, fit.lengths[2], fit.marks[2])?;
-    print_fitted(rt, 3, fit.lengths[3], fit.marks[3])?;
-    print_fitted(rt, 4, fit.lengths[4], fit.marks[4])?;
-    print_fitted(rt, 5, fit.lengths[5], fit.marks[5])?;
-    print_fitted(rt, 6, fit.lengths[6], fit.marks[6])?;
-    print!(rt; "t")?;
-    print_field(rt, fit.total)?;
-    end_line(rt)
+fn print_fit(rt: &impl Print, fit: &Fit) -> io::Result<()> {
+    for v in 2..7 {
+        print_fitted(rt, v, fit.branches[v].length, fit.branches[v].mark)?;
+    }
+    println!(rt; "t\t{}", fit.total)
 }
 
 // The lines of a fit, or its R line.
-fn print_answer(rt: &impl Print, answer: Fitted) -> io::Result<()> {
-    let asked = answer.asked;
-    match asked {
-        Asked::Passed => {
-            let whole = answer.fit;
-            print_fit(rt, whole)
-        }
-        Asked::Refused(why) => print_refusal(rt, why),
+fn print_answer(rt: &impl Print, answer: Result<Fit, Refusal>) -> io::Result<()> {
+    match answer {
+        Ok(fit) => print_fit(rt, &fit),
+        Err(why) => print_refusal(rt, why),
     }
 }
 
-// The H line of node v in character j: what the three lists hold for it.
-fn print_states(
-    rt: &impl Print,
-    low: &[i32; 16128],
-    high: &[i32; 16128],
-    chosen: &[i32; 16128],
-    v: usize,
-    j: usize,
-) -> io::Result<()> {
-    print!(rt; "H")?;
-    print_field(rt, v as u64)?;
-    print_field(rt, j as u64)?;
-    print_state(rt, state_of(low, v, j))?;
-    print_state(rt, state_of(high, v, j))?;
-    print_state(rt, state_of(chosen, v, j))?;
-    end_line(rt)
-}
-
-// The H lines of the three characters of node v, and of one that the matrix does not have.
-fn print_node(
-    rt: &impl Print,
-    low: &[i32; 16128],
-    high: &[i32; 16128],
-    chosen: &[i32; 16128],
-    v: usize,
-) -> io::Result<()> {
-    print_states(rt, low, high, chosen, v, 1)?;
-    print_states(rt, low, high, chosen, v, 2)?;
-    print_states(rt, low, high, chosen, v, 3)?;
-    print_states(rt, low, high, chosen, v, 4)
-}
-
-// A placement of taxon b on a tree that is kept here: its line, the tree's lines and the rows of nodes 5 and 6 afterwards.
-fn show_placed(
-    rt: &impl Print,
-    tree: Tree,
-    codes: &mut [i32; 16128],
-    weights: &[u8],
-    n: usize,
-    m: usize,
-    b: usize,
-) -> io::Result<Tree> {
-    let KeptTree { tree: kept, placed } = placed_in(tree, codes, weights, n, m, b);
-    print_placed(rt, placed)?;
-    print_tree(rt, kept)?;
-    print_row(rt, codes, 5)?;
-    print_row(rt, codes, 6)?;
-    Ok(kept)
-}
-
-// The placements of document 01's example, by advancement; between them a taxon that is in the tree, one that does not exist, and too many
-// taxa.
-fn placements(rt: &impl Print, codes: &mut [i32; 16128], weights: &[u8]) -> io::Result<Tree> {
-    let alone = Tree::alone();
-    let first = show_placed(rt, alone, codes, weights, 4, 3, 2)?;
-    let again = show_placed(rt, first, codes, weights, 4, 3, 2)?;
-    let second = show_placed(rt, again, codes, weights, 4, 3, 4)?;
-    let none = show_placed(rt, second, codes, weights, 4, 3, 9)?;
-    let many = show_placed(rt, none, codes, weights, 65, 3, 3)?;
-    show_placed(rt, many, codes, weights, 4, 3, 3)
-}
-
 // The branch records of a finished tree written over old ones: the line of a refusal, the records' lines, and the records.
+// Kept: no plainer, it takes what the call takes, since a matrix of three codes is shown as well.
 fn show_written(
     rt: &impl Print,
     matrix: &[i32],
@@ -247,151 +137,149 @@ fn show_written(
     n: usize,
     m: usize,
     tree: Tree,
-    old: [Branch; 125],
-) -> io::Result<[Branch; 125]> {
-    let LentRecords { asked, records } = written(matrix, weights, n, m, tree, old);
-    print_asked(rt, asked)?;
-    print_records(rt, records)?;
+    old: [Branch; BRANCHES],
+) -> io::Result<[Branch; BRANCHES]> {
+    let (records, asked) = written(matrix, weights, n, m, tree, old);
+    if let Err(why) = asked {
+        print_refusal(rt, why)?;
+    }
+    print_records(rt, &records)?;
     Ok(records)
 }
 
-// A matrix of three codes.
-fn short_matrix(rt: &impl Print, weights: &[u8], tree: Tree, old: [Branch; 125]) -> io::Result<()> {
-    show_written(rt, &[0i32; 3], weights, 4, 3, tree, old)?;
-    Ok(())
+impl States {
+    // Lists of sevens.
+    // Kept: no plainer, `Default` would say neither the number nor the size.
+    fn sevens() -> States {
+        States {
+            low: [7; SIZE],
+            high: [7; SIZE],
+            chosen: [7; SIZE],
+        }
+    }
+
+    // The H lines of the three characters of node v, and of one that the matrix does not have: what the three lists hold for it.
+    fn print_node(&self, rt: &impl Print, v: usize) -> io::Result<()> {
+        for before in 0..4 {
+            let low = code_of(&self.low, v, before);
+            let high = code_of(&self.high, v, before);
+            let chosen = code_of(&self.chosen, v, before);
+            println!(rt; "H\t{v}\t{}\t{low}\t{high}\t{chosen}", before + 1)?;
+        }
+        Ok(())
+    }
 }
 
-// A finished tree written over other records, and trees and matrices that are refused.
-fn records(
-    rt: &impl Print,
-    codes: &mut [i32; 16128],
-    weights: &[u8],
-    tree: Tree,
-) -> io::Result<[Branch; 125]> {
-    let blank = other();
-    let old = [blank; 125];
-    let alone = Tree::alone();
-    short_matrix(rt, weights, tree, old)?;
-    show_written(rt, codes, weights, 65, 3, tree, old)?;
-    show_written(rt, codes, weights, 4, 3, alone, old)?;
-    show_written(rt, codes, weights, 1, 3, alone, old)?;
-    write_row(codes, 6, &[0, 1000, 0]);
-    show_written(rt, codes, weights, 4, 3, tree, old)?;
-    show_written(rt, codes, weights, 4, 1, tree, old)?;
-    write_row(codes, 6, &[2, 1, 0]);
-    show_written(rt, codes, weights, 4, 3, tree, old)
-}
+impl<'a> Example<'a> {
+    // The example with these weights.
+    fn weighed(weights: &'a [u8]) -> Example<'a> {
+        let mut codes = [0; SIZE];
+        write_example(&mut codes);
+        Example { codes, weights }
+    }
 
-// The fit of some records in m characters, with three lists for the states: its lines, and what the lists then hold for node 5.
-fn show_fit(
-    rt: &impl Print,
-    codes: &mut [i32; 16128],
-    weights: &[u8],
-    m: usize,
-    records: [Branch; 125],
-    low: &mut [i32; 16128],
-    high: &mut [i32; 16128],
-    chosen: &mut [i32; 16128],
-) -> io::Result<()> {
-    print_answer(rt, fitted(codes, weights, 4, m, records, low, high, chosen))?;
-    print_node(rt, low, high, chosen, 5)
-}
+    // A placement of taxon b on a tree that is kept here: its line, the tree's lines and the rows of nodes 5 and 6 afterwards.
+    fn show_placed(
+        &mut self,
+        rt: &impl Print,
+        tree: Tree,
+        n: usize,
+        m: usize,
+        b: usize,
+    ) -> io::Result<Tree> {
+        let (kept, placed) = placed_in(tree, &mut self.codes, self.weights, n, m, b);
+        print_placed(rt, placed)?;
+        print_tree(rt, kept)?;
+        print_row(rt, &self.codes, 5)?;
+        print_row(rt, &self.codes, 6)?;
+        Ok(kept)
+    }
 
-// The fit with a list of three states.
-fn short_list(
-    rt: &impl Print,
-    codes: &mut [i32; 16128],
-    weights: &[u8],
-    records: [Branch; 125],
-    low: &mut [i32; 16128],
-    high: &mut [i32; 16128],
-) -> io::Result<()> {
-    print_answer(
-        rt,
-        fitted(codes, weights, 4, 3, records, low, high, &mut [7i32; 3]),
-    )
-}
+    // The placements of document 01's example, by advancement; between them a taxon that is in the tree, one that does not exist, and too
+    // many taxa.
+    fn placements(&mut self, rt: &impl Print) -> io::Result<Tree> {
+        let mut tree = Tree::alone();
+        for (n, b) in [(4, 2), (4, 2), (4, 4), (4, 9), (65, 3), (4, 3)] {
+            let grown = self.show_placed(rt, tree, n, 3, b)?;
+            tree = grown;
+        }
+        Ok(tree)
+    }
 
-// The fit of other records, of the records written with a list that is too short, and of the records written.
-fn fits(
-    rt: &impl Print,
-    codes: &mut [i32; 16128],
-    weights: &[u8],
-    records: [Branch; 125],
-) -> io::Result<()> {
-    let mut low = [7i32; 16128];
-    let mut high = [7i32; 16128];
-    let mut chosen = [7i32; 16128];
-    let blank = other();
-    show_fit(
-        rt,
-        codes,
-        weights,
-        3,
-        [blank; 125],
-        &mut low,
-        &mut high,
-        &mut chosen,
-    )?;
-    short_list(rt, codes, weights, records, &mut low, &mut high)?;
-    print_node(rt, &low, &high, &chosen, 5)?;
-    show_fit(
-        rt,
-        codes,
-        weights,
-        3,
-        records,
-        &mut low,
-        &mut high,
-        &mut chosen,
-    )?;
-    print_node(rt, &low, &high, &chosen, 4)?;
-    print_node(rt, &low, &high, &chosen, 6)
-}
+    // A finished tree written over other records, and trees and matrices that are refused.
+    fn records(&mut self, rt: &impl Print, tree: Tree) -> io::Result<[Branch; BRANCHES]> {
+        let old = [OTHER; BRANCHES];
+        show_written(rt, &[0; 3], self.weights, 4, 3, tree, old)?;
+        show_written(rt, &self.codes, self.weights, 65, 3, tree, old)?;
+        show_written(rt, &self.codes, self.weights, 4, 3, Tree::alone(), old)?;
+        show_written(rt, &self.codes, self.weights, 1, 3, Tree::alone(), old)?;
+        write_row(&mut self.codes, 6, &[0, 1000, 0]);
+        show_written(rt, &self.codes, self.weights, 4, 3, tree, old)?;
+        show_written(rt, &self.codes, self.weights, 4, 1, tree, old)?;
+        write_row(&mut self.codes, 6, &[2, 1, 0]);
+        show_written(rt, &self.codes, self.weights, 4, 3, tree, old)
+    }
 
-// The codes of document 01's example.
-fn example(codes: &mut [i32; 16128]) {
-    write_row(codes, 1, &[0, 0, 0]);
-    write_row(codes, 2, &[2, 1, 0]);
-    write_row(codes, 3, &[2, 3, 1]);
-    write_row(codes, 4, &[-1, 1, 2]);
+    // The fit of some records in m characters: its lines, and what the three lists then hold for node 5.
+    fn show_fit(
+        &self,
+        rt: &impl Print,
+        m: usize,
+        records: &[Branch],
+        states: &mut States,
+    ) -> io::Result<()> {
+        let answer = fit_lent(
+            &self.codes,
+            self.weights,
+            4,
+            m,
+            records,
+            &mut states.low,
+            &mut states.high,
+            &mut states.chosen,
+        );
+        print_answer(rt, answer)?;
+        states.print_node(rt, 5)
+    }
+
+    // The fit of other records, of the records written with a list of three states, and of the records written.
+    fn fits(&self, rt: &impl Print, records: &[Branch]) -> io::Result<()> {
+        let mut states = States::sevens();
+        self.show_fit(rt, 3, &[OTHER; BRANCHES], &mut states)?;
+        let answer = fit_lent(
+            &self.codes,
+            self.weights,
+            4,
+            3,
+            records,
+            &mut states.low,
+            &mut states.high,
+            &mut [7; 3],
+        );
+        print_answer(rt, answer)?;
+        states.print_node(rt, 5)?;
+        self.show_fit(rt, 3, records, &mut states)?;
+        states.print_node(rt, 4)?;
+        states.print_node(rt, 6)
+    }
 }
 
 // The three calls on document 01's example with these weights.
 fn worked(rt: &impl Print, weights: &[u8]) -> io::Result<()> {
-    let mut codes = [0i32; 16128];
-    example(&mut codes);
-    let tree = placements(rt, &mut codes, weights)?;
-    let all = records(rt, &mut codes, weights, tree)?;
-    fits(rt, &mut codes, weights, all)
+    let mut example = Example::weighed(weights);
+    let tree = example.placements(rt)?;
+    let records = example.records(rt, tree)?;
+    example.fits(rt, &records)
 }
 
-// A placement, a tree that is none written, and the fit of other records, in m characters with these weights.
-fn asked_of(rt: &impl Print, codes: &mut [i32; 16128], weights: &[u8], m: usize) -> io::Result<()> {
-    let alone = Tree::alone();
-    show_placed(rt, alone, codes, weights, 4, m, 2)?;
-    let blank = other();
-    show_written(rt, codes, weights, 4, m, alone, [blank; 125])?;
-    let mut low = [7i32; 16128];
-    let mut high = [7i32; 16128];
-    let mut chosen = [7i32; 16128];
-    show_fit(
-        rt,
-        codes,
-        weights,
-        m,
-        [blank; 125],
-        &mut low,
-        &mut high,
-        &mut chosen,
-    )
-}
-
-// What the three calls ask of these weights in m characters, before they ask whether tree and records are a branching.
+// What the three calls ask of these weights in m characters, before they ask whether tree and records are a branching: a placement, a tree
+// that is none written, and the fit of other records.
 fn asked(rt: &impl Print, weights: &[u8], m: usize) -> io::Result<()> {
-    let mut codes = [0i32; 16128];
-    example(&mut codes);
-    asked_of(rt, &mut codes, weights, m)
+    let mut example = Example::weighed(weights);
+    let old = [OTHER; BRANCHES];
+    example.show_placed(rt, Tree::alone(), 4, m, 2)?;
+    show_written(rt, &example.codes, weights, 4, m, Tree::alone(), old)?;
+    example.show_fit(rt, m, &old, &mut States::sevens())
 }
 
 fn main(rt: HostRuntime) -> io::Result<()> {

@@ -1,39 +1,28 @@
--- What the check leaves of `wagner::closeness::least_kept`.
-use mathlib.Core.Path.{refl, sym}
-use native.Mathlib.Omega.{arith}
-use Rattle.lists.proofs.Least.{scan_start}
-use Rattle.branching.specs.Ancestors.{ancestors, ancestor}
-use Rattle.branching.specs.Nodes.{in_tree}
+-- `wagner::closeness::least_kept` meets its contract.
+use Rattle.std.proofs.Common.{rules, arith, sym, ◌∙◌, ap, ◌-◌, ◌*◌, ℕ}
+use Rattle.std.proofs.lemmas.Iterator.{YieldsList-from_range, YieldsList-from_map}
+use Rattle.std.proofs.lemmas.Iterator.Adapters.{option_map_id}
+use Rattle.std.proofs.lemmas.Iterator.Consumers.{YieldsList-at, YieldsList-from_filter, min_from_yields_List}
+use Rattle.branching.specs.Ancestors.{ancestors}
+use Rattle.branching.specs.Nodes.{in_tree, nodes_in, other_nodes}
+use Rattle.wagner.specs.Order.{least_key}
 use Rattle.wagner.specs.Closeness.{kept}
-use Rattle.wagner.proofs.Choosing.{out_over, kept_end}
+use Rattle.branching.proofs.Ranges.{filter-range}
+use Rattle.wagner.proofs.LeastKey.{least_from_min}
 use Rattle.wagner.proofs.closeness.least_kept.Goals as goal
 
-pub loop-c-init : goal.loop-c-init
-loop-c-init c =
-    let pre = c.requires in
-    (omega arith, omega arith, omega arith, refl, refl, pre.2, pre.0, pre.1, pre.3, sym (scan_start _ _ 2))
-
-pub loop-c-preserved : goal.loop-c-preserved
-unfolding kept ancestor
-loop-c-preserved c =
-    let inv = c.loop-c.invariant in
-    let tree = ancestors c.args.tree in
-    let next =
-    c.sooner-best.ensures (kept c.args.table.now c.args.v) (in_tree tree) (out_over tree _ _ inv.0 refl) refl refl in (
-      omega arith,
-      omega arith,
-      next.among 126 inv.2 (omega arith),
-      refl,
-      refl,
-      inv.5,
-      inv.6,
-      inv.7,
-      inv.8,
-      next.is 2 (omega arith) inv.0 inv.9,
-    )
-
 pub returns : goal.returns
-unfolding kept
+unfolding kept nodes_in other_nodes
 returns c =
-    let loop = c.loop-c in
-    kept_end _ _ _ _ loop.c _ loop.invariant.6 (omega (arith, loop.invariant.1, c.loop-c-test.false)) loop.invariant.9
+    let n = c.args.n in
+    let tree = ancestors c.args.tree.now in
+    let key = kept c.args.places.now in
+    sym (option_map_id c.min.result)
+    ∙ min_from_yields_List {v = λ (x : ℕ). x} _ _ c.min.ensures.ran
+    (YieldsList-from_map _ key
+    (YieldsList-at c.map.ensures.source
+    (YieldsList-from_filter _ (in_tree tree) (YieldsList-from_range 2 (2 * n - 1) (2 * n - 3) c.filter.ensures.source (omega arith))
+    c.filter.ensures.closure (λ x b q k. search rules)))
+    c.map.ensures.closure (λ x r q k. search rules))
+    ∙ least_from_min key _
+    ∙ ap (least_key key) (filter-range (in_tree tree) 2 (2 * n - 3))

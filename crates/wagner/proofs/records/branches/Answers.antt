@@ -1,8 +1,6 @@
--- `wagner::records::branches` meets its contract. Assumes nothing.
+-- `wagner::records::branches` meets its contract.
+use Rattle.std.proofs.Common.{◌≡◌, ◌∙◌, length, rules}
 use Rattle.wagner.proofs.Lengths.{lengths-records}
-use mathlib.Core.Path.{◌≡◌, ◌∙◌}
-use lib.ListN.{length}
-use borrow.Author.Rules.{rules}
 use Rattle.wagner.proofs.records.branches.Goals as goal
 
 pub returns : goal.returns

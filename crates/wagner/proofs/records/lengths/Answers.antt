@@ -1,20 +1,23 @@
--- What the check leaves of `wagner::records::lengths`.
-use Rattle.wagner.proofs.Lengths.{length-next}
-use lib.ListN.{length-set}
-use native.Mathlib.Omega.{arith}
-use mathlib.Core.Path.{refl}
+-- `wagner::records::lengths` meets its contract.
+use Rattle.std.proofs.Common.{rules, ℕ, List, ◌∙◌, ap, get_or, zero-add, min}
+use Rattle.lists.proofs.Numbers.{map-numbers}
+use Rattle.matrix.specs.Shape.{row}
+use Rattle.difference.specs.Rows.{difference, node_difference}
+use Rattle.branching.specs.Ancestors.{ancestor, ancestors}
+use Rattle.branching.proofs.Ranges.{made-map}
+use Rattle.wagner.proofs.Lengths.{length_in-first}
 use Rattle.wagner.proofs.records.lengths.Goals as goal
-
-pub loop-v-init : goal.loop-v-init
-loop-v-init c = (omega arith, refl, λ u h. absurd (omega arith))
-
-pub loop-v-preserved : goal.loop-v-preserved
-loop-v-preserved c =
-    let loop = c.loop-v in
-    let inv = loop.invariant in
-    (omega arith, simp length-set inv.1, length-next _ _ _ _ loop.all loop.v _ (omega arith) c.branch_length.ensures inv.2)
 
 pub returns : goal.returns
 returns c =
-    let inv = c.loop-v.invariant in
-    record { size = inv.1; each = λ v h. inv.2 v (omega (arith, c.loop-v-test.false)) }
+    let a = c.args in
+    let tree = ancestors a.tree.now in
+    let length = λ (v : ℕ). node_difference (difference a.weights.now) (row a.matrix.now (min a.m 128)) v (ancestor tree v) in
+    record {
+      size = c.from_fn.ensures.items.long;
+      each = λ v h.
+          ap (λ (lengths : List ℕ). get_or lengths v 0) (made-map _ length _ _ 127 0 c.from_fn.ensures.items (λ v y q k. search rules))
+          ∙ map-numbers length 0 0 127 v h
+          ∙ ap length (zero-add v)
+          ∙ length_in-first a.matrix.now a.weights.now a.m v (ancestor tree v);
+    }
