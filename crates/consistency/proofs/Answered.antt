@@ -2,11 +2,11 @@
 use mathlib.Core.Path.{◌≡◌, ap, ap₂, ◌∙◌}
 use mathlib.Core.List.{List}
 use Prim.Native.Nat.{ℕ}
+use Rattle.std.proofs.Common.{Option, Ok}
 use native.Mathlib.Omega.{arith}
 use lib.IntN.{ℤ}
 use Rattle.matrix.specs.Outcomes.{value}
 use Rattle.matrix.specs.Questions.{ask_matrix}
-use Rattle.matrix.specs.declared.refusal.Asked.TheVariants.{Passed}
 use Rattle.matrix.proofs.Passing.{matrix_passed}
 use Rattle.branching.specs.declared.branch.Branch.{Branch}
 use Rattle.branching.specs.Branches.{places_of}
@@ -19,14 +19,14 @@ use Rattle.consistency.specs.declared.index.Index.{Index}
 use Rattle.consistency.proofs.Columns.{floor-most}
 
 -- the floor of a lent matrix that no question refuses
-pub floor_passed : (codes : List ℤ) (weights : List ℕ) (n m r : ℕ) → ask_matrix codes weights n m ≡ Passed → FloorOf codes weights n m r
+pub floor_passed : (codes : List ℤ) (weights : List ℕ) (n m r : ℕ) → ask_matrix codes weights n m ≡ Ok tt → FloorOf codes weights n m r
     → value r ≡ floor_answer codes weights n m
 unfolding floor_answer
 floor_passed codes weights n m r e of = rw (e, of.is (matrix_passed codes weights n m e))
 
 -- the index of a lent branching that no question refuses
-pub index_passed : (codes : List ℤ) (weights : List ℕ) (n m : ℕ) (records : List Branch) (tree : List ℕ) (f t : ℕ) (r : Index)
-    → ask_branching codes weights n m records ≡ Passed → tree ≡ places_of n records → FloorOf codes weights n m f
+pub index_passed : (codes : List ℤ) (weights : List ℕ) (n m : ℕ) (records : List Branch) (tree : List ℕ) (f t : ℕ) (r : Option Index)
+    → ask_branching codes weights n m records ≡ Ok tt → tree ≡ places_of n records → FloorOf codes weights n m f
     → TotalOf codes weights n m tree t → IndexOf f t r → value r ≡ index_answer codes weights n m records
 unfolding index_answer
 index_passed codes weights n m records tree f t r e is floor total index_of =

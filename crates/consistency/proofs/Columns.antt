@@ -1,8 +1,8 @@
 -- The columns of a lent matrix are its characters, so their floors are the matrix's, and its floor stays small.
 use mathlib.Core.Path.{◌≡◌, refl, sym, ap, ap₂, ◌∙◌}
 use mathlib.Core.Bool.{true}
-use mathlib.Core.List.{List, Memᴰ}
-use Prim.Native.Nat.{ℕ, suc, ◌+◌, ◌-◌, ◌≤◌}
+use mathlib.Core.List.{List, [], ◌∷◌, Memᴰ}
+use Prim.Native.Nat.{ℕ, zero, suc, ◌+◌, ◌≤◌}
 use native.Mathlib.Omega.{arith}
 use lib.IntN.{ℤ}
 use Rattle.lists.specs.Numbers.{numbers}
@@ -12,9 +12,12 @@ use Rattle.lists.proofs.Sums.{sum_same, sum_most}
 use Rattle.matrix.specs.Shape.{in_range, weight_of}
 use Rattle.matrix.specs.NodeRows.{rows_of}
 use Rattle.matrix.specs.Questions.{LentMatrix, LentWeights}
-use Rattle.difference.specs.Rows.{part}
+use Rattle.std.specs.List.{range_with_len, fold}
+use Rattle.difference.specs.Rows.{part, lower, higher}
+use Rattle.difference.proofs.Laws.Places.{place, everywhere, lower-place, higher-place}
 use Rattle.difference.proofs.Laws.Weights.{part-in_range, weight_of_weight}
 use Rattle.fitting.specs.Sets.{only}
+use Rattle.fitting.specs.declared.spans.Span.{Span}
 use Rattle.fitting.specs.Handing.{state_at}
 use Rattle.fitting.specs.Assignments.{character}
 use Rattle.fitting.proofs.Columns.{character-code, character-known}
@@ -34,16 +37,38 @@ ends_behind : (matrix : List ℤ) (j v count : ℕ)
 unfolding column numbers lowest highest
 ends_behind matrix j v count = refl
 
--- the ends of the codes of rows v - 1 to n, from those of rows v to n
-pub ends_next : (matrix : List ℤ) (j n v : ℕ) → 2 ≤ v → v ≤ n
-    → ends_of (column matrix j (v - 1) (n + 1 - (v - 1))) ≡ widened (state_at matrix (v - 1) j) (ends_of (column matrix j v (n + 1 - v)))
-ends_next matrix j n v later last =
-    let all : n + 1 - (v - 1) ≡ suc (suc (n - v)) = omega arith in
-    let others : suc (n - v) ≡ n + 1 - v = omega arith in
-    let next : suc (v - 1) ≡ v = omega arith in
-    ap (λ count. ends_of (column matrix j (v - 1) count)) all
-    ∙ ends_behind matrix j (v - 1) (n - v)
-    ∙ ap₂ (λ first count. widened (state_at matrix (v - 1) j) (ends_of (column matrix j first count))) next others
+-- in whichever order two codes come, the ends are the same
+widened_swap : (x y : ℤ) (ends : Span) → widened x (widened y ends) ≡ widened y (widened x ends)
+widened_swap x y ends =
+    ap₂ (λ (l h : ℤ). record { low = l; high = h })
+    (everywhere (λ z. lower (z 0) (lower (z 1) (z 2)) ≡ lower (z 1) (lower (z 0) (z 2))) (λ K n. simp lower-place (ap (place K) (omega arith)))
+    (x ∷ y ∷ ends.low ∷ []))
+    (everywhere (λ z. higher (z 0) (higher (z 1) (z 2)) ≡ higher (z 1) (higher (z 0) (z 2))) (λ K n. simp higher-place (ap (place K) (omega arith)))
+    (x ∷ y ∷ ends.high ∷ []))
+
+module _ (matrix : List ℤ) (j : ℕ) where
+  -- the ends of some codes, with those of the rows of a list
+  abbrev pub widened_by : Span → List ℕ → Span
+  widened_by ends rows = fold (λ (e : Span) v. widened (state_at matrix v j) e) ends rows
+
+  -- a code that comes first may come last
+  widened_last : (x : ℤ) (ends : Span) (rows : List ℕ) → widened_by (widened x ends) rows ≡ widened x (widened_by ends rows)
+  widened_last x ends [] = refl
+  widened_last x ends (v ∷ rows) =
+      ap (λ (e : Span). widened_by e rows) (widened_swap (state_at matrix v j) x ends)
+      ∙ widened_last x (widened (state_at matrix v j) ends) rows
+
+  -- the ends of the codes of rows v to v + k, from that of the last and those of the rows before it
+  pub ends_folded : (k v : ℕ) → widened_by (only (state_at matrix (v + k) j)) (range_with_len v k) ≡ ends_of (column matrix j v (suc k))
+  ends_folded zero v = let same : v + 0 ≡ v = omega arith in ap (λ u. only (state_at matrix u j)) same ∙ sym (ends-one matrix j v)
+  ends_folded (suc k) v =
+      let last : v + suc k ≡ v + 1 + k = omega arith in
+      let next : v + 1 ≡ suc v = omega arith in
+      widened_last (state_at matrix v j) (only (state_at matrix (v + suc k) j)) (range_with_len (v + 1) k)
+      ∙ ap (λ u. widened (state_at matrix v j) (widened_by (only (state_at matrix u j)) (range_with_len (v + 1) k))) last
+      ∙ ap (widened (state_at matrix v j)) (ends_folded k (v + 1))
+      ∙ ap (λ u. widened (state_at matrix v j) (ends_of (column matrix j u (suc k)))) next
+      ∙ sym (ends_behind matrix j v k)
 
 module _ (codes : List ℤ) (weights : List ℕ) (n m : ℕ) (lent : LentMatrix codes n m) where
   -- the rows of the taxa

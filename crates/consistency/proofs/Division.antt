@@ -4,7 +4,7 @@ use Prim.Native.Nat.{ℕ, zero, suc, ◌+◌, ◌*◌, ◌/◌, ◌%◌, ◌≤�
 use native.Mathlib.Nat.{div-add-mod', mod-lt, zero-lt-suc, zero-add, add_comm, add-mul-div_right, mul-add-mod_self_right, div-eq_of_lt, mod-eq_of_lt, div-lt_iff_lt-mul, le_of_mul-le-mul_right}
 use native.Mathlib.Omega.{arith}
 use Rattle.consistency.specs.declared.index.Index.{Index}
-use Rattle.consistency.specs.declared.index.Index.TheVariants.{Divided}
+use Rattle.std.proofs.Common.{Option, Some}
 use Rattle.consistency.specs.Index.{thousand, IsIndex, divided, no_total, index}
 
 -- the index is what the paper says
@@ -16,7 +16,7 @@ index_is floor (suc less) =
     (mod-lt (thousand * floor) (zero-lt-suc less))
 
 -- and nothing else is: quotient and remainder are the only ones of their kind
-pub index-only : (floor total : ℕ) (i : Index) → IsIndex floor total i → i ≡ index floor total
+pub index-only : (floor total : ℕ) (i : Option Index) → IsIndex floor total i → i ≡ index floor total
 unfolding index
 index-only floor zero i (divided quotient remainder e below) = absurd (omega arith)
 index-only floor zero i (no_total none) = refl
@@ -30,7 +30,7 @@ index-only floor (suc less) i (divided quotient remainder e below) =
     ∙ zero-add quotient in
     let over : thousand * floor % total ≡ remainder =
     ap (λ (x : ℕ). x % total) e ∙ mul-add-mod_self_right quotient total remainder ∙ mod-eq_of_lt below in
-    ap₂ Divided (sym whole) (sym over)
+    ap₂ (λ (q r : ℕ). Some (record { quotient = q; remainder = r })) (sym whole) (sym over)
 
 -- where the floor is no higher than the total the index is at most 1000 thousandths
 pub thousandths_most : (floor total : ℕ) → floor ≤ total → 1 ≤ total → thousand * floor / total ≤ thousand
@@ -39,7 +39,7 @@ thousandths_most floor total below some =
     omega arith
 
 -- so its quotient is at most 1000
-pub quotient_most : (floor total quotient remainder : ℕ) → floor ≤ total → IsIndex floor total (Divided quotient remainder)
+pub quotient_most : (floor total quotient remainder : ℕ) → floor ≤ total → IsIndex floor total (Some (record { quotient = quotient; remainder = remainder }))
     → quotient ≤ thousand
 quotient_most floor total q r below (divided quotient remainder e over) =
     let most : quotient * total ≤ thousand * total = omega (arith, e, below) in

@@ -1,9 +1,8 @@
 -- What the call for the floor of a lent matrix and the one for the index of a lent branching answer: the questions of document 01 in their
 -- order, then the definition.
-use Rattle.std.specs.Prelude.{◌≡◌, List, ℕ, ◌≤◌, ◌<◌, ℤ}
+use Rattle.std.specs.Prelude.{◌≡◌, Option, None, List, ℕ, ◌≤◌, ◌<◌, ℤ}
 use Rattle.matrix.specs.NodeRows.{rows_of}
-use Rattle.matrix.specs.Refusals.{refusal_number}
-use Rattle.matrix.specs.Outcomes.{Outcome, value, refused, answered}
+use Rattle.matrix.specs.Outcomes.{Outcome, answered}
 use Rattle.matrix.specs.Questions.{LentMatrix, ask_matrix}
 use Rattle.difference.specs.Rows.{weighing, most_difference}
 use Rattle.branching.specs.declared.branch.Branch.{Branch}
@@ -13,9 +12,6 @@ use Rattle.fitting.specs.Fit.{fitted_total}
 use Rattle.consistency.specs.Floor.{floor}
 use Rattle.consistency.specs.Index.{index}
 use Rattle.consistency.specs.declared.index.Index.{Index}
-use Rattle.consistency.specs.declared.index.Index.TheVariants.{NoTotal}
-use Rattle.consistency.specs.declared.calls.Consistency.{Consistency}
-use Rattle.consistency.specs.declared.calls.Consistency.TheVariants.{Is, Refused}
 
 -- the floor of a lent matrix of n taxa and m characters, by its weights
 abbrev pub lent_floor : List ℤ → List ℕ → ℕ → ℕ → ℕ
@@ -30,21 +26,16 @@ abbrev pub most_floor : ℕ
 most_floor = most_difference
 
 -- r is the index of a floor and a total; for a floor that no matrix has there is none
-pub record IndexOf (floor total : ℕ) (r : Index) : Type 0 where
+pub record IndexOf (floor total : ℕ) (r : Option Index) : Type 0 where
   pub is : floor ≤ most_floor → r ≡ index floor total
-  pub above : most_floor < floor → r ≡ NoTotal
+  pub above : most_floor < floor → r ≡ None
 
 -- the floor of a lent matrix, once its questions are answered
 unfoldable pub floor_answer : List ℤ → List ℕ → ℕ → ℕ → Outcome ℕ
 floor_answer codes weights n m = answered (ask_matrix codes weights n m) (lent_floor codes weights n m)
 
--- what an index handed back says
-abbrev pub index_says : Consistency → Outcome Index
-index_says (Is index) = value index
-index_says (Refused refusal) = refused (refusal_number refusal) 0
-
 -- the index of a lent branching, by the floor of its matrix and its fitted total, once its questions are answered
-unfoldable pub index_answer : List ℤ → List ℕ → ℕ → ℕ → List Branch → Outcome Index
+unfoldable pub index_answer : List ℤ → List ℕ → ℕ → ℕ → List Branch → Outcome (Option Index)
 index_answer codes weights n m records =
     answered (ask_branching codes weights n m records)
     (index (lent_floor codes weights n m) (fitted_total (weighing weights).step (ancestors_of n records) (rows_of codes m n) n m))

@@ -7,26 +7,23 @@ const THOUSAND: u64 = 1000;
 // The highest floor that a matrix can have: 128 times 9 times 1998.
 const MOST_FLOOR: u64 = 2301696;
 
-// Quotient and remainder of 1000 times the floor, divided by a total; there are none with a total of 0.
-#[derive(Clone, Copy)]
-pub enum Index {
-    Divided { quotient: u64, remainder: u64 },
-    NoTotal,
+// Quotient and remainder of 1000 times the floor, divided by a total.
+#[derive(Clone, Copy, PartialEq, Eq)]
+pub struct Index {
+    pub quotient: u64,
+    pub remainder: u64,
 }
 
 // The index of a floor and a total: none with a total of 0, nor for a floor that no matrix has.
-pub fn index_of(floor: u64, total: u64) -> Index
+pub fn index_of(floor: u64, total: u64) -> Option<Index>
     ensures { IndexOf floor total result }
 {
-    if total == 0 {
-        return Index::NoTotal;
-    }
     if MOST_FLOOR < floor {
-        return Index::NoTotal;
+        return None;
     }
     let thousandths = THOUSAND * floor;
-    Index::Divided {
-        quotient: thousandths / total,
-        remainder: thousandths % total,
-    }
+    Some(Index {
+        quotient: thousandths.checked_div(total)?,
+        remainder: thousandths.checked_rem(total)?,
+    })
 }

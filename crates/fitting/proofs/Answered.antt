@@ -1,10 +1,8 @@
 -- The call for a fit answers its questions: a refusal leaves everything as it was, and otherwise the fit is that of the branching.
-use Rattle.std.proofs.Common.{◌≡◌, ℕ, ◌-◌, ◌*◌, ◌≤◌, List, length, ℤ, refl, ◌∙◌, arith}
+use Rattle.std.proofs.Common.{Ok, Err, ◌≡◌, ℕ, ◌-◌, ◌*◌, ◌≤◌, List, length, ℤ, refl, ◌∙◌, arith}
 use Rattle.matrix.specs.Shape.{matrix_size}
 use Rattle.matrix.specs.NodeRows.{rows_of}
 use Rattle.matrix.specs.declared.refusal.Refusal.{Refusal}
-use Rattle.matrix.specs.declared.refusal.Asked.{Asked}
-use Rattle.matrix.specs.declared.refusal.Asked.TheVariants.{Passed, Refused}
 use Rattle.difference.specs.Rows.{weighing}
 use Rattle.branching.specs.Ancestors.{ancestor}
 use Rattle.branching.specs.declared.branch.Branch.{Branch}
@@ -13,8 +11,8 @@ use Rattle.branching.specs.Asking.{ask_branching}
 use Rattle.branching.proofs.Lending.{places-ancestors}
 use Rattle.branching.proofs.Test.{branching_iff}
 use Rattle.branching.proofs.Walks.{branching-rooted}
-use Rattle.fitting.specs.Calls.{ask_fit, no_fit, TreeFitted}
-use Rattle.fitting.specs.Handing.{FitAnswer}
+use Rattle.fitting.specs.Calls.{ask_fit, TreeFitted}
+use Rattle.fitting.specs.Handing.{FitHanded, NotFitted}
 use Rattle.fitting.specs.declared.whole.Fit.{Fit}
 use Rattle.fitting.specs.declared.whole.Which.TheVariants.{Low, High, Chosen}
 use Rattle.fitting.proofs.Passed.{branching_passed, records_passed, lent_test}
@@ -23,30 +21,18 @@ use Rattle.fitting.proofs.Handed.{handed_back_lem}
 use Rattle.fitting.proofs.Matrix.ThirdRival.{third_rival}
 use Rattle.fitting.proofs.Pass.Standing.{last_several}
 
--- questions that refuse do not pass
-never : {A : Type 0} (asked : Asked) (refusal : Refusal) → asked ≡ Refused refusal → asked ≡ Passed → A
-never asked refusal e p = absurd (let z : ◌≡◌ {A = ℕ} 0 1 = cc in omega arith)
-
 module _ (codes : List ℤ) (weights : List ℕ) (n m : ℕ) (records : List Branch) (low high chosen : List ℤ) where
-  -- after a refusal there is no fit, and the lists are as before
-  pub refused_answer : (refusal : Refusal) (fit : Fit) → ask_fit codes weights n m records low high chosen ≡ Refused refusal → fit ≡ no_fit
-      → FitAnswer codes weights n m records low low high high chosen chosen (record { asked = Refused refusal; fit = fit })
-  refused_answer refusal fit e none = record {
-    says = rw e;
-    fitted = λ p. never _ refusal e p;
-    is_low = λ p. never _ refusal e p;
-    is_high = λ p. never _ refusal e p;
-    is_chosen = λ p. never _ refusal e p;
-    handed = λ p. never _ refusal e p;
-    refused = λ other f. (none, refl, refl, refl);
-  }
+  -- after a refusal the lists are as before
+  pub refused_answer : (refusal : Refusal) → ask_fit codes weights n m records low high chosen ≡ Err refusal
+      → NotFitted codes weights n m records low low high high chosen chosen refusal
+  refused_answer refusal e = record { refused = e; low_kept = refl; high_kept = refl; chosen_kept = refl }
 
   -- where no question refuses, the fit is that of the branching
   pub passed_answer : (low' high' chosen' : List ℤ) (tree : List ℕ) (fit : Fit)
-      → ask_fit codes weights n m records low high chosen ≡ Passed → ask_branching codes weights n m records ≡ Passed
+      → ask_fit codes weights n m records low high chosen ≡ Ok tt → ask_branching codes weights n m records ≡ Ok tt
       → length low ≡ matrix_size → length high ≡ matrix_size → length chosen ≡ matrix_size
       → tree ≡ places_of n records → TreeFitted codes weights n m tree low low' high high' chosen chosen' fit
-      → FitAnswer codes weights n m records low low' high high' chosen chosen' (record { asked = Passed; fit = fit })
+      → FitHanded codes weights n m records low low' high high' chosen chosen' fit
   passed_answer low' high' chosen' tree fit e asked low_size high_size chosen_size is of =
       let passed = branching_passed codes weights n m records asked in
       let lent = passed.0 in
@@ -66,13 +52,12 @@ module _ (codes : List ℤ) (weights : List ℕ) (n m : ℕ) (records : List Bra
       let up = (branching-rooted n new test).above v l (omega arith) in
       (up.0, omega (arith, up.1)) in
       record {
-        says = rw e;
-        fitted = λ p. fits;
-        is_low = λ p. is_low;
-        is_high = λ p. is_high;
-        is_chosen = λ p. is_chosen;
-        handed = λ p. handed_back_lem (weighing weights).step new rows n m lent.taxon lent.taxa
+        passed = e;
+        fitted = fits;
+        is_low = is_low;
+        is_high = is_high;
+        is_chosen = is_chosen;
+        handed = handed_back_lem (weighing weights).step new rows n m lent.taxon lent.taxa
             lent.characters claim above low low' high high' chosen chosen' fit fits
             low_size high_size chosen_size is_low is_high is_chosen;
-        refused = λ refusal f. never _ refusal f e;
       }

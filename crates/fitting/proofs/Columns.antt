@@ -54,7 +54,7 @@ module _ (codes : List ℤ) (n m : ℕ) (lent : LentMatrix codes n m) where
   pub column-codes : (j : ℕ) → 1 ≤ j → j ≤ m → (column : List ℤ) → Column codes n j column → Codes rows n j column
   column-codes j first last column is = record {
     taxon = lent.taxon;
-    are = λ v l h. is.are v l h ∙ sym (character-code v j l h first last);
+    are = λ v l h. let few = lent.taxa in is.are v (omega arith) h ∙ sym (character-code v j l h first last);
     known = λ v l h. character-known v j l h first last;
   }
 

@@ -18,8 +18,8 @@ use Rattle.branching.proofs.Walks.{branching-rooted}
 use Rattle.fitting.specs.Assignments.{character, branch_length}
 use Rattle.fitting.specs.Fit.{chosen_state, states_in, fitted_length, marked}
 use Rattle.fitting.specs.Steps.{Column, Fits, states_at}
-use Rattle.fitting.specs.Calls.{state_in, states_written}
-use Rattle.fitting.specs.Lists.{with_column, no_branch, branch_at, fitted_branch, marks_in, Lengthened, Written}
+use Rattle.fitting.specs.Calls.{no_branch, branch_at, state_in, states_written}
+use Rattle.fitting.specs.Lists.{with_column, fitted_branch, marks_in, Lengthened, Written}
 use Rattle.fitting.specs.declared.characters.States.{States}
 use Rattle.fitting.specs.declared.whole.BranchFit.{BranchFit}
 use Rattle.fitting.specs.declared.whole.Which.{Which}
@@ -47,6 +47,7 @@ start_written matrix weights n m tree low high chosen = record {
   is_high = λ branches lent. sym (written_none High tree (rows_of matrix m n) n high);
   is_chosen = λ branches lent. sym (written_none Chosen tree (rows_of matrix m n) n chosen);
   are = λ branches lent weighed v l h. get_d_replicate no_branch 127 v ∙ unfold marked fitted_length branch_length sum_over numbers in refl;
+  no_others = λ v out. get_d_replicate no_branch 127 v;
 }
 
 -- the chosen one of a node's states
@@ -172,7 +173,7 @@ module _ (matrix : List ℤ) (weights : List ℕ) (n m j : ℕ) (first : 1 ≤ j
       let most = length_most matrix weights n m tree branches lent weighed v l h (j + 1 - 1) (omega arith) in
       let wide = lent.characters in
       ap₂ (λ (x : ℕ) (t : Bool). record { length = x; mark = t })
-      (more.length.is (omega arith) ∙ ap (λ (x : ℕ). fitted_length (weighing weights).step tree rows n (j - 1) v + x) step ∙ sym next)
+      (more.length (omega arith) ∙ ap (λ (x : ℕ). fitted_length (weighing weights).step tree rows n (j - 1) v + x) step ∙ sym next)
       (more.mark ∙ sym (mark-next weights tree rows n j v first (weight_of-within weights m weighed.known j first last).0))
 
   -- all of it
@@ -188,4 +189,5 @@ module _ (matrix : List ℤ) (weights : List ℕ) (n m j : ℕ) (first : 1 ≤ j
     is_high = λ branches lent. list-next High high high' high'' branches lent (before.is_high branches lent) h;
     is_chosen = λ branches lent. list-next Chosen chosen chosen' chosen'' branches lent (before.is_chosen branches lent) c;
     are = λ branches lent weighed v p q. branch_right old new branches lent weighed longer v p q (before.are branches lent weighed v p q);
+    no_others = λ v out. longer.kept v out ∙ before.no_others v out;
   }

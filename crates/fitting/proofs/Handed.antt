@@ -14,7 +14,7 @@ use Rattle.fitting.specs.Sets.{In}
 use Rattle.fitting.specs.Assignments.{branch_length, total}
 use Rattle.fitting.specs.Fit.{chosen_state, range, states_in, fitted_length, fitted_total}
 use Rattle.fitting.specs.Rival.{FitIsLeast}
-use Rattle.fitting.specs.Calls.{state_in, states_written, FitOf}
+use Rattle.fitting.specs.Calls.{branch_at, state_in, states_written, FitOf}
 use Rattle.fitting.specs.Handing.{state_at, handed_states, HandedBack}
 use Rattle.fitting.specs.declared.whole.Which.{Which}
 use Rattle.fitting.specs.declared.whole.Which.TheVariants.{Low, High, Chosen}
@@ -105,7 +105,7 @@ module _ (step : ℕ → ℤ → ℤ → ℕ) (tree : List ℕ) (rows : List (Li
           ap₂ (step j) (handed-state v j (omega (arith, w.0)) last u.0 (omega (arith, u.1)))
           (handed-state (ancestor tree v) j up.0 up.1 u.0 (omega (arith, u.1)))))
 
-      same-sums : sum_over (λ v. get_or fit.lengths v 0) (other_nodes n) ≡ sum_over (fitted_length step tree rows n m) (other_nodes n)
+      same-sums : sum_over (λ v. (branch_at fit.branches v).length) (other_nodes n) ≡ sum_over (fitted_length step tree rows n m) (other_nodes n)
       same-sums = unfold other_nodes in
-          sum_same (λ v. get_or fit.lengths v 0) (fitted_length step tree rows n m) (numbers 2 (2 * n - 3))
+          sum_same (λ v. (branch_at fit.branches v).length) (fitted_length step tree rows n m) (numbers 2 (2 * n - 3))
           (λ v i. let w = numbers-within 2 (2 * n - 3) v i in fits.lengths v w.0 (omega (arith, w.0, w.1)))

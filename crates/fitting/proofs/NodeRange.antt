@@ -1,12 +1,10 @@
 -- The states of one node, taxon or HTU, told by assignments, and the answer of the call for them.
-use Rattle.std.proofs.Common.{◌≡◌, ℕ, ◌≤◌, true, eqb, ◌↔◌, List, length, ℤ, ap, ◌∙◌, arith}
+use Rattle.std.proofs.Common.{Result, Ok, Err, ◌≡◌, ℕ, ◌≤◌, true, eqb, ◌↔◌, List, length, ℤ, ap, ◌∙◌}
 use Rattle.matrix.specs.Shape.{last_node}
 use Rattle.matrix.specs.NodeRows.{rows_of}
 use Rattle.matrix.specs.Questions.{ask_matrix, one_to, LentMatrix, LentWeights}
-use Rattle.matrix.specs.Outcomes.{Outcome, value}
 use Rattle.matrix.specs.declared.refusal.Refusal.{Refusal}
 use Rattle.matrix.specs.declared.refusal.Refusal.TheVariants.{ListSize, NotThere, NotBranching}
-use Rattle.matrix.specs.declared.refusal.Asked.TheVariants.{Passed, Refused}
 use Rattle.matrix.proofs.Passing.{ask_passed, and_then_passed, matrix_passed, weights_passed, one_to-true}
 use Rattle.branching.specs.declared.branch.Branch.{Branch}
 use Rattle.branching.specs.Branches.{ancestors_of, places_of, lent_branching}
@@ -17,16 +15,10 @@ use Rattle.fitting.specs.Fit.{states_in}
 use Rattle.fitting.specs.Calls.{StatesOf}
 use Rattle.fitting.specs.Handing.{ask_node, NodeAnswer}
 use Rattle.fitting.specs.declared.characters.States.{States}
-use Rattle.fitting.specs.declared.calls.NodeStates.TheVariants.{Are}
-use Rattle.fitting.specs.declared.calls.NodeStates.TheVariants as NodeStates
 use Rattle.fitting.proofs.Passed.{places-branching, lent_test}
 use Rattle.fitting.proofs.SameTree.{states-same}
 use Rattle.fitting.proofs.Handed.{ends_in}
 use Rattle.fitting.proofs.Matrix.ThirdRival.{third_rival}
-
--- states handed back as a value
-value_same : (a b : States) → ◌≡◌ {A = Outcome States} (value b) (value a) → a ≡ b
-value_same a b e = cc
 
 -- what passed questions tell of a node and a character
 pub record NodeNamed (codes : List ℤ) (weights : List ℕ) (n m : ℕ) (records : List Branch) (v j : ℕ) : Type 0 where
@@ -37,7 +29,7 @@ pub record NodeNamed (codes : List ℤ) (weights : List ℕ) (n m : ℕ) (record
   pub branches : lent_branching n records ≡ true
 
 -- they tell so
-node_named : (codes : List ℤ) (weights : List ℕ) (n m : ℕ) (records : List Branch) (v j : ℕ) → ask_node codes weights n m records v j ≡ Passed
+node_named : (codes : List ℤ) (weights : List ℕ) (n m : ℕ) (records : List Branch) (v j : ℕ) → ask_node codes weights n m records v j ≡ Ok tt
     → NodeNamed codes weights n m records v j
 unfolding ask_node
 node_named codes weights n m records v j e =
@@ -50,17 +42,21 @@ node_named codes weights n m records v j e =
       weighed = weights_passed codes weights n m both.0;
       node = one_to-true (last_node n) v node.0;
       character = one_to-true m j named.0;
-      branches = (ask_passed (lent_branching n records) NotBranching Passed named.1).0;
+      branches = (ask_passed (lent_branching n records) NotBranching (Ok tt) named.1).0;
     }
 
 -- one after the other
 both_ways : {A B C : Type 0} → (A ↔ B) → (B ↔ C) → (A ↔ C)
 both_ways f g = (λ a. g.0 (f.0 a), λ c. f.1 (g.1 c))
 
+-- states handed back
+found_same : (a b : States) → ◌≡◌ {A = Result States Refusal} (Ok b) (Ok a) → a ≡ b
+found_same a b e = cc
+
 -- where no question refuses, the states are those of the node, and its range is that of all assignments of least length
 pub node_answer : (codes : List ℤ) (weights : List ℕ) (n m : ℕ) (records : List Branch) (v j : ℕ) (tree : List ℕ) (r : States)
-    → ask_node codes weights n m records v j ≡ Passed → tree ≡ places_of n records → StatesOf codes n m tree v j r
-    → NodeAnswer codes weights n m records v j (Are r)
+    → ask_node codes weights n m records v j ≡ Ok tt → tree ≡ places_of n records → StatesOf codes n m tree v j r
+    → NodeAnswer codes weights n m records v j (Ok r)
 node_answer codes weights n m records v j tree r e is of =
     let named = node_named codes weights n m records v j e in
     let lent = named.lent in
@@ -75,7 +71,7 @@ node_answer codes weights n m records v j tree r e is of =
     record {
       says = rw (e, found);
       ranges = λ states same s.
-          let own : states ≡ states_in new rows n v j = value_same states r same ∙ found in
+          let own : states ≡ states_in new rows n v j = found_same states r same ∙ found in
           both_ways (ends_in new rows n v j s states.low states.high (ap (λ (t : States). t.low) own) (ap (λ
           (t : States). t.high) own))
           (claim.ranges v j s named.node.0 named.node.1 named.character.0 named.character.1);
@@ -83,9 +79,9 @@ node_answer codes weights n m records v j tree r e is of =
 
 -- after a refusal there are no states
 pub node_refused : (codes : List ℤ) (weights : List ℕ) (n m : ℕ) (records : List Branch) (v j : ℕ) (refusal : Refusal)
-    → ask_node codes weights n m records v j ≡ Refused refusal
-    → NodeAnswer codes weights n m records v j (NodeStates.Refused refusal)
+    → ask_node codes weights n m records v j ≡ Err refusal
+    → NodeAnswer codes weights n m records v j (Err refusal)
 node_refused codes weights n m records v j refusal e = record {
   says = rw e;
-  ranges = λ states same s. absurd (let z : ◌≡◌ {A = ℕ} 0 1 = cc in omega arith);
+  ranges = λ states same s. cc;
 }

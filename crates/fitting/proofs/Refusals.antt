@@ -1,14 +1,13 @@
 -- The questions of the calls for a fit and for one node, computed: each refusal, and of two questions that would both refuse the earlier
 -- one answers. The matrix has one character; the code of row v stands at (v-1)*128.
-use Rattle.std.proofs.Common.{◌≡◌, ℕ, ◌-◌, ◌*◌, List, [], ◌∷◌, set, replicate, ℤ, pos, refl}
+use Rattle.std.proofs.Common.{Ok, Err, ◌≡◌, ℕ, ◌-◌, ◌*◌, List, [], ◌∷◌, set, replicate, ℤ, pos, refl}
 use Rattle.lists.specs.Numbers.{numbers}
 use Rattle.lists.specs.Tests.{every, same_numbers}
 use Rattle.lists.specs.Filters.{keep}
 use Rattle.matrix.specs.Shape.{row, in_range, is_weight, last_node}
 use Rattle.matrix.specs.Questions.{one_to, within_limits, all_in_range, rows_in_range, are_weights, ask_matrix}
 use Rattle.matrix.specs.declared.refusal.Refusal.TheVariants.{BeyondLimits, CodeRange, ListSize, NotThere, NotBranching, WeightForm}
-use Rattle.matrix.specs.declared.refusal.Asked.{Asked}
-use Rattle.matrix.specs.declared.refusal.Asked.TheVariants.{Passed, Refused}
+use Rattle.matrix.specs.Outcomes.{Asked}
 use Rattle.branching.specs.declared.branch.Branch.{Branch}
 use Rattle.branching.specs.Ancestors.{ancestor, descendants}
 use Rattle.branching.specs.Nodes.{has_ancestor, in_tree, nodes_in, other_nodes, taxa_placed}
@@ -80,12 +79,12 @@ weights_asked : fit_by (replicate 127 1) (codes 16128) 3 (three 122) 16128 16128
     ∷ node_by (weights 0) (codes 16128) 65 none 0 0
     ∷ node_by (weights 0) (wrong_row 3) 3 none 0 0
     ∷ []
-    ≡ Refused ListSize
-    ∷ Refused BeyondLimits
-    ∷ Refused WeightForm
-    ∷ Refused ListSize
-    ∷ Refused BeyondLimits
-    ∷ Refused WeightForm
+    ≡ Err ListSize
+    ∷ Err BeyondLimits
+    ∷ Err WeightForm
+    ∷ Err ListSize
+    ∷ Err BeyondLimits
+    ∷ Err WeightForm
     ∷ []
 unfolding fit node
 weights_asked = refl
@@ -96,7 +95,7 @@ lists-first : fit (codes 16128) 65 none 16127 16128 16128
     ∷ fit (codes 16128) 65 none 16128 16128 0
     ∷ fit (codes 16127) 65 none 16128 16128 16128
     ∷ []
-    ≡ Refused ListSize ∷ Refused ListSize ∷ Refused ListSize ∷ Refused ListSize ∷ []
+    ≡ Err ListSize ∷ Err ListSize ∷ Err ListSize ∷ Err ListSize ∷ []
 unfolding fit
 lists-first = refl
 
@@ -106,31 +105,31 @@ fit-in_order : fit (wrong_row 1) 65 none 16128 16128 16128
     ∷ fit (wrong_row 4) 3 none 16128 16128 16128
     ∷ fit (wrong_row 4) 3 (three 122) 16128 16128 16128
     ∷ []
-    ≡ Refused BeyondLimits ∷ Refused CodeRange ∷ Refused NotBranching ∷ Passed ∷ []
+    ≡ Err BeyondLimits ∷ Err CodeRange ∷ Err NotBranching ∷ Ok tt ∷ []
 unfolding fit
 fit-in_order = refl
 
 -- the call for one node asks 12, 4 and 10 before 13
 node_last : node (codes 16127) 65 none 0 0 ∷ node (codes 16128) 65 (three 121) 0 0 ∷ node (wrong_row 1) 65 none 0 0 ∷ node
     (wrong_row 3) 3 none 0 0 ∷ []
-    ≡ Refused ListSize ∷ Refused ListSize ∷ Refused BeyondLimits ∷ Refused CodeRange ∷ []
+    ≡ Err ListSize ∷ Err ListSize ∷ Err BeyondLimits ∷ Err CodeRange ∷ []
 unfolding node
 node_last = refl
 
 -- nodes are 1 to 2n-2, characters 1 to m; 13 comes before 14
 not_there : node (codes 16128) 3 none 0 1 ∷ node (codes 16128) 3 none 5 1 ∷ node (codes 16128) 3 none 4 0 ∷ node
     (codes 16128) 3 none 4 2 ∷ []
-    ≡ Refused NotThere ∷ Refused NotThere ∷ Refused NotThere ∷ Refused NotThere ∷ []
+    ≡ Err NotThere ∷ Err NotThere ∷ Err NotThere ∷ Err NotThere ∷ []
 unfolding node
 not_there = refl
 
 -- of one taxon node 1 alone is there, and there is no branch
-one_node : node (codes 16128) 1 none 1 1 ∷ node (codes 16128) 1 none 2 1 ∷ [] ≡ Passed ∷ Refused NotThere ∷ []
+one_node : node (codes 16128) 1 none 1 1 ∷ node (codes 16128) 1 none 2 1 ∷ [] ≡ Ok tt ∷ Err NotThere ∷ []
 unfolding node
 one_node = refl
 
 -- last 14; a taxon and an HTU pass, with a code out of range in the row of the HTU
 node_passes : node (codes 16128) 3 none 4 1 ∷ node (wrong_row 4) 3 (three 122) 1 1 ∷ node (wrong_row 4) 3 (three 122) 4 1 ∷ []
-    ≡ Refused NotBranching ∷ Passed ∷ Passed ∷ []
+    ≡ Err NotBranching ∷ Ok tt ∷ Ok tt ∷ []
 unfolding node
 node_passes = refl

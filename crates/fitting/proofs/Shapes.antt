@@ -13,8 +13,8 @@ use Rattle.difference.specs.Rows.{most_difference, weighing}
 use Rattle.branching.specs.Nodes.{other_nodes}
 use Rattle.branching.specs.Within.{branching_within}
 use Rattle.fitting.specs.Fit.{fitted_length, fitted_total}
-use Rattle.fitting.specs.Calls.{lists_full, FitOf, TreeFitted}
-use Rattle.fitting.specs.Lists.{branch_at, Written, SumOf, FitFrom, fit_shapes}
+use Rattle.fitting.specs.Calls.{branch_at, lists_full, FitOf, TreeFitted}
+use Rattle.fitting.specs.Lists.{Written, SumOf, fit_shapes}
 use Rattle.fitting.specs.declared.whole.BranchFit.{BranchFit}
 use Rattle.fitting.specs.declared.whole.Fit.{Fit}
 use Rattle.fitting.proofs.Matrix.EachFitted.{lengths-total}
@@ -85,9 +85,9 @@ not-fitted matrix low high chosen weights n m tree fit e = record {
 
 -- the fit of a tree from what is written and from its branches
 pub tree-fitted : (matrix : List ℤ) (weights : List ℕ) (n m : ℕ) (tree : List ℕ) (low low' high high' chosen chosen' : List ℤ) (branches : List BranchFit)
-    (total : ℕ) (fit : Fit) → Written matrix weights n m m tree low low' high high' chosen chosen' branches → SumOf n branches total
-    → FitFrom n branches total fit → TreeFitted matrix weights n m tree low low' high high' chosen chosen' fit
-tree-fitted matrix weights n m tree low low' high high' chosen chosen' branches total fit written sum from = record {
+    (total : ℕ) → Written matrix weights n m m tree low low' high high' chosen chosen' branches → SumOf n branches total
+    → TreeFitted matrix weights n m tree low low' high high' chosen chosen' (record { branches = branches; total = total })
+tree-fitted matrix weights n m tree low low' high high' chosen chosen' branches total written sum = record {
   fitted = λ whole lent weighed l h c.
       (fits whole lent weighed, written.is_low whole lent, written.is_high whole lent, written.is_chosen whole lent);
 }
@@ -116,11 +116,11 @@ tree-fitted matrix weights n m tree low low' high high' chosen chosen' branches 
         omega (arith, most, length-numbers 2 (2 * n - 3))
 
     fits : branching_within n tree ≡ true → LentMatrix matrix n m → LentWeights weights m
-        → FitOf (weighing weights).step tree (rows_of matrix m n) n m fit
+        → FitOf (weighing weights).step tree (rows_of matrix m n) n m (record { branches = branches; total = total })
     fits whole lent weighed = record {
-      lengths = λ v l h. from.lengths v l h ∙ each whole lent weighed v l h;
-      no_length = from.no_length;
-      marks = λ v l h. from.marks v l h ∙ ap (λ (b : BranchFit). b.mark) (written.are whole lent weighed v l h);
-      no_mark = from.no_mark;
-      total = from.total ∙ sum.is (small whole lent weighed) ∙ sums whole lent weighed;
+      lengths = λ v l h. each whole lent weighed v l h;
+      no_length = λ v out. ap (λ (b : BranchFit). b.length) (written.no_others v out);
+      marks = λ v l h. ap (λ (b : BranchFit). b.mark) (written.are whole lent weighed v l h);
+      no_mark = λ v out. ap (λ (b : BranchFit). b.mark) (written.no_others v out);
+      total = sum.is (small whole lent weighed) ∙ sums whole lent weighed;
     }

@@ -1,12 +1,11 @@
 -- What the calls on a lent branching answer, and what the functions on a tree promise that other crates call.
-use Rattle.std.specs.Prelude.{◌≡◌, ℕ, ◌+◌, ◌-◌, ◌*◌, ◌≤◌, Bool, true, false, ◌&&◌, List, map, length, replicate, ℤ, ◌==◌, slice_index, slice_index_or}
+use Rattle.std.specs.Prelude.{◌≡◌, ℕ, ◌+◌, ◌-◌, ◌*◌, ◌≤◌, Bool, true, false, ◌&&◌, List, map, length, ℤ, ◌==◌, slice_index_or}
 use Rattle.lists.specs.Numbers.{numbers}
 use Rattle.matrix.specs.Shape.{matrix_size, last_node}
 use Rattle.matrix.specs.NodeRows.{rows_of, with_rows}
 use Rattle.matrix.specs.Questions.{LentMatrix, LentWeights}
-use Rattle.matrix.specs.Outcomes.{Outcome, answered, ask}
+use Rattle.matrix.specs.Outcomes.{Asked, Outcome, answered, ask}
 use Rattle.matrix.specs.declared.refusal.Refusal.TheVariants.{ListSize}
-use Rattle.matrix.specs.declared.refusal.Asked.{Asked}
 use Rattle.difference.specs.Rows.{weighing}
 use Rattle.branching.specs.declared.branch.Branch.{Branch}
 use Rattle.branching.specs.Within.{branching_within}
@@ -14,6 +13,7 @@ use Rattle.branching.specs.Branches.{ancestors_of}
 use Rattle.branching.specs.Asking.{ask_branching}
 use Rattle.fitting.specs.Fit.{states_in, fitted_length, fitted_total, marked}
 use Rattle.fitting.specs.declared.characters.States.{States}
+use Rattle.fitting.specs.declared.whole.BranchFit.{BranchFit}
 use Rattle.fitting.specs.declared.whole.Fit.{Fit}
 use Rattle.fitting.specs.declared.whole.Which.{Which}
 use Rattle.fitting.specs.declared.whole.Which.TheVariants.{Low, High, Chosen}
@@ -34,16 +34,20 @@ unfoldable pub states_written : Which → List ℕ → List (List ℤ) → ℕ �
 states_written which tree rows n m old =
     with_rows old (n + 1) (map (λ v. map (λ j. state_in which (states_in tree rows n v j)) (numbers 1 m)) (numbers (n + 1) (n - 2)))
 
--- no fit
-abbrev pub no_fit : Fit
-no_fit = record { lengths = replicate 127 0; marks = replicate 127 false; total = 0 }
+-- a branch of no length and without a mark
+abbrev pub no_branch : BranchFit
+no_branch = record { length = 0; mark = false }
+
+-- what is kept of the branch of node v
+abbrev pub branch_at : List BranchFit → ℕ → BranchFit
+branch_at branches v = slice_index_or branches v no_branch
 
 -- a fit handed back: by node number the fitted lengths and the marks of the branches, and 0 and no mark elsewhere; the fitted total
 pub record FitOf (step : ℕ → ℤ → ℤ → ℕ) (tree : List ℕ) (rows : List (List ℤ)) (n m : ℕ) (fit : Fit) : Type 0 where
-  pub lengths : (v : ℕ) → 2 ≤ v → v ≤ 2 * n - 2 → slice_index fit.lengths v ≡ fitted_length step tree rows n m v
-  pub no_length : (v : ℕ) → (2 ≤ v → v ≤ 2 * n - 2 → ⊥) → slice_index fit.lengths v ≡ 0
-  pub marks : (v : ℕ) → 2 ≤ v → v ≤ 2 * n - 2 → slice_index_or fit.marks v false ≡ marked step tree rows n m v
-  pub no_mark : (v : ℕ) → (2 ≤ v → v ≤ 2 * n - 2 → ⊥) → slice_index_or fit.marks v false ≡ false
+  pub lengths : (v : ℕ) → 2 ≤ v → v ≤ 2 * n - 2 → (branch_at fit.branches v).length ≡ fitted_length step tree rows n m v
+  pub no_length : (v : ℕ) → (2 ≤ v → v ≤ 2 * n - 2 → ⊥) → (branch_at fit.branches v).length ≡ 0
+  pub marks : (v : ℕ) → 2 ≤ v → v ≤ 2 * n - 2 → (branch_at fit.branches v).mark ≡ marked step tree rows n m v
+  pub no_mark : (v : ℕ) → (2 ≤ v → v ≤ 2 * n - 2 → ⊥) → (branch_at fit.branches v).mark ≡ false
   pub total : fit.total ≡ fitted_total step tree rows n m
 
 -- a tree that is a branching, with a lent matrix, fitted into three lists of the matrix's shape

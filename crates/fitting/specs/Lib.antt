@@ -4,6 +4,7 @@ pub mod Clades
 pub mod Character
 pub mod Assignments
 pub mod Fit
+pub mod Trees
 pub mod Plans
 pub mod Steps
 pub mod Calls

@@ -1,6 +1,6 @@
 -- For the proofs of the private functions alone; no public contract cites this file.
 -- The lent lists and the branches while a matrix is fitted character after character.
-use Rattle.std.specs.Prelude.{◌≡◌, ℕ, ◌+◌, ◌-◌, ◌*◌, ◌^◌, ◌<◌, ◌≤◌, Bool, true, false, ◌&&◌, ◌||◌, List, [], ◌∷◌, map, ℤ, ◌==◌, nat_lt, slice_index, slice_index_or}
+use Rattle.std.specs.Prelude.{◌≡◌, ℕ, ◌+◌, ◌-◌, ◌*◌, ◌^◌, ◌<◌, ◌≤◌, Bool, true, ◌&&◌, ◌||◌, List, [], ◌∷◌, map, ℤ, ◌==◌, nat_lt}
 use Rattle.lists.specs.Numbers.{numbers}
 use Rattle.lists.specs.Over.{stripes}
 use Rattle.lists.specs.Sums.{sum_over}
@@ -12,24 +12,15 @@ use Rattle.branching.specs.Ancestors.{ancestor}
 use Rattle.branching.specs.Nodes.{other_nodes}
 use Rattle.branching.specs.Within.{branching_within}
 use Rattle.fitting.specs.Fit.{fitted_length, marked}
-use Rattle.fitting.specs.Steps.{PlusOf, states_at}
-use Rattle.fitting.specs.Calls.{states_written, lists_full}
+use Rattle.fitting.specs.Steps.{states_at}
+use Rattle.fitting.specs.Calls.{no_branch, branch_at, states_written, lists_full}
 use Rattle.fitting.specs.declared.characters.States.{States}
 use Rattle.fitting.specs.declared.whole.BranchFit.{BranchFit}
-use Rattle.fitting.specs.declared.whole.Fit.{Fit}
 use Rattle.fitting.specs.declared.whole.Which.TheVariants.{Low, High, Chosen}
 
 -- a list of the matrix's shape with a number for each HTU of n taxa written into column j of its row
 unfoldable pub with_column : ℕ → ℕ → (ℕ → ℤ) → List ℤ → List ℤ
 with_column n j f old = stripes columns (row_start (n + 1) + (j - 1)) (map (λ v. f v ∷ []) (numbers (n + 1) (n - 2))) old
-
--- a branch of no length and without a mark
-abbrev pub no_branch : BranchFit
-no_branch = record { length = 0; mark = false }
-
--- what is kept of the branch of node v
-abbrev pub branch_at : List BranchFit → ℕ → BranchFit
-branch_at branches v = slice_index_or branches v no_branch
 
 -- the branch of node v in the fit of k characters
 abbrev pub fitted_branch : List ℕ → List ℕ → List (List ℤ) → ℕ → ℕ → ℕ → BranchFit
@@ -42,7 +33,7 @@ marks_in own above = nat_lt 0 (apart own.chosen above.chosen)
 
 -- r is a branch with one character more, of this weight
 pub record Longer (weight : ℕ) (own above : States) (branch r : BranchFit) : Type 0 where
-  pub length : PlusOf branch.length (part weight own.chosen above.chosen) r.length
+  pub length : branch.length + part weight own.chosen above.chosen < 2 ^ 64 → r.length ≡ branch.length + part weight own.chosen above.chosen
   pub mark : r.mark ≡ (branch.mark || marks_in own above)
 
 -- the branches with one character more, of this weight
@@ -56,15 +47,8 @@ pub record SumOf (n : ℕ) (branches : List BranchFit) (r : ℕ) : Type 0 where
   pub is : sum_over (λ v. (branch_at branches v).length) (other_nodes n) < 2 ^ 64
       → r ≡ sum_over (λ v. (branch_at branches v).length) (other_nodes n)
 
--- a fit has the lengths and the marks of these branches, by node number, and this total; elsewhere stand 0 and no mark
-pub record FitFrom (n : ℕ) (branches : List BranchFit) (sum : ℕ) (fit : Fit) : Type 0 where
-  pub lengths : (v : ℕ) → 2 ≤ v → v ≤ 2 * n - 2 → slice_index fit.lengths v ≡ (branch_at branches v).length
-  pub no_length : (v : ℕ) → (2 ≤ v → v ≤ 2 * n - 2 → ⊥) → slice_index fit.lengths v ≡ 0
-  pub marks : (v : ℕ) → 2 ≤ v → v ≤ 2 * n - 2 → slice_index_or fit.marks v false ≡ (branch_at branches v).mark
-  pub no_mark : (v : ℕ) → (2 ≤ v → v ≤ 2 * n - 2 → ⊥) → slice_index_or fit.marks v false ≡ false
-  pub total : fit.total ≡ sum
-
--- the first k of m characters fitted: the states of the HTUs in them are written, and the branches are those of the fit of them
+-- the first k of m characters fitted: the states of the HTUs in them are written, and the branches are those of the fit of them; elsewhere
+-- stands no branch
 pub record Written (matrix : List ℤ) (weights : List ℕ) (n m k : ℕ) (tree : List ℕ)
     (low low' high high' chosen chosen' : List ℤ) (branches : List BranchFit) : Type 0 where
   pub is_low : branching_within n tree ≡ true → LentMatrix matrix n m → low' ≡ states_written Low tree (rows_of matrix m n) n k low
@@ -72,6 +56,7 @@ pub record Written (matrix : List ℤ) (weights : List ℕ) (n m k : ℕ) (tree 
   pub is_chosen : branching_within n tree ≡ true → LentMatrix matrix n m → chosen' ≡ states_written Chosen tree (rows_of matrix m n) n k chosen
   pub are : branching_within n tree ≡ true → LentMatrix matrix n m → LentWeights weights m → (v : ℕ) → 2 ≤ v → v ≤ 2 * n - 2
       → branch_at branches v ≡ fitted_branch weights tree (rows_of matrix m n) n k v
+  pub no_others : (v : ℕ) → (2 ≤ v → v ≤ 2 * n - 2 → ⊥) → branch_at branches v ≡ no_branch
 
 -- the lengths of a matrix and of three lists are that of the matrix's shape, and n and m are within their limits
 unfoldable pub fit_shapes : ℕ → ℕ → ℕ → ℕ → ℕ → ℕ → Bool

@@ -1,17 +1,17 @@
 -- For the proofs of the private functions alone; no public contract cites this file.
 -- The plan of a tree of n taxa: its walk, and the descendants of each node.
-use Rattle.std.specs.Prelude.{◌≡◌, ℕ, cond, List, ◌==◌}
+use Rattle.std.specs.Prelude.{ℕ, ◌≤◌, cond, ◌==◌}
 use Rattle.branching.specs.Ancestors.{ancestors}
 use Rattle.branching.specs.Walks.{Walking, Belows}
 use Rattle.branching.specs.declared.walk.Below.{Below}
-use Rattle.fitting.specs.declared.planning.Plan.{Plan}
+use Rattle.fitting.specs.declared.planning.Plan.TheInside.{Inside}
 
 -- of two descendants, the other one than v
 unfoldable pub sister_in : Below → ℕ → ℕ
 sister_in below v = cond (below.first == v) below.second below.first
 
--- the plan of a tree of n taxa
-pub record Planned (n : ℕ) (tree : List ℕ) (plan : Plan) : Type 0 where
-  pub is : ancestors plan.tree ≡ tree
-  pub walking : Walking n tree plan.walk
-  pub below : Belows n tree plan.below
+-- a plan has the walk over its tree of at most 64 taxa, and the descendants of each node
+pub record Planned (plan : Inside) : Type 0 where
+  pub few : plan.n ≤ 64
+  pub walking : Walking plan.n (ancestors plan.tree) plan.walk
+  pub below : Belows plan.n (ancestors plan.tree) plan.below

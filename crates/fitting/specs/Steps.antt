@@ -1,10 +1,12 @@
 -- For the proofs of the private functions alone; no public contract cites this file.
 -- The passes over a branching in one character, node by node: what each function of a pass promises.
 -- `code` gives the taxa's codes; of a matrix it is `character rows j`.
-use Rattle.std.specs.Prelude.{◌≡◌, ℕ, ◌+◌, ◌-◌, ◌*◌, ◌^◌, ◌<◌, ◌≤◌, Bool, true, false, cond, List, [], ◌∷◌, ◌++◌, ℤ, pos, slice_index_or}
+use Rattle.std.specs.Prelude.{◌≡◌, ℕ, ◌+◌, ◌-◌, ◌*◌, ◌^◌, ◌<◌, ◌≤◌, true, cond, nat_le, Option, Some, None, List, [], ◌∷◌, ◌++◌, ℤ, pos, slice_index_or}
 use mathlib.Core.List.{flat_map}
 use Rattle.lists.specs.Sums.{sum_over}
-use Rattle.matrix.specs.Shape.{row_start, in_range, last_node}
+use Rattle.matrix.specs.Shape.{row_start, in_range, last_node, weight_of}
+use Rattle.matrix.specs.NodeRows.{rows_of}
+use Rattle.matrix.specs.Questions.{LentMatrix, LentWeights}
 use Rattle.difference.specs.Rows.{lower, higher, apart}
 use Rattle.branching.specs.Ancestors.{ancestor}
 use Rattle.branching.specs.Nodes.{other_nodes}
@@ -14,6 +16,7 @@ use Rattle.fitting.specs.Clades.{Clade, tip, fork, clade_at, clades_below}
 use Rattle.fitting.specs.Character.{ByNode, value_at, up}
 use Rattle.fitting.specs.Assignments.{character}
 use Rattle.fitting.specs.Fit.{chosen_state, states_in}
+use Rattle.fitting.specs.Handing.{state_at}
 use Rattle.fitting.specs.declared.spans.Span.{Span}
 use Rattle.fitting.specs.declared.characters.Part.{Part}
 use Rattle.fitting.specs.declared.characters.Seen.{Seen}
@@ -28,10 +31,6 @@ carried state (s ∷ rest) = lower state s ∷ carried (higher state s) rest
 pub record GapOf (a b : Span) (r : ℕ) : Type 0 where
   pub is : r ≡ gap a b
   pub most : r ≤ 2 ^ 32
-
--- r is the sum of two lengths, if it fits 64 bits
-pub record PlusOf (a b r : ℕ) : Type 0 where
-  pub is : a + b < 2 ^ 64 → r ≡ a + b
 
 -- r is a length that counts as often as a weight says, if the length is at most 2 ^ 32
 pub record WeighedOf (weight length r : ℕ) : Type 0 where
@@ -75,9 +74,13 @@ unfoldable pub character_length : List ℕ → List (List ℤ) → ℕ → ℕ �
 character_length tree rows n j =
     sum_over (λ v. apart (chosen_state tree rows n v j) (chosen_state tree rows n (ancestor tree v) j)) (other_nodes n)
 
+-- the code of node v in character j if it is one of n taxa; of an HTU, 0
+abbrev pub taxon_code : List ℤ → ℕ → ℕ → ℕ → ℤ
+taxon_code matrix n v j = cond (nat_le v n) (state_at matrix v j) (pos 0)
+
 -- a list of codes has those of the n taxa in a column of a matrix, by taxon number
 pub record Column (matrix : List ℤ) (n j : ℕ) (codes : List ℤ) : Type 0 where
-  pub are : (v : ℕ) → 1 ≤ v → v ≤ n → slice_index_or codes v (pos 0) ≡ slice_index_or matrix (row_start v + (j - 1)) (pos 0)
+  pub are : (v : ℕ) → v ≤ 126 → v ≤ n → slice_index_or codes v (pos 0) ≡ slice_index_or matrix (row_start v + (j - 1)) (pos 0)
 
 -- a list of codes has those of the n taxa in character j, by taxon number, each from -999 to 999
 pub record Codes (rows : List (List ℤ)) (n j : ℕ) (codes : List ℤ) : Type 0 where
@@ -89,11 +92,11 @@ pub record Codes (rows : List (List ℤ)) (n j : ℕ) (codes : List ℤ) : Type 
 abbrev pub tip_part : ℤ → Part
 tip_part code = record { set = only code; cost = 0 }
 
--- what is found of a node from the tips up, from its code or its descendants
-pub record PartOf (taxon : Bool) (code : ℤ) (a b r : Part) : Type 0 where
-  pub tip : taxon ≡ true → r ≡ tip_part code
-  pub set : taxon ≡ false → r.set ≡ join a.set b.set
-  pub cost : taxon ≡ false → gap a.set b.set + (a.cost + b.cost) < 2 ^ 64 → r.cost ≡ gap a.set b.set + (a.cost + b.cost)
+-- what is found of a node from the tips up, from its code or, where it has none, from its descendants
+pub record PartOf (code : Option ℤ) (a b r : Part) : Type 0 where
+  pub tip : (own : ℤ) → code ≡ Some own → r ≡ tip_part own
+  pub set : code ≡ None → r.set ≡ join a.set b.set
+  pub cost : code ≡ None → gap a.set b.set + (a.cost + b.cost) < 2 ^ 64 → r.cost ≡ gap a.set b.set + (a.cost + b.cost)
 
 -- what is kept of node v from the tips up
 abbrev pub part_at : List Part → ℕ → Part
@@ -111,13 +114,20 @@ pub record PartsUp (n : ℕ) (tree : List ℕ) (codes : List ℤ) (parts : List 
 pub record LeastCost (n : ℕ) (tree : List ℕ) (codes : List ℤ) (r : ℕ) : Type 0 where
   pub is : (rows : List (List ℤ)) (j : ℕ) → Codes rows n j codes → branching_within n tree ≡ true → r ≡ character_length tree rows n j
 
--- the chosen state of a node, from its code or from its set and the state chosen above
-abbrev pub state_of : Bool → ℤ → Span → ℤ → ℤ
-state_of taxon code set above = cond taxon code (nearest_member above set)
+-- r is the cost of character j: its length under the chosen states, as often as its weight says
+pub record CostOf (matrix : List ℤ) (weights : List ℕ) (n m : ℕ) (tree : List ℕ) (j r : ℕ) : Type 0 where
+  pub is : branching_within n tree ≡ true → LentMatrix matrix n m → LentWeights weights m
+      → r ≡ weight_of weights j * character_length tree (rows_of matrix m n) n j
 
--- the outside of a node, from row 1's code or from its sister's set and the outside of its ancestor
-abbrev pub outside_from : Bool → ℤ → Span → Span → Span
-outside_from hangs row1 beside outside = cond hangs (only row1) (join beside outside)
+-- the chosen state of a node, from its code or, where it has none, from its set and the state chosen above
+abbrev pub state_of : Option ℤ → Span → ℤ → ℤ
+state_of (Some code) set above = code
+state_of None set above = nearest_member above set
+
+-- the outside of a node, from row 1's code if it hangs from row 1, or from its sister's set and the outside of its ancestor
+abbrev pub outside_from : Option ℤ → Span → Span → Span
+outside_from (Some row1) beside outside = only row1
+outside_from None beside outside = join beside outside
 
 -- what is kept of node v from row 1 down
 abbrev pub seen_at : List Seen → ℕ → Seen
@@ -137,12 +147,10 @@ pub record SeenDown (n : ℕ) (tree : List ℕ) (codes : List ℤ) (parts : List
 abbrev pub states_with : Span → ℤ → States
 states_with range state = record { low = range.low; high = range.high; chosen = state }
 
--- the states of a node, from its code or from what is kept of its descendants and of itself
-abbrev pub states_from : Bool → ℤ → Part → Part → Seen → States
-states_from taxon code a b seen =
-    cond taxon
-    (record { low = code; high = code; chosen = code })
-    (states_with (middle a.set b.set seen.outside) seen.state)
+-- the states of a node, from its code or, where it has none, from what is kept of its descendants and of itself
+abbrev pub states_from : Option ℤ → Part → Part → Seen → States
+states_from (Some code) a b seen = record { low = code; high = code; chosen = code }
+states_from None a b seen = states_with (middle a.set b.set seen.outside) seen.state
 
 -- the states of node v
 abbrev pub states_at : List States → ℕ → States

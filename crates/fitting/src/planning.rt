@@ -1,46 +1,61 @@
 // How the passes go over a branching: its walk, and the descendants of each node, found once for all characters.
-ghost use Rattle.std.specs.Prelude.{◌≡◌, ◌-◌, ◌*◌, ◌≤◌, max};
+ghost use Rattle.std.specs.Prelude.{◌≡◌, ◌≤◌};
 ghost use Rattle.branching.specs.Ancestors.{ancestors};
-ghost use Rattle.fitting.specs.Plans.{sister_in, Planned};
+ghost use Rattle.fitting.specs.Plans.{sister_in};
 
-use branching::tree::Tree;
-use branching::walk::{Below, Walk, descent_over};
+use branching::descent::descent_over;
+use branching::tree::{PLACES, Tree};
+use branching::walk::{Below, Descent, Walk};
+use std::marker::Model;
 
-// A tree, its walk, and the descendants of each node by node number.
-#[derive(Clone, Copy)]
+// A tree of n taxa, its walk, and the descendants of each node by node number. Contracts see the number of taxa and the tree.
+#[derive(Drop)]
 pub struct Plan {
-    pub tree: Tree,
-    pub walk: Walk,
-    pub below: [Below; 127],
+    pub(crate) n: usize,
+    pub(crate) tree: Tree,
+    pub(crate) walk: Walk,
+    pub(crate) below: [Below; PLACES],
 }
 
-// The number behind the last of nodes 2 to 2n-2.
-pub(crate) fn nodes_end(n: usize) -> usize
-    requires { n ≤ 64 }
-    ensures { result ≡ max 2 (2 * n - 1) }
-{
-    if n < 2 {
-        return 2;
+impl Model for Plan {
+    ghost use Rattle.fitting.specs.Trees.{TaxaTree};
+
+    ghost Value = { TaxaTree };
+
+    ghost use Rattle.branching.specs.Ancestors.{ancestors};
+    ghost use Rattle.fitting.specs.Plans.{Planned};
+
+    ghost view = { λ p. record { taxa = p.n; tree = ancestors p.tree } };
+
+    ghost invariant = { Planned };
+}
+
+impl Plan {
+    // The plan of a tree of n taxa.
+    // Kept: no plainer, a plan holds the fact from here on; the two others that ask it go over branches or states and have no plan.
+    pub(crate) fn of(tree: &Tree, n: usize) -> Plan
+        requires { n ≤ 64 }
+        ensures { result ≡ record { taxa = n; tree = ancestors tree.now } }
+    {
+        let Descent { walk, below } = descent_over(tree, n);
+        let tree = *tree;
+        Plan {
+            n,
+            tree,
+            walk,
+            below,
+        }
     }
-    2 * n - 1
 }
 
 // Of the descendants of a node, the other one than v.
+#[tactic(auto, unfolding(crate::specs::Plans::sister_in))]
 pub(crate) fn sister(below: Below, v: usize) -> usize
     ensures { result ≡ sister_in below v }
 {
     if below.first == v {
-        return below.second;
+        below.second
+    } else {
+        below.first
     }
-    below.first
-}
-
-// The plan of a tree of n taxa.
-pub(crate) fn plan_of(tree: Tree, n: usize) -> Plan
-    ensures { Planned n (ancestors tree) result }
-{
-    let descent = descent_over(tree, n);
-    let walk = descent.walk;
-    let below = descent.below;
-    Plan { tree, walk, below }
 }

@@ -1,4 +1,5 @@
 -- The pass down: along the walk, so that what is kept of a node's ancestor is right before the node comes.
+use Rattle.std.specs.Bool.{then_some}
 use Rattle.std.proofs.Common.{◌≡◌, ℕ, ◌+◌, ◌-◌, ◌*◌, ◌<◌, ◌≤◌, true, eqb, leb, ◌≢◌, List, length, get_or, set, ℤ, pos, sym, ap, ◌∙◌, subst, ap₂, arith, get_or-set_other, get_or-set_same, eq-eqb, ne_eqb, le-leb}
 use mathlib.Core.Logic.{by_cases}
 use native.Mathlib.Decide.{ℕ_discrete}
@@ -91,7 +92,7 @@ module _ (n : ℕ) (tree : List ℕ) (rows : List (List ℤ)) (j : ℕ) (codes :
           rw here at (inv at.0 at.1 (omega (arith, at.1)))
 
       -- the chosen state
-      state_right : state_of (leb v n) (get_or codes v (pos 0)) (part_at parts v).set (seen_at seen u).state ≡ chosen_state tree rows n v j
+      state_right : state_of (then_some (leb v n) (get_or codes v (pos 0))) (part_at parts v).set (seen_at seen u).state ≡ chosen_state tree rows n v j
       state_right =
           either v n
           (λ l. rw (le-leb v n l) (codes_are.are v (omega (arith, second)) l
@@ -105,7 +106,7 @@ module _ (n : ℕ) (tree : List ℕ) (rows : List (List ℤ)) (j : ℕ) (codes :
 
       -- the outside of an HTU
       outside_right : n < v → Hangs n tree v
-          → outside_from (eqb u 1) (get_or codes 1 (pos 0)) (part_at parts (sister_in (below_at below u) v)).set (seen_at seen u).outside
+          → outside_from (then_some (eqb u 1) (get_or codes 1 (pos 0))) (part_at parts (sister_in (below_at below u) v)).set (seen_at seen u).outside
           ≡ outside_of tree n code v
       outside_right l (from_row1 e) =
           let two = htu_two n tree grown v l last in
@@ -131,8 +132,8 @@ module _ (n : ℕ) (tree : List ℕ) (rows : List (List ℤ)) (j : ℕ) (codes :
 
       -- one place further down the walk
       pub down_next : (s : ℤ) (o : Span) → v ≤ 126
-          → s ≡ state_of (leb v n) (get_or codes v (pos 0)) (part_at parts v).set (seen_at seen u).state
-          → o ≡ outside_from (eqb u 1) (get_or codes 1 (pos 0)) (part_at parts (sister_in (below_at below u) v)).set (seen_at seen u).outside
+          → s ≡ state_of (then_some (leb v n) (get_or codes v (pos 0))) (part_at parts v).set (seen_at seen u).state
+          → o ≡ outside_from (then_some (eqb u 1) (get_or codes 1 (pos 0))) (part_at parts (sister_in (below_at below u) v)).set (seen_at seen u).outside
           → DownTo tree rows n j nodes (set seen v (record { state = s; outside = o })) (i + 1)
       down_next s o most state outside k l h =
           let room : v < length seen = omega arith in

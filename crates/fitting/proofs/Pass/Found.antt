@@ -1,4 +1,5 @@
 -- What both passes have found of a node gives its states.
+use Rattle.std.specs.Bool.{then_some}
 use Rattle.std.proofs.Common.{◌≡◌, ℕ, ◌-◌, ◌*◌, ◌<◌, ◌≤◌, true, leb, List, get_or, ℤ, pos, sym, refl, ap, ◌∙◌, ap₂, arith, le-leb}
 use borrow.Author.Tests.{lt-leb}
 use Rattle.matrix.specs.Shape.{last_node}
@@ -69,7 +70,7 @@ module _ (n : ℕ) (tree : List ℕ) (rows : List (List ℤ)) (j : ℕ) (codes :
       states_with_lem tree rows n v j (middle a.set b.set seen.outside) seen.state is (sym seen_is.state)
 
   -- the states of every node
-  pub states_found : states_from (leb v n) (get_or codes v (pos 0)) (part_at parts (below_at below v).first) (part_at parts
+  pub states_found : states_from (then_some (leb v n) (get_or codes v (pos 0))) (part_at parts (below_at below v).first) (part_at parts
       (below_at below v).second) seen
       ≡ states_in tree rows n v j
   unfolding last_node

@@ -1,5 +1,5 @@
 -- A branching of two taxa or more and its plan: which descendants are kept of a node, and where they stand in the walk.
-use Rattle.std.proofs.Common.{◌≡◌, ℕ, ◌-◌, ◌*◌, ◌<◌, ◌≤◌, max, Bool, true, false, cond, eqb, leb, ◌≢◌, List, [], ◌∷◌, ℤ, sym, refl, ap, ◌∙◌, subst, arith, eq-eqb, eqb-true, leb-true}
+use Rattle.std.proofs.Common.{◌≡◌, ℕ, ◌-◌, ◌*◌, ◌^◌, ◌<◌, ◌≤◌, min, max, Bool, true, false, cond, eqb, leb, ◌≢◌, List, [], ◌∷◌, ℤ, sym, refl, ap, ◌∙◌, arith, eq-eqb, eqb-true, leb-true}
 use mathlib.Core.Logic.{by_cases}
 use mathlib.Core.List.{flat_map, Memᴰ}
 use mathlib.Core.Bool.{and-eq-true_iff}
@@ -7,7 +7,7 @@ use native.Mathlib.Decide.{dec_le}
 use Rattle.lists.specs.Numbers.{numbers}
 use Rattle.lists.specs.Filters.{keep}
 use Rattle.matrix.specs.Shape.{last_node}
-use Rattle.branching.specs.Ancestors.{ancestors, ancestor, descendants}
+use Rattle.branching.specs.Ancestors.{ancestor, descendants}
 use Rattle.branching.specs.Nodes.{other_nodes}
 use Rattle.branching.specs.Growing.{branching}
 use Rattle.branching.specs.Facts.{Grown}
@@ -18,14 +18,13 @@ use Rattle.branching.proofs.Descendants.{mem-descendants}
 use Rattle.branching.proofs.Test.{branching_iff}
 use Rattle.branching.proofs.Whole.{branching-grown}
 use Rattle.branching.proofs.Walks.{walk_later}
-use Rattle.fitting.specs.Plans.{Planned, sister_in}
+use Rattle.fitting.specs.Plans.{sister_in}
 use Rattle.fitting.specs.Sets.{only}
 use Rattle.fitting.specs.Clades.{clades_below}
 use Rattle.fitting.specs.Character.{value_at}
 use Rattle.fitting.specs.Assignments.{character}
 use Rattle.fitting.specs.Fit.{chosen_state, range}
 use Rattle.branching.specs.declared.walk.Below.{Below}
-use Rattle.fitting.specs.declared.planning.Plan.{Plan}
 use Rattle.fitting.proofs.Clades.Sides.{Side, left, right, on, other}
 use Rattle.fitting.proofs.Clades.Built.{Htu, htu_descends}
 use Rattle.fitting.proofs.Clades.Hanging.{clade_of}
@@ -50,10 +49,15 @@ pub last_several : (n : ℕ) → 2 ≤ n → last_node n ≡ 2 * n - 2
 unfolding last_node
 last_several n two = omega arith
 
--- the last node is the one before the end of the nodes
-pub last_end : (n end : ℕ) → end ≡ max 2 (2 * n - 1) → end - 1 ≡ last_node n
+-- the last node of at most 64 taxa, as it is told
+pub last_told : (n last : ℕ) → n ≤ 64 → last ≡ min (last_node n) (2 ^ 64 - 1) → last ≡ last_node n
 unfolding last_node
-last_end n end e = omega arith
+last_told n last few e = omega arith
+
+-- and by its number
+pub last_number : (n last : ℕ) → n ≤ 64 → last ≡ min (last_node n) (2 ^ 64 - 1) → last ≡ max 1 (2 * n - 2)
+unfolding last_node
+last_number n last few e = omega arith
 
 -- of the descendants of a node, the first two are kept
 pub two_kept : (n : ℕ) (tree : List ℕ) (below : List Below) → Belows n tree below → (u a b : ℕ) → Htu n tree u a b → u ≤ 126
@@ -130,7 +134,3 @@ root-within n tree grown =
     let m : Memᴰ root (descendants tree (other_nodes n) 1) = rw (clade_of n tree grown).of_row1 (mathlib.Core.List.Memᴰ.head refl) in
     let w = numbers-within 2 (2 * n - 3) root ((mem-descendants tree (other_nodes n) 1 root).0 m).0 in
     (w.0, omega (arith, w.1, grown.at_least_two))
-
--- a plan is that of its own tree
-pub planned_own : {n : ℕ} {tree : List ℕ} {plan : Plan} → Planned n tree plan → Planned n (ancestors plan.tree) plan
-planned_own {n} {tree} {plan} p = subst (λ (t : List ℕ). Planned n t plan) (sym p.is) p

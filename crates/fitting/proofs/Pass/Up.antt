@@ -1,4 +1,5 @@
 -- The pass up: against the walk, so that what is kept of both descendants of an HTU is right before the HTU comes.
+use Rattle.std.specs.Bool.{then_some}
 use Rattle.std.proofs.Common.{◌≡◌, ℕ, ◌+◌, ◌-◌, ◌*◌, ◌<◌, ◌≤◌, true, leb, ◌≢◌, List, length, get_or, set, ℤ, pos, sym, refl, ap, ◌∙◌, ap₂, arith, get_or-set_other, get_or-set_same, le-leb}
 use mathlib.Core.Logic.{by_cases}
 use native.Mathlib.Decide.{ℕ_discrete}
@@ -55,9 +56,9 @@ module _ (n : ℕ) (tree : List ℕ) (rows : List (List ℤ)) (j : ℕ) (codes :
     last = omega (arith, walk.within i high, last_several n several)
 
     -- a taxon
-    taxon_right : (r a b : Part) → PartOf (leb v n) (get_or codes v (pos 0)) a b r → v ≤ n → r ≡ part_for tree n code v
+    taxon_right : (r a b : Part) → PartOf (then_some (leb v n) (get_or codes v (pos 0))) a b r → v ≤ n → r ≡ part_for tree n code v
     taxon_right r a b is l =
-        is.tip (le-leb v n l)
+        is.tip _ (ap (λ t. then_some t (get_or codes v (pos 0))) (le-leb v n l))
         ∙ ap tip_part (codes_are.are v (omega arith) l)
         ∙ sym (part_of (only (code v)) 0 (part_for tree n code v) (set-taxon n tree grown rows j v second l)
         (cost-taxon n tree grown rows j v second l))
@@ -71,13 +72,13 @@ module _ (n : ℕ) (tree : List ℕ) (rows : List (List ℤ)) (j : ℕ) (codes :
         rw here at (inv place.0 (omega (arith, place.1)) place.2 below-row1)
 
     -- an HTU
-    htu_right : (r : Part) (a b : ℕ) → Htu n tree v a b → n < v → PartOf (leb v n) (get_or codes v (pos 0)) (part_at parts a)
+    htu_right : (r : Part) (a b : ℕ) → Htu n tree v a b → n < v → PartOf (then_some (leb v n) (get_or codes v (pos 0))) (part_at parts a)
         (part_at parts b) r
         → r ≡ part_for tree n code v
     htu_right r a b htu l is =
         let x = descendant_right left a b htu in
         let y = descendant_right right a b htu in
-        let over = lt-leb v n l in
+        let over = ap (λ t. then_some t (get_or codes v (pos 0))) (lt-leb v n l) in
         let cost = cost-htu n tree grown rows j v a b htu in
         let most = cost-most n tree grown rows j codes_are.known v second last in
         let few = taxa-most n tree branches in
@@ -88,7 +89,7 @@ module _ (n : ℕ) (tree : List ℕ) (rows : List (List ℤ)) (j : ℕ) (codes :
 
     -- the node at place i
     node_right_lem : (r : Part)
-        → PartOf (leb v n) (get_or codes v (pos 0)) (part_at parts (below_at below v).first) (part_at parts (below_at below v).second) r
+        → PartOf (then_some (leb v n) (get_or codes v (pos 0))) (part_at parts (below_at below v).first) (part_at parts (below_at below v).second) r
         → r ≡ part_for tree n code v
     node_right_lem r is =
         either v n
@@ -102,7 +103,7 @@ module _ (n : ℕ) (tree : List ℕ) (rows : List (List ℤ)) (j : ℕ) (codes :
 
   -- one place further up the walk
   pub up_next : (i : ℕ) → i < last_node n → (r : Part)
-      → PartOf (leb (node_at nodes i) n) (get_or codes (node_at nodes i) (pos 0)) (part_at parts (below_at below (node_at nodes i)).first)
+      → PartOf (then_some (leb (node_at nodes i) n) (get_or codes (node_at nodes i) (pos 0))) (part_at parts (below_at below (node_at nodes i)).first)
       (part_at parts (below_at below (node_at nodes i)).second) r
       → node_at nodes i ≤ 126 → UpFrom tree n code nodes parts (i + 1) → UpFrom tree n code nodes (set parts (node_at nodes i) r) i
   up_next i high r is most inv k l h second =

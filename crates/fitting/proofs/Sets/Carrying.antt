@@ -1,6 +1,6 @@
 -- A state carried through a list in rising order is written in at its place; six ends carried in one by one are put in order.
-use Rattle.std.proofs.Common.{◌≡◌, ℕ, suc, ◌+◌, ◌<◌, ◌≤◌, Bool, true, false, cond, List, [], ◌∷◌, ◌++◌, length, get_or, take, drop, set, ℤ, pos, sym, refl, ap, ◌∙◌, ap₂, append_assoc, add-one, arith, drop_of_length-le, length-take, drop-cons, get_or-take, take-suc-set, drop-set-lt}
-use lib.Seq.{take-set-lt}
+use Rattle.std.proofs.Common.{◌≡◌, ℕ, suc, ◌+◌, ◌<◌, ◌≤◌, Bool, true, false, cond, List, [], ◌∷◌, ◌++◌, length, get_or, take, drop, set, ℤ, pos, sym, refl, ap, ◌∙◌, ap₂, append_assoc, add-one, arith, drop_of_length-le, length-append, take_all, drop-cons, get_or-take, take-suc-set, drop-set-lt}
+use lib.Seq.{take-append_seam}
 use lib.Signed.{le_z}
 use Rattle.difference.specs.Rows.{lower, higher}
 use Rattle.difference.proofs.Laws.Order.{le_z-true, le_z-false}
@@ -69,38 +69,35 @@ middle-carried a b c r₀ r₁ r₂ r₃ r₄ r₅ r₆ e₁ e₂ e₃ e₄ e₅
     (sym (get_or-take 6 r₆ 2 (pos 0) (omega arith)) ∙ ap (λ (xs : List ℤ). get_or xs 2 (pos 0)) s₆)
     (sym (get_or-take 6 r₆ 3 (pos 0) (omega arith)) ∙ ap (λ (xs : List ℤ). get_or xs 3 (pos 0)) s₆)
 
--- the first `count` states of a list, through which a state is carried
-module _ (xs : List ℤ) (count : ℕ) (on : ℤ) (goal : List ℤ) (room : count ≤ length xs) where
+-- a list through which a state is carried
+module _ (xs : List ℤ) (on : ℤ) (goal : List ℤ) where
   -- one place further: it keeps the lower, and the higher goes on
-  pub carry_next : (i : ℕ) → i < count → take i xs ++ carried on (drop i (take count xs)) ≡ goal
+  pub carry_next : (i : ℕ) → i < length xs → take i xs ++ carried on (drop i xs) ≡ goal
       → take (i + 1) (set xs i (lower on (get_or xs i (pos 0))))
-      ++ carried (higher on (get_or xs i (pos 0))) (drop (i + 1) (take count (set xs i (lower on (get_or xs i (pos 0)))))) ≡ goal
-  carry_next i h inv =
+      ++ carried (higher on (get_or xs i (pos 0))) (drop (i + 1) (set xs i (lower on (get_or xs i (pos 0))))) ≡ goal
+  carry_next i some inv =
       let low = lower on (get_or xs i (pos 0)) in
       let high = higher on (get_or xs i (pos 0)) in
-      let some : i < length xs = omega arith in
-      let taken = length-take count xs in
-      let within : i < length (take count xs) = omega arith in
       let first : take (suc i) (set xs i low) ≡ take i xs ++ (low ∷ []) = take-suc-set xs i low some in
-      let last : drop (suc i) (take count (set xs i low)) ≡ drop (suc i) (take count xs) =
-      ap (drop (suc i)) (take-set-lt count xs i low h) ∙ drop-set-lt (suc i) (take count xs) i low (omega arith) in
-      let here : drop i (take count xs) ≡ get_or xs i (pos 0) ∷ drop (suc i) (take count xs) =
-      drop-cons (take count xs) i (pos 0) within
-      ∙ ap (λ (z : ℤ). z ∷ drop (suc i) (take count xs)) (get_or-take count xs i (pos 0) h) in
-      let on-here : carried on (drop i (take count xs)) ≡ low ∷ carried high (drop (suc i) (take count xs)) =
-      ap (carried on) here ∙ carried_step on (get_or xs i (pos 0)) (drop (suc i) (take count xs)) in
+      let last : drop (suc i) (set xs i low) ≡ drop (suc i) xs = drop-set-lt (suc i) xs i low (omega arith) in
+      let on-here : carried on (drop i xs) ≡ low ∷ carried high (drop (suc i) xs) =
+      ap (carried on) (drop-cons xs i (pos 0) some) ∙ carried_step on (get_or xs i (pos 0)) (drop (suc i) xs) in
       rw add-one
       (ap₂ (λ (p : List ℤ) (q : List ℤ). p ++ carried high q) first last
-      ∙ append_assoc (take i xs) (low ∷ []) (carried high (drop (suc i) (take count xs)))
+      ∙ append_assoc (take i xs) (low ∷ []) (carried high (drop (suc i) xs))
       ∙ ap (λ (p : List ℤ). take i xs ++ p) (sym on-here)
       ∙ inv)
 
-  -- at the end it stands behind them
-  pub carry_end : (i : ℕ) → i ≡ count → count < length xs → take i xs ++ carried on (drop i (take count xs)) ≡ goal
-      → take (count + 1) (set xs count on) ≡ goal
-  carry_end i e h inv =
-      let taken = length-take count xs in
-      let few : length (take count xs) ≤ count = omega arith in
-      let none : drop count (take count xs) ≡ [] = drop_of_length-le (take count xs) few in
-      let last : carried on (drop count (take count xs)) ≡ on ∷ [] = ap (carried on) none ∙ carried_none on in
-      rw add-one (take-suc-set xs count on h ∙ ap (λ (p : List ℤ). take count xs ++ p) (sym last) ∙ rw e at inv)
+  -- at the end it is written in behind the list
+  pub carry_end : (i count : ℕ) (rest : List ℤ) → length xs ≡ count → count ≤ i → 1 ≤ length rest → take i xs ++ carried on (drop i xs) ≡ goal
+      → take (count + 1) (set (xs ++ rest) count on) ≡ goal
+  carry_end i count rest size end some inv =
+      let whole = length-append xs rest in
+      let room : count < length (xs ++ rest) = omega arith in
+      let all : take i xs ≡ xs = take_all i xs (omega arith) in
+      let front : take count (xs ++ rest) ≡ xs = rw size at (take-append_seam xs rest) in
+      let last : carried on (drop i xs) ≡ on ∷ [] = ap (carried on) (drop_of_length-le xs (omega arith)) ∙ carried_none on in
+      rw add-one
+      (take-suc-set (xs ++ rest) count on room
+      ∙ ap₂ (λ (p q : List ℤ). p ++ q) (front ∙ sym all) (sym last)
+      ∙ inv)

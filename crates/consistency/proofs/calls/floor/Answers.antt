@@ -1,13 +1,15 @@
 -- `consistency::calls::floor` meets its contract: a refusal is that of the questions. Assumes nothing.
 use mathlib.Core.Path.{sym, ◌∙◌}
+use Rattle.std.proofs.lemmas.Result.{err_from_is_err_and}
 use Rattle.consistency.specs.Calls.{floor_answer}
 use Rattle.consistency.proofs.Answered.{floor_passed}
 use Rattle.consistency.proofs.calls.floor.Goals as goal
 
-pub returns-in-Refused : goal.returns-in-Refused
+pub returns-in_err-ask_matrix : goal.returns-in_err-ask_matrix
 unfolding floor_answer
-returns-in-Refused c = rw (sym c.ask_matrix.ensures ∙ c.in-Refused.is)
+returns-in_err-ask_matrix c =
+    let told = err_from_is_err_and c.from_residual.result c.from_residual.ensures.1 in
+    rw (told.1, told.2, sym c.ask_matrix.ensures ∙ c.in_err-ask_matrix.was)
 
-pub returns-in-Passed : goal.returns-in-Passed
-returns-in-Passed c =
-    floor_passed _ _ _ _ _ (sym c.ask_matrix.ensures ∙ c.in-Passed.is) c.floor_of.ensures
+pub returns : goal.returns
+returns c = floor_passed _ _ _ _ _ (sym c.ask_matrix.ensures ∙ c.in_ok-ask_matrix.was) c.floor_of.ensures

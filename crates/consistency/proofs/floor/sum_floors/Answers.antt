@@ -1,49 +1,40 @@
 -- What the check leaves of `consistency::floor::sum_floors`.
-use mathlib.Core.Path.{◌≡◌, refl, sym, ap, ap₂, ◌∙◌}
-use Prim.Native.Nat.{◌+◌, ◌-◌}
-use native.Mathlib.Omega.{arith}
-use Rattle.lists.specs.Numbers.{numbers}
+use Rattle.std.proofs.Common.{◌≡◌, ℕ, ◌+◌, ◌-◌, ◌^◌, List, [], ◌∷◌, refl, ap, ◌∙◌, arith, rules, tests}
+use Rattle.std.specs.List.{range_with_len, sum_by}
+use Rattle.std.proofs.lemmas.Iterator.{YieldsList-from_range, YieldsList-from_map}
+use Rattle.std.proofs.lemmas.Iterator.Adapters.{fits_from_length, at_most_from_yields_List}
+use Rattle.std.proofs.lemmas.Iterator.Consumers.{sum_by_from_yields_List}
+use Rattle.std.proofs.lemmas.List.Sums.{sum_by-cons}
+use Rattle.std.proofs.lemmas.List.FromFn.{length-range_with_len}
 use Rattle.lists.specs.Sums.{sum_over}
-use Rattle.matrix.specs.Shape.{weight_of}
+use Rattle.matrix.specs.Shape.{weight_at, weight_of}
 use Rattle.difference.specs.Rows.{part}
-use Rattle.lists.proofs.Filling.{sum_next}
+use Rattle.branching.proofs.Ranges.{range-numbers}
 use Rattle.consistency.specs.Floor.{character_floor}
 use Rattle.consistency.specs.Steps.{column, column_floors}
 use Rattle.consistency.proofs.floor.sum_floors.Goals as goal
 
-pub loop-j-init : goal.loop-j-init
-unfolding column_floors sum_over numbers
-loop-j-init c = (omega arith, omega arith, omega arith, refl)
+-- std's sum of what a function gives at each item
+sum_by-over : (f : ℕ → ℕ) (xs : List ℕ) → sum_by f xs ≡ sum_over f xs
+unfolding sum_over
+sum_by-over f [] = refl
+sum_by-over f (x ∷ xs) = sum_by-cons f x xs ∙ ap (λ k. f x + k) (sum_by-over f xs)
 
-pub character_floor-sum-requires : goal.character_floor-sum-requires
-character_floor-sum-requires c =
-    let pre = c.requires in
-    (pre.0, pre.1, pre.2, c.loop-j.invariant.0, omega (arith, c.loop-j-test.true, pre.3))
-
-pub overflow_add-sum : goal.overflow_add-sum
-overflow_add-sum c =
-    let inv = c.loop-j.invariant in
-    let few = c.requires.3 in
-    record { fits = omega (arith, inv.2, c.character_floor-sum.ensures.most, c.loop-j-test.true) }
-
-pub loop-j-preserved : goal.loop-j-preserved
-loop-j-preserved c =
-    let loop = c.loop-j in
-    let inv = loop.invariant in
-    let matrix = c.args.matrix.now in
-    let weights = c.args.weights.now in
-    let n = c.args.n in
-    let next = sum_next (λ i. character_floor (part (weight_of weights i)) (column matrix i 1 n)) 1 loop.j inv.0 in
-    let floor : c.character_floor-sum.result ≡ character_floor (part (weight_of weights loop.j)) (column matrix loop.j 1 n) =
-    c.character_floor-sum.ensures.is
-    ∙ unfold weight_of in ap (λ w. character_floor (part w) (column matrix loop.j 1 n)) c.weight_at.ensures in (
-      omega arith,
-      omega (arith, c.loop-j-test.true),
-      omega (arith, inv.2, c.character_floor-sum.ensures.most),
-      ap₂ ◌+◌ inv.3 floor ∙ unfold column_floors in sym next,
-    )
+pub sum-requires-clause-fits : goal.sum-requires-clause-fits
+sum-requires-clause-fits c =
+    let m = c.args.nodes.now.m in
+    let narrow = c.args.nodes.now.narrow in
+    fits_from_length _ _ 128 (2 ^ 64)
+    (at_most_from_yields_List (YieldsList-from_range 1 (m + 1) m c.map.ensures.source (omega arith)) (omega (arith, length-range_with_len 1 m)))
+    c.map.ensures.closure (omega arith) (λ x r q k. search (rules, tests))
 
 pub returns : goal.returns
+unfolding column_floors weight_of
 returns c =
-    let all : c.loop-j.j - 1 ≡ c.args.m = omega (arith, c.loop-j-test.false, c.loop-j.invariant.1) in
-    rw all at c.loop-j.invariant.3
+    let nodes = c.args.nodes.now in
+    let floor : ℕ → ℕ = λ j. character_floor (part (weight_at nodes.weights.now (j - 1))) (column nodes.matrix.now j 1 c.args.n) in
+    sum_by_from_yields_List floor (range_with_len 1 nodes.m) c.map.result c.sum.result c.sum.ensures.ran
+    (YieldsList-from_map _ floor (YieldsList-from_range 1 (nodes.m + 1) nodes.m c.map.ensures.source (omega arith)) c.map.ensures.closure
+    (λ x r q k. search (rules, tests)))
+    ∙ sum_by-over floor (range_with_len 1 nodes.m)
+    ∙ ap (sum_over floor) (range-numbers 1 nodes.m)

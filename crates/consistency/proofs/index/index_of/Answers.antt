@@ -2,26 +2,26 @@
 use mathlib.Core.Path.{◌≡◌, refl}
 use Prim.Native.Nat.{ℕ, zero, suc, ◌*◌, ◌/◌, ◌%◌, ◌≤◌}
 use native.Mathlib.Omega.{arith}
+use Rattle.std.proofs.Common.{Some}
 use Rattle.consistency.specs.Index.{thousand, index}
-use Rattle.consistency.specs.declared.index.Index.TheVariants.{Divided}
 use Rattle.consistency.proofs.index.index_of.Goals as goal
 
 -- the index of a total that is not 0
-divided : (floor total : ℕ) → 1 ≤ total → Divided (thousand * floor / total) (thousand * floor % total) ≡ index floor total
+divided : (floor total : ℕ) → 1 ≤ total → Some (record { quotient = thousand * floor / total; remainder = thousand * floor % total }) ≡ index floor total
 unfolding index
 divided floor zero some = absurd (omega arith)
 divided floor (suc less) some = refl
 
-pub returns-then-total-eq0 : goal.returns-then-total-eq0
+pub returns-in_err-checked_div : goal.returns-in_err-checked_div
 unfolding index
-returns-then-total-eq0 c = record { is = λ small. rw c.if-total-eq0.true refl; above = λ big. refl }
-
-pub returns-then-floor-gt-MOST_FLOOR : goal.returns-then-floor-gt-MOST_FLOOR
-returns-then-floor-gt-MOST_FLOOR c = record { is = λ small. absurd (omega (arith, c.if-floor-gt-MOST_FLOOR.true)); above = λ big. refl }
+returns-in_err-checked_div c =
+    let none : c.args.total ≡ 0 = omega (arith, c.in_err-checked_div.ensures) in
+    record { is = λ small. rw (c.from_residual.ensures, none) refl; above = λ big. c.from_residual.ensures }
 
 pub returns : goal.returns
 returns c =
+    let div = c.in_ok-checked_div.ensures in
     record {
-      is = λ small. divided c.args.floor c.args.total (omega (arith, c.if-total-eq0.false));
+      is = λ small. rw (div.1, c.in_ok-checked_rem.ensures.1) (divided c.args.floor c.args.total div.0);
       above = λ big. absurd (omega (arith, c.if-floor-gt-MOST_FLOOR.false));
     }

@@ -1,78 +1,64 @@
 -- `fitting::calls::ask_node` meets its contract: each answer follows from the tests that led to it. Assumes nothing.
-use Rattle.std.proofs.Common.{◌≡◌, ℕ, length, sym, ap, ◌∙◌, rules, eq-eqb}
-use borrow.Author.Tests.{not-true, not-false}
-use Rattle.matrix.specs.Questions.{one_to}
+use Rattle.std.proofs.Common.{Ok, ◌≡◌, ℕ, ◌-◌, ◌^◌, min, List, length, ℤ, sym, ◌∙◌, rules, eq-eqb}
+use Rattle.std.proofs.lemmas.Result.{err_from_is_err_and}
+use Rattle.matrix.specs.Shape.{last_node}
+use Rattle.matrix.specs.Questions.{ask_matrix, one_to}
+use Rattle.matrix.specs.Outcomes.{ask}
+use Rattle.matrix.specs.declared.refusal.Refusal.TheVariants.{NotThere, NotBranching}
 use Rattle.matrix.proofs.Passing.{matrix_passed}
+use Rattle.branching.specs.declared.branch.Branch.{Branch}
+use Rattle.branching.specs.Branches.{lent_branching}
 use Rattle.fitting.specs.Handing.{ask_node}
-use Rattle.fitting.proofs.Pass.Standing.{last_end}
+use Rattle.fitting.proofs.Pass.Standing.{last_told}
 use Rattle.fitting.proofs.calls.ask_node.Goals as goal
 
-pub nodes_end-requires : goal.nodes_end-requires
-nodes_end-requires c = (matrix_passed _ _ _ _ (sym c.ask_matrix.ensures ∙ c.in-Passed.is)).taxa
+-- the questions, where those on the matrix have passed
+passed_on : (codes : List ℤ) (weights : List ℕ) (n m : ℕ) (records : List Branch) (v j last : ℕ) → length records ≡ 125
+    → ask_matrix codes weights n m ≡ Ok tt → last ≡ min (last_node n) (2 ^ 64 - 1)
+    → ask_node codes weights n m records v j
+    ≡ ask (one_to last v) NotThere (ask (one_to m j) NotThere (ask (lent_branching n records) NotBranching (Ok tt)))
+unfolding ask_node
+passed_on codes weights n m records v j last size passed told =
+    let is = last_told n last (matrix_passed codes weights n m passed).taxa told in
+    rw (eq-eqb _ _ size, passed, is)
+
+pub returns-in_err-ask_matrix : goal.returns-in_err-ask_matrix
+unfolding ask_node
+returns-in_err-ask_matrix c =
+    let size : length c.args.records.now ≡ 125 = search rules in
+    let told = err_from_is_err_and c.from_residual.result c.from_residual.ensures.1 in
+    rw (told.1, told.2, eq-eqb _ _ size, sym c.ask_matrix.ensures ∙ c.in_err-ask_matrix.was)
 
 pub returns-then-not-one_to : goal.returns-then-not-one_to
-unfolding ask_node
 returns-then-not-one_to c =
-    let size : length c.args.records ≡ 125 = search rules in
-    rw (
-      eq-eqb _ _ size,
-      sym c.ask_matrix.ensures
-          ∙ c.in-Passed.is,
-      sym (c.one_to.ensures
-          ∙ ap (λ (last : ℕ). one_to last c.args.node) (last_end _ _ c.nodes_end.ensures))
-          ∙ not-true _ c.if-not-one_to.true-raw,
-    )
+    let asked = passed_on c.args.matrix.now c.args.weights.now c.args.n c.args.m c.args.records.now c.args.node c.args.character _ (search rules)
+    (sym c.ask_matrix.ensures ∙ c.in_ok-ask_matrix.was) c.last_node.ensures in
+    rw (asked, sym c.one_to.ensures ∙ c.if-not-one_to.true)
 
 pub returns-then-not-one_to-2 : goal.returns-then-not-one_to-2
-unfolding ask_node
 returns-then-not-one_to-2 c =
-    let size : length c.args.records ≡ 125 = search rules in
-    rw (
-      eq-eqb _ _ size,
-      sym c.ask_matrix.ensures
-          ∙ c.in-Passed.is,
-      sym (c.one_to.ensures
-          ∙ ap (λ (last : ℕ). one_to last c.args.node) (last_end _ _ c.nodes_end.ensures))
-          ∙ not-false _ c.if-not-one_to.false-raw,
-      sym c.one_to-in-Passed.ensures ∙ not-true _ c.if-not-one_to-2.true-raw,
-    )
+    let asked = passed_on c.args.matrix.now c.args.weights.now c.args.n c.args.m c.args.records.now c.args.node c.args.character _ (search rules)
+    (sym c.ask_matrix.ensures ∙ c.in_ok-ask_matrix.was) c.last_node.ensures in
+    rw (asked, sym c.one_to.ensures ∙ c.if-not-one_to.false, sym c.one_to-2.ensures ∙ c.if-not-one_to-2.true)
 
 pub returns-then-not-lent_branching : goal.returns-then-not-lent_branching
-unfolding ask_node
 returns-then-not-lent_branching c =
-    let size : length c.args.records ≡ 125 = search rules in
+    let asked = passed_on c.args.matrix.now c.args.weights.now c.args.n c.args.m c.args.records.now c.args.node c.args.character _ (search rules)
+    (sym c.ask_matrix.ensures ∙ c.in_ok-ask_matrix.was) c.last_node.ensures in
     rw (
-      eq-eqb _ _ size,
-      sym c.ask_matrix.ensures
-          ∙ c.in-Passed.is,
-      sym
-          (c.one_to.ensures ∙ ap (λ (last : ℕ). one_to last c.args.node) (last_end _ _
-          c.nodes_end.ensures))
-          ∙ not-false _ c.if-not-one_to.false-raw,
-      sym c.one_to-in-Passed.ensures
-          ∙ not-false _ c.if-not-one_to-2.false-raw,
-      sym c.lent_branching.ensures ∙ not-true _ c.if-not-lent_branching.true-raw,
+      asked,
+      sym c.one_to.ensures ∙ c.if-not-one_to.false,
+      sym c.one_to-2.ensures ∙ c.if-not-one_to-2.false,
+      sym c.lent_branching.ensures ∙ c.if-not-lent_branching.true,
     )
 
-pub returns-in-Refused : goal.returns-in-Refused
-unfolding ask_node
-returns-in-Refused c =
-    let size : length c.args.records ≡ 125 = search rules in
-    rw (eq-eqb _ _ size, sym c.ask_matrix.ensures ∙ c.in-Refused.is)
-
-pub returns-else-not-lent_branching : goal.returns-else-not-lent_branching
-unfolding ask_node
-returns-else-not-lent_branching c =
-    let size : length c.args.records ≡ 125 = search rules in
+pub returns : goal.returns
+returns c =
+    let asked = passed_on c.args.matrix.now c.args.weights.now c.args.n c.args.m c.args.records.now c.args.node c.args.character _ (search rules)
+    (sym c.ask_matrix.ensures ∙ c.in_ok-ask_matrix.was) c.last_node.ensures in
     rw (
-      eq-eqb _ _ size,
-      sym c.ask_matrix.ensures
-          ∙ c.in-Passed.is,
-      sym
-          (c.one_to.ensures ∙ ap (λ (last : ℕ). one_to last c.args.node) (last_end _ _
-          c.nodes_end.ensures))
-          ∙ not-false _ c.if-not-one_to.false-raw,
-      sym c.one_to-in-Passed.ensures
-          ∙ not-false _ c.if-not-one_to-2.false-raw,
-      sym c.lent_branching.ensures ∙ not-false _ c.if-not-lent_branching.false-raw,
+      asked,
+      sym c.one_to.ensures ∙ c.if-not-one_to.false,
+      sym c.one_to-2.ensures ∙ c.if-not-one_to-2.false,
+      sym c.lent_branching.ensures ∙ c.if-not-lent_branching.false,
     )

@@ -1,11 +1,10 @@
 -- `fitting::calls::fit` meets its contract: a refusal is that of the questions, and leaves the lists as they were. Assumes nothing.
-use Rattle.std.proofs.Common.{◌≡◌, ℕ, true, false, eqb, List, length, ℤ, sym, ◌∙◌, eqb-true}
+use Rattle.std.proofs.Common.{Err, ◌≡◌, ℕ, true, false, eqb, List, length, ℤ, sym, ◌∙◌, eqb-true}
 use mathlib.Core.Bool.{and-eq-true_iff}
-use borrow.Author.Tests.{not-true, not-false}
 use Rattle.matrix.specs.Shape.{matrix_size}
-use Rattle.matrix.specs.declared.refusal.Asked.{Asked}
+use Rattle.matrix.specs.Outcomes.{Asked}
 use Rattle.matrix.specs.declared.refusal.Refusal.TheVariants.{ListSize}
-use Rattle.matrix.specs.declared.refusal.Asked.TheVariants.{Refused}
+use Rattle.std.proofs.lemmas.Result.{err_from_is_err_and}
 use Rattle.branching.specs.declared.branch.Branch.{Branch}
 use Rattle.branching.specs.Asking.{ask_branching}
 use Rattle.fitting.specs.Calls.{lists_full, ask_fit}
@@ -21,7 +20,7 @@ asked_of codes weights n m records low high chosen asked full e = rw (full, e)
 
 -- and where they have not
 asked_not : (codes : List ℤ) (weights : List ℕ) (n m : ℕ) (records : List Branch) (low high chosen : List ℤ)
-    → lists_full (length low) (length high) (length chosen) ≡ false → ask_fit codes weights n m records low high chosen ≡ Refused ListSize
+    → lists_full (length low) (length high) (length chosen) ≡ false → ask_fit codes weights n m records low high chosen ≡ Err ListSize
 unfolding ask_fit
 asked_not codes weights n m records low high chosen e = rw e
 
@@ -35,21 +34,19 @@ sizes low high chosen e =
 
 pub returns-then-not-lists_full : goal.returns-then-not-lists_full
 returns-then-not-lists_full c =
-    refused_answer _ _ _ _ _ _ _ _ ListSize _
-    (asked_not _ _ _ _ _ _ _ _ (sym c.lists_full.ensures ∙ not-true _ c.if-not-lists_full.true-raw)) c.no_fit.ensures
+    refused_answer _ _ _ _ _ _ _ _ ListSize (asked_not _ _ _ _ _ _ _ _ (sym c.lists_full.ensures ∙ c.if-not-lists_full.true))
 
-pub returns-in-Refused : goal.returns-in-Refused
-returns-in-Refused c =
-    let full = sym c.lists_full.ensures ∙ not-false _ c.if-not-lists_full.false-raw in
-    refused_answer _ _ _ _ _ _ _ _ _ _ (asked_of _ _ _ _ _ _ _ _ _ full (sym c.ask_branching.ensures
-    ∙ c.in-Refused.is))
-    c.no_fit-in-Refused.ensures
+pub returns-in_err-ask_branching : goal.returns-in_err-ask_branching
+returns-in_err-ask_branching c =
+    let told = err_from_is_err_and c.from_residual.result c.from_residual.ensures.1 in
+    let full = sym c.lists_full.ensures ∙ c.if-not-lists_full.false in
+    rw (told.1, told.2)
+    (refused_answer _ _ _ _ _ _ _ _ _ (asked_of _ _ _ _ _ _ _ _ _ full (sym c.ask_branching.ensures ∙ c.in_err-ask_branching.was)))
 
-pub returns-in-Passed : goal.returns-in-Passed
-returns-in-Passed c =
-    let full = sym c.lists_full.ensures ∙ not-false _ c.if-not-lists_full.false-raw in
+pub returns : goal.returns
+returns c =
+    let full = sym c.lists_full.ensures ∙ c.if-not-lists_full.false in
     let right = sizes _ _ _ full in
-    let passed = sym c.ask_branching.ensures ∙ c.in-Passed.is in
+    let passed = sym c.ask_branching.ensures ∙ c.in_ok-ask_branching.was in
     passed_answer _ _ _ _ _ _ _ _ _ _ _ _ _ (asked_of _ _ _ _ _ _ _ _ _ full passed) passed right.0 right.1 right.2
-    c.tree_of.ensures
-    c.fit_tree.ensures
+    c.tree_of-tree.ensures c.fit_tree.ensures

@@ -1,28 +1,20 @@
--- What the check leaves of `fitting::characters::codes_of`.
-use Rattle.std.proofs.Common.{◌≡◌, ◌+◌, ◌-◌, ◌<◌, length, get_or, pos, refl, arith, length-set, to_z-of_z, w32}
-use borrow.Author.Rules.{sfits_of}
-use Rattle.matrix.specs.Shape.{row_start}
-use Rattle.lists.proofs.Filling.{filled_next}
+-- `fitting::characters::codes_of` meets its contract: what stands at a taxon's place is its code.
+use Rattle.std.proofs.Common.{◌∙◌, List, ℕ, ℤ, cond, pos, get_or, ap, le-leb, arith, rules, zero-add}
+use Rattle.lists.proofs.Numbers.{map-numbers}
+use Rattle.branching.proofs.Ranges.{made-map}
+use Rattle.fitting.specs.Handing.{state_at}
+use Rattle.fitting.specs.Steps.{taxon_code}
 use Rattle.fitting.proofs.characters.codes_of.Goals as goal
 
-pub loop-v-init : goal.loop-v-init
-loop-v-init c = (omega arith, omega arith, refl, λ u l h. absurd (omega arith))
-
-pub overflow_sub-place : goal.overflow_sub-place
-overflow_sub-place c = omega arith
-
-pub loop-v-preserved : goal.loop-v-preserved
-loop-v-preserved c =
-    let inv = c.loop-v.invariant in
+pub returns : goal.returns
+returns c =
     let matrix = c.args.matrix.now in
     let j = c.args.j in
-    let room : c.loop-v.v < length c.loop-v.codes = omega arith in (
-      omega arith,
-      omega arith,
-      simp length-set inv.2,
-      filled_next (λ u z. z ≡ get_or matrix (row_start u + (j - 1)) (pos 0)) (pos 0) c.loop-v.codes 1 _ _ room inv.3
-          (to_z-of_z {w = w32} (sfits_of c.codes-1.given)),
-    )
-
-pub returns : goal.returns
-returns c = record { are = λ v l h. c.loop-v.invariant.3 v l (omega (arith, c.loop-v-test.false)) }
+    let code : ℕ → ℤ = λ v. taxon_code matrix c.args.n v j in
+    record {
+      are = λ v h taxon.
+          ap (λ (codes : List ℤ). get_or codes v (pos 0)) (made-map _ code _ _ 127 (pos 0) c.from_fn.ensures.items (λ v y q k. search rules))
+          ∙ map-numbers code (pos 0) 0 127 v (omega arith)
+          ∙ ap code (zero-add v)
+          ∙ ap (λ is. cond is (state_at matrix v j) (pos 0)) (le-leb v c.args.n taxon);
+    }

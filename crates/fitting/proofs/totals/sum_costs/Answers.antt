@@ -1,64 +1,46 @@
--- What the check leaves of `fitting::totals::sum_costs`.
-use Rattle.std.proofs.Common.{◌≡◌, ◌+◌, ◌-◌, ◌*◌, sym, refl, ◌∙◌, ap₂, arith}
+-- `fitting::totals::sum_costs` meets its contract: the costs of the characters, in order.
+use Rattle.std.proofs.Common.{◌≡◌, ℕ, ◌+◌, ◌*◌, ◌^◌, ◌<◌, ◌%◌, List, [], ◌∷◌, map, fold, ap, ◌∙◌, arith, rules, tests}
+use native.Mathlib.Nat.{mod-eq_of_lt}
+use Rattle.std.proofs.lemmas.Iterator.{YieldsList-from_range, YieldsList-from_map}
+use Rattle.std.proofs.lemmas.Iterator.Consumers.{fold_from_yields_List}
 use Rattle.lists.specs.Numbers.{numbers}
 use Rattle.lists.specs.Sums.{sum_over}
 use Rattle.matrix.specs.Shape.{weight_of}
 use Rattle.matrix.specs.NodeRows.{rows_of}
-use Rattle.branching.specs.Ancestors.{ancestors}
-use Rattle.fitting.specs.Steps.{character_length}
-use Rattle.lists.proofs.Filling.{sum_next}
-use Rattle.fitting.proofs.Columns.{column-codes, character-most, characters-most}
+use Rattle.branching.proofs.Ranges.{range-numbers}
+use Rattle.fitting.specs.Steps.{character_length, CostOf}
+use Rattle.fitting.proofs.Columns.{characters-most}
 use Rattle.fitting.proofs.Matrix.LeastCost.{total-characters}
 use Rattle.fitting.proofs.totals.sum_costs.Goals as goal
 
-pub loop-j-init : goal.loop-j-init
-unfolding sum_over numbers
-loop-j-init c = (omega arith, omega arith, λ branches lent weighed. refl)
-
-pub codes_of-codes-requires : goal.codes_of-codes-requires
-codes_of-codes-requires c =
-    let pre = c.requires in
-    let few = pre.2 in
-    (pre.0, pre.1, c.loop-j.invariant.0, omega (arith, c.loop-j-test.true))
-
-pub least_cost-cost-requires : goal.least_cost-cost-requires
-least_cost-cost-requires c = c.requires.3
-
-pub loop-j-preserved : goal.loop-j-preserved
-loop-j-preserved c =
-    let loop = c.loop-j in
-    let inv = loop.invariant in
-    let n = c.args.n in
-    let m = c.args.m in
-    let tree = ancestors c.args.plan.tree in
-    let matrix = c.args.matrix.now in
-    let weights = c.args.weights.now in
-    let taken = c.loop-j-test.true in (
-      omega arith,
-      omega arith,
-      λ branches lent weighed.
-          let rows = rows_of matrix m n in
-          let so_far = inv.2 branches lent weighed in
-          let codes = column-codes matrix n m lent loop.j inv.0 taken _ c.codes_of-codes.ensures in
-          let cost = c.least_cost-cost.ensures.is rows loop.j codes branches in
-          let next = sum_next (λ i. weight_of weights i * character_length tree rows n i) 1 loop.j inv.0 in
-          let most = characters-most matrix n m lent tree branches weights weighed.known (loop.j + 1 - 1) (omega arith) in
-          let short = character-most matrix n m lent tree branches loop.j inv.0 taken in
-          let many = lent.characters in
-          let times : c.weighed.result ≡ weight_of weights loop.j * character_length tree rows n loop.j =
-          c.weighed.ensures.is (omega (arith, cost, short))
-          ∙ unfold weight_of in ap₂ ◌*◌ c.weight_at.ensures cost in
-          c.plus-total.ensures.is (omega arith) ∙ ap₂ ◌+◌ so_far times ∙ sym next,
-    )
+-- a sum that fits 64 bits, added up with what stands before it
+added_up : (f : ℕ → ℕ) (xs : List ℕ) (first : ℕ) → first + sum_over f xs < 2 ^ 64
+    → fold (λ (a x : ℕ). (a + x) % (2 ^ 64)) first (map f xs) ≡ first + sum_over f xs
+unfolding sum_over
+added_up f [] first small = omega arith
+added_up f (x ∷ xs) first small =
+    let here : (first + f x) % (2 ^ 64) ≡ first + f x = mod-eq_of_lt (omega arith) in
+    ap (λ (a : ℕ). fold (λ (a x : ℕ). (a + x) % (2 ^ 64)) a (map f xs)) here
+    ∙ added_up f xs (first + f x) (omega arith)
+    ∙ omega arith
 
 pub returns : goal.returns
 returns c =
-    let loop = c.loop-j in
-    let inv = loop.invariant in
+    let nodes = c.args.nodes.now in
+    let plan = c.args.plan.now in
+    let m = nodes.m in
     record {
       is = λ branches lent weighed.
-          let all : loop.j - 1 ≡ c.args.m = omega (arith, c.loop-j-test.false) in
-          rw all at (inv.2 branches lent weighed)
-          ∙ sym (total-characters c.args.weights.now (ancestors c.args.plan.tree) (rows_of c.args.matrix.now c.args.m
-          c.args.n) c.args.n c.args.m);
+          let cost : ℕ → ℕ = λ j. weight_of nodes.weights.now j * character_length plan.tree (rows_of nodes.matrix.now m plan.taxa) plan.taxa j in
+          let many = lent.characters in
+          let most = characters-most nodes.matrix.now plan.taxa m lent plan.tree branches nodes.weights.now weighed.known m (omega arith) in
+          fold_from_yields_List _ (λ (a x : ℕ). (a + x) % (2 ^ 64)) 0 c.fold.result c.fold.ensures.ran
+          (YieldsList-from_map _ cost (YieldsList-from_range 1 (m + 1) m c.map.ensures.source (omega arith)) c.map.ensures.closure
+          (λ x r q k.
+          let is : CostOf nodes.matrix.now nodes.weights.now plan.taxa m plan.tree x r = search (rules, tests) in
+          (search rules, is.is branches lent weighed)))
+          (λ a x b q k. search (rules, tests))
+          ∙ ap (λ (xs : List ℕ). fold (λ (a x : ℕ). (a + x) % (2 ^ 64)) 0 (map cost xs)) (range-numbers 1 m)
+          ∙ added_up cost (numbers 1 m) 0 (omega (arith, most))
+          ∙ omega (arith, total-characters nodes.weights.now plan.tree (rows_of nodes.matrix.now m plan.taxa) plan.taxa m);
     }

@@ -1,40 +1,56 @@
 -- What the check leaves of `fitting::whole::fit_columns`.
-use Rattle.std.proofs.Common.{◌≡◌, ◌-◌, length, refl, ap, ◌∙◌, arith}
+use Rattle.std.proofs.Common.{◌≡◌, ◌-◌, ◌≤◌, length, sym, refl, ap, ◌∙◌, subst, arith, rules}
 use Rattle.matrix.specs.Shape.{weight_of}
 use Rattle.branching.specs.Ancestors.{ancestors}
+use Rattle.fitting.specs.Calls.{no_branch}
 use Rattle.fitting.proofs.Rewriting.{length-column}
 use Rattle.fitting.proofs.Gathering.{start_written, written_more}
+use Rattle.fitting.specs.Trees.{TaxaTree}
+use Rattle.fitting.specs.Steps.{Fits}
+use Rattle.fitting.specs.Lists.{Lengthened, Written}
 use Rattle.fitting.proofs.whole.fit_columns.Goals as goal
 
 pub loop-j-init : goal.loop-j-init
-loop-j-init c = (omega arith, omega arith, refl, refl, refl, start_written _ _ _ _ _ _ _ _)
+loop-j-init c =
+    let none : c.default-branches.result ≡ no_branch = search rules in
+    (refl, refl, refl, rw none (start_written _ _ _ _ _ _ _ _))
 
 pub loop-j-preserved : goal.loop-j-preserved
 loop-j-preserved c =
     let loop = c.loop-j in
     let inv = loop.invariant in
-    let n = c.args.n in
+    let n = c.plan.inside.n in
     let j = loop.j in
     let low = c.write_column.ensures in
     let high = c.write_column-in-loop-j.ensures in
     let chosen = c.write_column-in-loop-j-2.ensures in
-    let taken = c.loop-j-test.true in
-    let weight : c.weight_at-weight.result ≡ weight_of c.args.weights.now j =
-    unfold weight_of in c.weight_at-weight.ensures in
-    let longer = rw weight at c.add_lengths-longer.ensures in (
-      omega arith,
-      omega arith,
-      ap length low ∙ length-column n j _ loop.low ∙ inv.2,
-      ap length high ∙ length-column n j _ loop.high ∙ inv.3,
-      ap length chosen ∙ length-column n j _ loop.chosen ∙ inv.4,
-      written_more c.args.matrix.now c.args.weights.now n c.args.m j inv.0 taken (ancestors c.args.plan.tree) _
+    let first : 1 ≤ j = omega arith in
+    let taken : j ≤ c.args.nodes.now.m = omega arith in
+    let weight : c.weight_at.result ≡ weight_of c.args.nodes.now.weights.now j =
+    unfold weight_of in c.weight_at.ensures in
+    let fits = subst (λ (r : TaxaTree). Fits r.taxa r.tree c.codes_of-codes.result c.fit_character-states.result) (sym c.plan.view_is)
+    c.fit_character-states.ensures in
+    let longer : Lengthened (weight_of c.args.nodes.now.weights.now j) n (ancestors c.plan.inside.tree) c.fit_character-states.result
+    loop.branches c.add_lengths.new.branches =
+    subst
+    (λ (r : TaxaTree). Lengthened (weight_of c.args.nodes.now.weights.now j) r.taxa r.tree c.fit_character-states.result loop.branches
+    c.add_lengths.new.branches)
+    (sym c.plan.view_is) (rw weight at c.add_lengths.ensures) in (
+      ap length low ∙ length-column n j _ loop.low ∙ inv.0,
+      ap length high ∙ length-column n j _ loop.high ∙ inv.1,
+      ap length chosen ∙ length-column n j _ loop.chosen ∙ inv.2,
+      written_more c.args.nodes.now.matrix.now c.args.nodes.now.weights.now n c.args.nodes.now.m j first taken (ancestors c.plan.inside.tree) _
           c.codes_of-codes.ensures
-          _ c.fit_character-states.ensures _ _ _ _ _ _ _ _ _ _ _
-          inv.5 low high chosen longer,
+          _ fits _ _ _ _ _ _ _ _ _ _ _
+          inv.3 low high chosen longer,
     )
 
 pub returns : goal.returns
 returns c =
     let loop = c.loop-j in
-    let all : loop.j - 1 ≡ c.args.m = omega (arith, c.loop-j-test.false) in
-    rw all at loop.invariant.5
+    let nodes = c.args.nodes.now in
+    let all : loop.j - 1 ≡ nodes.m = omega arith in
+    subst
+    (λ (r : TaxaTree). Written nodes.matrix.now nodes.weights.now r.taxa nodes.m nodes.m r.tree c.args.low.now loop.low c.args.high.now loop.high
+    c.args.chosen.now loop.chosen loop.branches)
+    c.plan.view_is (rw all at loop.invariant.3)

@@ -1,17 +1,17 @@
 -- `fitting::whole::lengthened` meets its contract. Assumes nothing.
+use Rattle.std.proofs.Common.{◌||◌, ap}
+use native.Mathlib.Nat.{mod-eq_of_lt}
 use borrow.Author.Rules.{sfits_of}
 use Rattle.difference.specs.Rows.{part}
-use Rattle.fitting.proofs.Bits.{of_bits}
+use Rattle.fitting.proofs.Bits.{of_bits, differ}
 use Rattle.fitting.proofs.whole.lengthened.Goals as goal
-
-pub returns-then-branch : goal.returns-then-branch
-returns-then-branch c =
-    let step = of_bits (part _) _ _ _ (sfits_of c.struct_told-1.given.1.1.0.1)
-    (sfits_of c.struct_told-2-1.given.1.1.0.1) c.part.ensures in
-    record { length = rw step at c.plus-length.ensures; mark = rw c.if-branch.true }
 
 pub returns : goal.returns
 returns c =
-    let step = of_bits (part _) _ _ _ (sfits_of c.struct_told-1.given.1.1.0.1)
-    (sfits_of c.struct_told-2-1.given.1.1.0.1) c.part.ensures in
-    record { length = rw step at c.plus-length.ensures; mark = rw c.if-branch.false c.marks-mark.ensures }
+    let own = sfits_of c.struct_told-1.given.1.1.0.1 in
+    let above = sfits_of c.struct_told-2-1.given.1.1.0.1 in
+    let step = of_bits (part c.args.weight) _ _ _ own above c.part.ensures in
+    record {
+      length = rw step (λ small. mod-eq_of_lt small);
+      mark = ap (λ t. c.args.branch.mark || t) (differ _ _ own above);
+    }

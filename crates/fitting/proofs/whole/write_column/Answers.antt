@@ -7,36 +7,32 @@ use Rattle.fitting.specs.Steps.{states_at}
 use Rattle.fitting.specs.Calls.{state_in}
 use Rattle.fitting.specs.Lists.{with_column}
 use Rattle.fitting.proofs.Rewriting.{column-more}
+use Rattle.fitting.proofs.Pass.Standing.{last_number}
 use Rattle.fitting.proofs.whole.write_column.Goals as goal
 
 pub loop-v-init : goal.loop-v-init
 unfolding stripes numbers
 loop-v-init c =
     let none : c.args.n + 1 - (c.args.n + 1) ≡ 0 = omega arith in
-    (omega arith, omega arith, refl, rw none)
+    (refl, rw none)
 
 pub loop-v-preserved : goal.loop-v-preserved
 loop-v-preserved c =
     let loop = c.loop-v in
     let inv = loop.invariant in
-    let z : ℤ = c.state_in.result in
-    let fits : to_z w32 (of_z w32 z) ≡ z = to_z-of_z {w = w32} (sfits_of c.state_in.type_inv) in (
-      omega arith,
-      omega arith,
-      simp length-set inv.2,
-      rw (fits, c.state_in.ensures)
-          (column-more c.args.n c.args.j loop.v (λ u. state_in c.args.which (states_at c.args.states u)) _
-          loop.out
-          inv.0 inv.3),
+    let z : ℤ = c.get.result in
+    let fits : to_z w32 (of_z w32 z) ≡ z = to_z-of_z {w = w32} (sfits_of c.get.type_inv) in (
+      simp length-set inv.0,
+      rw (fits, c.get.ensures)
+          (column-more c.args.n c.args.j loop.v (λ u. state_in c.args.which (states_at c.args.states.now u)) _ loop.out (omega arith) inv.1),
     )
 
 pub returns : goal.returns
 unfolding with_column
 returns c =
     let loop = c.loop-v in
-    let inv = loop.invariant in
     let n = c.args.n in
-    let end = c.nodes_end-end.ensures in
+    let end = last_number _ _ c.requires.2 c.last_node-v-end.ensures in
     let some = c.requires.1 in
-    let last : loop.v - (n + 1) ≡ n - 2 = omega (arith, c.loop-v-test.false) in
-    rw last at inv.3
+    let last : loop.v - (n + 1) ≡ n - 2 = omega arith in
+    rw last at loop.invariant.1

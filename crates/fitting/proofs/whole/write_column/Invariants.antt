@@ -1,5 +1,5 @@
 -- `fitting::whole::write_column` meets its contract. The loop's invariant: the states of the HTUs passed are written. Assumes nothing.
-use Rattle.std.proofs.Common.{◌≡◌, ◌+◌, ◌-◌, ◌≤◌, max, [], ◌∷◌, map, length}
+use Rattle.std.proofs.Common.{◌≡◌, ◌+◌, ◌-◌, [], ◌∷◌, map, length}
 use Rattle.lists.specs.Numbers.{numbers}
 use Rattle.lists.specs.Over.{stripes}
 use Rattle.matrix.specs.Shape.{columns, row_start}
@@ -9,11 +9,6 @@ use Rattle.fitting.proofs.whole.write_column.Given as goal
 
 abbrev pub invariant-loop-v : goal.invariant-loop-v
 invariant-loop-v l =
-    (l.n + 1 ≤ l.v)
-    × (l.v ≤ max (l.n + 1) l.end)
-    × (length l.out ≡ length l.initial.out)
+    (length l.out ≡ length l.initial.out)
     × (l.out ≡ stripes columns (row_start (l.n + 1) + (l.j - 1)) (map (λ u. state_in l.which (states_at l.states u) ∷ []) (numbers (l.n + 1) (l.v -
     (l.n + 1)))) l.initial.out)
-
-abbrev pub decreases-loop-v : goal.decreases-loop-v
-decreases-loop-v l = l.end - l.v
