@@ -2,7 +2,7 @@
 use mathlib.Core.Path.{◌≡◌, refl, sym, ap, ◌∙◌}
 use mathlib.Core.Bool.{true, false, true≢false}
 use mathlib.Core.List.{List, [], ◌∷◌}
-use Prim.Native.Nat.{ℕ, zero, suc, ◌+◌, ◌-◌, ◌*◌, ◌/◌, ◌≤◌, ◌<◌}
+use Prim.Native.Nat.{ℕ, zero, suc, ◌+◌, ◌-◌, ◌*◌, ◌≤◌, ◌<◌}
 use native.Mathlib.Numerals.{add-one}
 use native.Mathlib.Omega.{arith}
 use mir.Facts.{to_z-of_z}
@@ -10,17 +10,23 @@ use mir.Syntax.{w32}
 use mir.Val.{SFits, of_z, to_z}
 use borrow.Author.Tests.{eq-eqb, ne_eqb, le-leb, lt-leb, ltb-true}
 use lib.IntN.{ℤ, pos, negsuc}
-use lib.ListN.{length, get_or, take, drop, length-drop, drop_of_length-le}
-use lib.Seq.{drop-cons, take_all}
+use lib.ListN.{length, get_or, take, drop, drop_of_length-le}
+use lib.Seq.{drop-cons}
 use lib.Signed.{lt_z}
+use Rattle.std.specs.Borrow.{Bor}
+use Rattle.std.specs.Prelude.{Option, Some, None, MatchOption}
+use Rattle.std.specs.Option.{option_map, unwrap_or}
+use Rattle.consistency.specs.declared.index.Index.{Index}
 use Rattle.lists.proofs.Numbers.{map-numbers}
 use Rattle.difference.specs.Rows.{apart}
 use Rattle.difference.proofs.Laws.Codes.{apart_from_zero}
-use Rattle.file_form.specs.Bytes.{tab, minus, part_length, first_part}
+use Rattle.file_form.specs.Bytes.{minus, part_length, first_part}
 use Rattle.file_form.specs.Decimal.{digits_of, decimal}
 use Rattle.file_form.specs.Text.{bytes}
 use Rattle.file_form.specs.Job.{name_size}
-use Rattle.lines.specs.Lines.{hyphen, htu_name, node_name}
+use Rattle.lines.specs.Lines.{line, hyphen, htu_name, node_name}
+use Rattle.lines.specs.Kinds.{index_line}
+use Rattle.lines.specs.Fields.{or_hyphen}
 use Rattle.lines.specs.Names.{name_bytes, names_in}
 
 -- a code below zero
@@ -38,10 +44,6 @@ code-above (negsuc n) h = absurd (true≢false h)
 -- a code handed on is the code
 pub same_code : {z : ℤ} → SFits w32 z → decimal (to_z w32 (of_z w32 z)) ≡ decimal z
 same_code f = rw (to_z-of_z f)
-
--- and so it is behind a tab
-pub tab-code : {z : ℤ} → SFits w32 z → tab ∷ decimal (to_z w32 (of_z w32 z)) ≡ tab ∷ decimal z
-tab-code f = rw (to_z-of_z f)
 
 -- the first part ends at a separator
 part-ends : (s b : ℕ) (bs : List ℕ) → b ≡ s → first_part s (b ∷ bs) ≡ []
@@ -67,30 +69,13 @@ module _ (s : ℕ) (text : List ℕ) (i : ℕ) where
   unfolding first_part part_length
   first_past h = rw (drop_of_length-le text h)
 
-module _ (lent : List ℕ) (k : ℕ) where
-  -- the bytes of a name beyond the lent list are none
-  pub name_beyond : length lent / name_size < k → take (length lent - length lent) (drop (length lent) lent) ≡ name_bytes lent k
-  unfolding name_bytes
-  name_beyond h =
-      let none : length lent - length lent ≡ 0 = omega arith in
-      let behind : length lent ≤ k * name_size = omega arith in
-      ap (λ size. take size (drop (length lent) lent)) none ∙ sym (ap (take name_size) (drop_of_length-le lent behind))
-
-  -- of a name at the end of the lent list, what is left
-  pub name_rest : length lent - k * name_size < name_size
-      → take (length lent - k * name_size) (drop (k * name_size) lent) ≡ name_bytes lent k
-  unfolding name_bytes
-  name_rest h =
-      let whole : length (drop (k * name_size) lent) ≤ length lent - k * name_size = omega (arith, length-drop (k * name_size) lent) in
-      let within : length (drop (k * name_size) lent) ≤ name_size = omega (arith, length-drop (k * name_size) lent) in
-      take_all (length lent - k * name_size) (drop (k * name_size) lent) whole ∙ sym (take_all name_size (drop (k * name_size) lent) within)
-
-  -- of any other name all its bytes
-  pub name_whole : take (k * name_size + name_size - k * name_size) (drop (k * name_size) lent) ≡ name_bytes lent k
-  unfolding name_bytes
-  name_whole =
-      let size : k * name_size + name_size - k * name_size ≡ name_size = omega arith in
-      ap (λ (size : ℕ). take size (drop (k * name_size) lent)) size
+-- the bytes of a name: those of its part of the lent list, and none beyond its end
+pub name_got : (lent : List ℕ) (k : ℕ) (got : Option (Bor (List ℕ))) (none r : Bor (List ℕ)) → none.now ≡ []
+    → MatchOption got (length lent ≤ k * name_size) (λ x. x.now ≡ take name_size (drop (k * name_size) lent)) → r ≡ unwrap_or got none
+    → r.now ≡ name_bytes lent k
+unfolding name_bytes
+name_got lent k (Some x) none r empty there is = ap (λ x. x.now) is ∙ there
+name_got lent k None none r empty beyond is = ap (λ x. x.now) is ∙ empty ∙ sym (ap (take name_size) (drop_of_length-le lent beyond))
 
 module _ (n : ℕ) (names : List (List ℕ)) where
   -- an HTU is printed by its number
@@ -123,3 +108,11 @@ node_lent n lent v some h =
     ap (λ k. first_part 0 (name_bytes lent k)) same
     ∙ sym (map-numbers (λ k. first_part 0 (name_bytes lent k)) [] 0 n (v - 1) place)
     ∙ sym (node_taxon n (names_in n lent) v first h)
+
+-- the line `c` by its two fields, each of them a hyphen where there is no index
+pub index_fields : (index : Option Index)
+    → line (bytes "c" ∷ or_hyphen digits_of (option_map (λ (found : Index). found.quotient) index) ∷ or_hyphen digits_of (option_map (λ (found : Index). found.remainder) index) ∷ [])
+    ≡ index_line index
+unfolding or_hyphen index_line
+index_fields (Some index) = refl
+index_fields None = refl

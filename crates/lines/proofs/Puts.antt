@@ -1,25 +1,20 @@
--- Texts put one after another into a lent list.
+-- Texts put one after another into a listing.
 use mathlib.Core.Path.{◌≡◌, refl, sym, ap, ◌∙◌}
 use mathlib.Core.List.{List, [], ◌∷◌, ◌++◌}
 use Prim.Native.Nat.{ℕ, ◌+◌, ◌≤◌, ◌<◌}
 use native.Mathlib.Numerals.{add-one}
 use borrow.Author.Tests.{lt-ltb, le-ltb}
 use lib.ListN.{length, set}
+use Rattle.file_form.specs.Bytes.{tab}
+use Rattle.lines.specs.declared.put.Listing.{Listing}
 use Rattle.lines.specs.Put.{put_byte, put_text, Put}
+use Rattle.lines.specs.Puts.{Puts}
 
 -- a text and one behind it
 pub put_append : (xs ys : List ℕ) (state : List ℕ × ℕ) → put_text (xs ++ ys) state ≡ put_text ys (put_text xs state)
 unfolding put_text
 put_append [] ys state = refl
 put_append (x ∷ xs) ys state = put_append xs ys (put_byte x state)
-
--- one text, and another behind it
-pub put_then : {xs ys old mid new : List ℕ} {at next last : ℕ} → Put xs old at mid next → Put ys mid next new last → Put (xs ++ ys) old at new last
-put_then {xs} {ys} {old} {at = at} p q = record { is = q.is ∙ ap (put_text ys) p.is ∙ sym (put_append xs ys (old, at)) }
-
--- the same text, said in other words
-pub put_same : {xs ys old new : List ℕ} {at next : ℕ} → xs ≡ ys → Put xs old at new next → Put ys old at new next
-put_same {old = old} {at = at} e p = record { is = p.is ∙ ap (λ text. put_text text (old, at)) e }
 
 -- a byte where there is room
 pub put_room : (byte : ℕ) (old : List ℕ) (at : ℕ) → at < length old → Put (byte ∷ []) old at (set old at byte) (at + 1)
@@ -31,25 +26,41 @@ pub put_full : (byte : ℕ) (old : List ℕ) (at : ℕ) → length old ≤ at �
 unfolding put_text put_byte
 put_full byte old at h = record { is = rw (le-ltb at (length old) h, put_byte) }
 
+-- one text, and another behind it
+pub put_then : {xs ys : List ℕ} {old mid new : Listing} → Puts xs old mid → Puts ys mid new → Puts (xs ++ ys) old new
+put_then {xs} {ys} {old} p q =
+    record {
+      put = record { is = q.put.is ∙ ap (put_text ys) p.put.is ∙ sym (put_append xs ys (old.out.now, old.at)) };
+      same = q.same ∙ p.same;
+    }
+
+-- the same text, said in other words
+pub put_same : {xs ys : List ℕ} {old new : Listing} → xs ≡ ys → Puts xs old new → Puts ys old new
+put_same {old = old} e p = record { put = record { is = p.put.is ∙ ap (λ text. put_text text (old.out.now, old.at)) e }; same = p.same }
+
+-- a field behind a tab, said in other words
+pub put_said : {field said : List ℕ} {old new : Listing} → field ≡ said → Puts (tab ∷ field) old new → Puts (tab ∷ said) old new
+put_said e p = put_same (ap (λ text. tab ∷ text) e) p
+
 -- what is still to be put so that in all `whole` is put
-pub record Left (whole old : List ℕ) (at : ℕ) (rest out : List ℕ) (next : ℕ) : Type 0 where
-  pub is : put_text rest (out, next) ≡ put_text whole (old, at)
+pub record Left (whole : List ℕ) (old : Listing) (rest : List ℕ) (now : Listing) : Type 0 where
+  pub is : put_text rest (now.out.now, now.at) ≡ put_text whole (old.out.now, old.at)
+  pub same : now.out.ghost_name ≡ old.out.ghost_name
 
 -- at first all of it
-pub left_start : (whole old : List ℕ) (at : ℕ) → Left whole old at whole old at
-left_start whole old at = record { is = refl }
+pub left_start : (whole : List ℕ) (old : Listing) → Left whole old whole old
+left_start whole old = record { is = refl; same = refl }
 
 -- when nothing is left it is put
-pub left_end : {whole old out : List ℕ} {at next : ℕ} → Left whole old at [] out next → Put whole old at out next
+pub left_end : {whole : List ℕ} {old now : Listing} → Left whole old [] now → Puts whole old now
 unfolding put_text
-left_end l = record { is = l.is }
+left_end l = record { put = record { is = l.is }; same = l.same }
 
 -- a part of what is left is put
-pub left_put : {whole old text rest out new : List ℕ} {at next last : ℕ} → Left whole old at (text ++ rest) out next → Put text out next new last
-    → Left whole old at rest new last
-left_put {text = text} {rest} {out} {next = next} l p =
-    record { is = ap (put_text rest) p.is ∙ sym (put_append text rest (out, next)) ∙ l.is }
+pub left_put : {whole text rest : List ℕ} {old now new : Listing} → Left whole old (text ++ rest) now → Puts text now new → Left whole old rest new
+left_put {text = text} {rest} {now = now} l p =
+    record { is = ap (put_text rest) p.put.is ∙ sym (put_append text rest (now.out.now, now.at)) ∙ l.is; same = p.same ∙ l.same }
 
 -- what is left, said in other words
-pub left_same : {whole old rest said out : List ℕ} {at next : ℕ} → rest ≡ said → Left whole old at rest out next → Left whole old at said out next
-left_same {out = out} {next = next} e l = record { is = ap (λ text. put_text text (out, next)) (sym e) ∙ l.is }
+pub left_same : {whole rest said : List ℕ} {old now : Listing} → rest ≡ said → Left whole old rest now → Left whole old said now
+left_same {now = now} e l = record { is = ap (λ text. put_text text (now.out.now, now.at)) (sym e) ∙ l.is; same = l.same }

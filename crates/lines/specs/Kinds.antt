@@ -1,12 +1,11 @@
 -- The kinds of line that a listing has, each by what it is to say.
-use Rattle.std.specs.Prelude.{List, [], ◌∷◌, Bool, true, false, ℕ, ℤ}
+use Rattle.std.specs.Prelude.{List, [], ◌∷◌, Bool, true, false, Option, Some, None, ℕ, ℤ}
 use Prim.Native.String.{String}
 use Rattle.file_form.specs.Decimal.{digits_of, decimal}
 use Rattle.file_form.specs.Text.{bytes}
 use Rattle.prim.specs.Network.{Link}
 use Rattle.branching.specs.declared.placement.Placement.{Placement}
 use Rattle.consistency.specs.declared.index.Index.{Index}
-use Rattle.consistency.specs.declared.index.Index.TheVariants.{Divided, NoTotal}
 use Rattle.lines.specs.Lines.{line, hyphen, node_name}
 
 -- the line of a block's total, with the letter that begins it
@@ -18,9 +17,9 @@ unfoldable pub total_text : ℕ → ℕ → List ℕ
 total_text letter total = line ((letter ∷ []) ∷ digits_of total ∷ [])
 
 -- `c`: quotient and remainder of the consistency index, or two hyphens where there is none
-unfoldable pub index_line : Index → List ℕ
-index_line (Divided quotient remainder) = line (bytes "c" ∷ digits_of quotient ∷ digits_of remainder ∷ [])
-index_line NoTotal = line (bytes "c" ∷ hyphen ∷ hyphen ∷ [])
+unfoldable pub index_line : Option Index → List ℕ
+index_line (Some index) = line (bytes "c" ∷ digits_of index.quotient ∷ digits_of index.remainder ∷ [])
+index_line None = line (bytes "c" ∷ hyphen ∷ hyphen ∷ [])
 
 -- the one line of a refusal: `R`, its number, the line of the file
 unfoldable pub refusal_line : ℕ → ℕ → List ℕ

@@ -2,4 +2,6 @@
 pub mod Lines
 pub mod Kinds
 pub mod Names
+pub mod Fields
 pub mod Put
+pub mod Puts

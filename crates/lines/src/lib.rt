@@ -1,8 +1,11 @@
-// The bytes, fields and lines of a listing, put into a lent list.
+// The bytes, fields and lines of a listing, put into lent bytes.
 #![tactic(auto)]
 
-// The lines, one function for each kind.
-pub mod lines;
-
-// Bytes and fields: numbers, codes, names, nodes and marks.
-mod put;
+// What a field of a line says: a number, a code, a mark, a node, or nothing.
+mod field;
+// The lines, one method for each kind.
+mod lines;
+// The names of taxa in lent bytes, and the nodes that they name.
+pub mod names;
+// A listing under way.
+pub mod put;

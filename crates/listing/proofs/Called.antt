@@ -2,25 +2,25 @@
 use mathlib.Core.Path.{◌≡◌, ap}
 use mathlib.Core.List.{List}
 use Prim.Native.Nat.{ℕ}
+use Rattle.std.specs.Prelude.{Ok, Err}
 use native.Mathlib.Omega.{arith}
 use borrow.Author.Tests.{eq-eqb, ne_eqb}
 use lib.ListN.{length}
 use Rattle.matrix.specs.Outcomes.{value}
 use Rattle.matrix.specs.declared.refusal.Refusal.TheVariants.{ListSize}
 use Rattle.lines.specs.Put.{Put}
-use Rattle.listing.specs.declared.call.Listed.TheVariants.{Written, Refused}
 use Rattle.listing.specs.Listing.{output}
 use Rattle.listing.specs.Call.{output_size, ask_output, ListDone}
 use Rattle.listing.proofs.PutFront.{put_front}
 use Rattle.listing.proofs.Bounds.Output.{output_room}
 
 -- not as many bytes were lent as are asked for: nothing is written
-pub list-refused : (file old : List ℕ) → (length old ≡ output_size → ⊥) → ListDone file old old (Refused ListSize)
+pub list-refused : (file old : List ℕ) → (length old ≡ output_size → ⊥) → ListDone file old old (Err ListSize)
 unfolding ask_output
 list-refused file old h = record { says = rw (ne_eqb (length old) output_size h); bytes = rw (ne_eqb (length old) output_size h) }
 
 -- what is printed was put into as many: it stands in front, whole
-pub list_written : (file old new : List ℕ) (next : ℕ) → length old ≡ output_size → Put (output file) old 0 new next → ListDone file old new (Written next)
+pub list_written : (file old new : List ℕ) (next : ℕ) → length old ≡ output_size → Put (output file) old 0 new next → ListDone file old new (Ok next)
 unfolding ask_output
 list_written file old new next full put =
     let front = put_front put (omega (arith, output_room file)) in

@@ -1,11 +1,11 @@
 -- What is found of a tree by a lent matrix, by the promises of the calls, and that the text put for it is that of its blocks.
 use mathlib.Core.Path.{◌≡◌, ap, ap₂, ◌∙◌}
-use mathlib.Core.Bool.{true, false}
+use mathlib.Core.Bool.{true}
 use mathlib.Core.List.{List, ◌++◌, append_assoc}
 use Prim.Native.Nat.{ℕ}
 use native.Mathlib.Omega.{arith}
 use lib.IntN.{ℤ}
-use lib.ListN.{length, get_or}
+use Rattle.std.specs.Prelude.{Option}
 use Rattle.matrix.specs.NodeRows.{rows_of}
 use Rattle.matrix.specs.Questions.{LentMatrix, LentWeights}
 use Rattle.file_form.specs.Job.{Job}
@@ -13,7 +13,7 @@ use Rattle.difference.specs.Rows.{Measure, weighing}
 use Rattle.branching.specs.declared.tree.Tree.{Tree}
 use Rattle.branching.specs.Ancestors.{ancestors, ancestor}
 use Rattle.branching.specs.Within.{branching_within}
-use Rattle.fitting.specs.Calls.{TreeFitted}
+use Rattle.fitting.specs.Calls.{branch_at, TreeFitted}
 use Rattle.fitting.specs.Fit.{states_in}
 use Rattle.fitting.specs.declared.whole.Fit.{Fit}
 use Rattle.fitting.specs.declared.whole.Which.TheVariants.{Low, High, Chosen}
@@ -39,16 +39,14 @@ use Rattle.listing.proofs.HandedTexts.{fitted-text, range-text}
 module _ (codes : List ℤ) (weights : List ℕ) (n m : ℕ) (lent : LentMatrix codes n m) (weighed : LentWeights weights m) (tree : List ℕ)
     (whole : branching_within n tree ≡ true) (low low' high high' chosen chosen' : List ℤ) (full : StateLists low high chosen) (fit : Fit)
     (fitted : TreeFitted codes weights n m tree low low' high high' chosen chosen' fit)
-    (least : ℕ) (f : FloorOf codes weights n m least) (consistency : Index) (indexed : IndexOf least fit.total consistency) where
+    (least : ℕ) (f : FloorOf codes weights n m least) (consistency : Option Index) (indexed : IndexOf least fit.total consistency) where
   -- what was found
-  pub fitted_found : length low' ≡ length low → length high' ≡ length high → length chosen' ≡ length chosen
-      → FittedOf (weighing weights) (rows_of codes m n) n m tree low' high' chosen' (record { fit = fit; index = consistency })
+  pub fitted_found : FittedOf (weighing weights) (rows_of codes m n) n m tree low' high' chosen' (record { fit = fit; index = consistency })
   unfolding states_in
-  fitted_found a b d =
+  fitted_found =
       let found = fitted.fitted whole lent weighed full.low_full full.high_full full.chosen_full in
       let is = f.is lent in
       record {
-        full = record { low_full = a ∙ full.low_full; high_full = b ∙ full.high_full; chosen_full = d ∙ full.chosen_full };
         fit = found.0;
         index = indexed.is (omega (arith, is, floor-most codes weights n m lent weighed)) ∙ ap₂ index is found.0.total;
         states = record {
@@ -69,7 +67,6 @@ pub found_same : (measure : Measure) (rows : List (List ℤ)) (n m : ℕ) (old n
     → (low high chosen : List ℤ) (r : FittedTree) → FittedOf measure rows n m old low high chosen r → FittedOf measure rows n m new low high chosen r
 found_same measure rows n m old new same low high chosen r found =
     record {
-      full = found.full;
       fit = fit_same old new same rows n measure.step m r.fit found.fit;
       index = found.index ∙ ap (index (floor measure.step rows n m)) (total-same old new same rows n measure.step m);
       states = record {
@@ -95,8 +92,8 @@ module _ (measure : Measure) (job : Job) (given : Tree) (tree : List ℕ) (same 
       ap₂ ◌++◌
       (flat_map-same _ _ _
       (λ v m.
-      ap (λ above. branch_line job.n (names_in job.n lent) v above (get_or r.fit.lengths v 0) (get_or r.fit.marks v false)) (same v))
-      ∙ fitted-text job.n job.names lent named tree job.rows job.m measure.step r.fit.lengths r.fit.marks
+      ap (λ above. branch_line job.n (names_in job.n lent) v above (branch_at r.fit.branches v).length (branch_at r.fit.branches v).mark) (same v))
+      ∙ fitted-text job.n job.names lent named tree job.rows job.m measure.step r.fit.branches
       (record { length_at = plain.fit.lengths; mark_at = plain.fit.marks }))
       (ap (total_line "t") plain.fit.total)
 

@@ -4,26 +4,27 @@ use mathlib.Core.Bool.{true}
 use mathlib.Core.List.{List, ◌++◌, append_assoc}
 use Prim.Native.Nat.{ℕ}
 use lib.IntN.{ℤ}
+use borrow.Author.Rules.{rules}
+use Rattle.std.specs.Prelude.{Result, Ok, Err, IsOk}
 use Rattle.matrix.specs.Shape.{row}
 use Rattle.matrix.specs.NodeRows.{rows_of}
 use Rattle.matrix.specs.Questions.{LentMatrix, LentWeights, ask_matrix}
-use Rattle.matrix.specs.declared.refusal.Asked.TheVariants.{Passed}
+use Rattle.matrix.specs.declared.refusal.Refusal.{Refusal}
 use Rattle.matrix.proofs.Passing.{matrix_passes}
 use Rattle.file_form.specs.Job.{Job}
 use Rattle.file_form.specs.declared.header.Kind.TheVariants.{Wagner}
 use Rattle.difference.specs.Rows.{difference, node_difference, Measure, weighing}
 use Rattle.prim.specs.Network.{network}
 use Rattle.prim.specs.Answers.{Holds, NetworkAnswer}
-use Rattle.prim.specs.declared.answer.Answer.{Answer}
-use Rattle.prim.proofs.Lent.{answer_holds}
+use Rattle.prim.specs.declared.answer.Network.{Network}
 use Rattle.branching.specs.Ancestors.{ancestors, ancestor}
 use Rattle.branching.specs.Within.{branching_within}
 use Rattle.branching.proofs.Within.{branching-plain}
-use Rattle.wagner.specs.declared.order.Order.{Order}
-use Rattle.wagner.specs.declared.build.WagnerTree.{WagnerTree}
+use Rattle.branching.specs.declared.order.Order.{Order}
+use Rattle.wagner.specs.declared.answer.WagnerTree.{WagnerTree}
 use Rattle.wagner.specs.Build.{Built, wagner, wagner_length}
 use Rattle.wagner.specs.Matrix.{matrix_after}
-use Rattle.wagner.specs.Answers.{wagner_in, build_says, placements_in, BuildDone}
+use Rattle.wagner.specs.Answers.{wagner_in, BuiltFrom, BuildDone}
 use Rattle.wagner.proofs.StillLent.{still_lent, same-taxa}
 use Rattle.rivals.proofs.Lent.{same-network}
 use Rattle.rivals.proofs.Built.{built-whole}
@@ -37,7 +38,7 @@ use Rattle.listing.specs.Listing.{listing}
 use Rattle.listing.specs.Handed.{HoldsNames, HoldsPlacements, prim_texts, wagner_texts}
 use Rattle.listing.specs.Found.{SizesWithin, FittedOf, ResultsOf, result_texts}
 use Rattle.listing.proofs.Parts.{links_of, built_of, prim_lines, wagner_lines, prim_total, wagner_total, built-text}
-use Rattle.listing.proofs.HandedTexts.{links-within, placements-within, prim_text, wagner-text}
+use Rattle.listing.proofs.HandedTexts.{prim_text, wagner-text}
 use Rattle.listing.proofs.FittedTrees.{tree_put}
 
 -- a block with the line of its total, and what follows it
@@ -100,41 +101,48 @@ module _ (job : Job) (kind : job.kind ≡ Wagner) (codes : List ℤ) (rows : job
 pub lent-sizes : (codes : List ℤ) (n m : ℕ) → LentMatrix codes n m → SizesWithin n m
 lent-sizes codes n m lent = record { some = lent.taxon; taxa = lent.taxa; characters = lent.characters }
 
+-- no question refuses a lent matrix
+lent_passes : (codes : List ℤ) (weights : List ℕ) (n m : ℕ) → LentMatrix codes n m → LentWeights weights m → ask_matrix codes weights n m ≡ Ok tt
+lent_passes codes weights n m lent weighed = (matrix_passes codes weights n m).1 (lent, weighed)
+
+-- so its network is handed back
+pub lent_network : (codes : List ℤ) (weights : List ℕ) (n m : ℕ) (r : Result Network Refusal) → LentMatrix codes n m → LentWeights weights m
+    → NetworkAnswer codes weights n m r → IsOk r
+lent_network codes weights n m (Ok links) lent weighed answer = search rules
+lent_network codes weights n m (Err refusal) lent weighed answer = let passed = lent_passes codes weights n m lent weighed in cc
+
+-- and its tree is built
+pub lent_built : (order : Order) (codes after : List ℤ) (weights : List ℕ) (n m : ℕ) (r : Result WagnerTree Refusal) → LentMatrix codes n m
+    → LentWeights weights m → BuildDone order codes after weights n m r → IsOk r
+lent_built order codes after weights n m (Ok built) lent weighed done = search rules
+lent_built order codes after weights n m (Err refusal) lent weighed done =
+    let passed = lent_passes codes weights n m lent weighed in
+    let refused = done.refused in
+    cc
+
 -- what the calls for network, build and the tree built promise of a lent matrix
 module _ (order : Order) (codes after : List ℤ) (weights : List ℕ) (n m : ℕ) (lent : LentMatrix codes n m)
-    (weighed : LentWeights weights m) (answer : Answer) (links : NetworkAnswer codes weights n m answer)
-    (built : WagnerTree) (done : BuildDone order codes after weights n m built) where
-  -- no question refuses
-  pass : ask_matrix codes weights n m ≡ Passed
-  pass = (matrix_passes codes weights n m).1 (lent, weighed)
-
-  -- the network is the matrix's own
-  found_network : Holds (network (node_difference (difference weights) (row codes m)) n) answer.network
-  found_network = answer_holds codes weights n m answer links pass
-
+    (weighed : LentWeights weights m) (links : Network) (held : Holds (network (node_difference (difference weights) (row codes m)) n) links)
+    (built : WagnerTree) (done : BuiltFrom order codes after weights n m built) where
   -- the tree is its Wagner tree
   found_tree : ancestors built.tree ≡ (wagner_in order codes weights n m).tree
-  unfolding build_says
-  found_tree = rw pass at done.tree
+  found_tree = done.tree
 
   -- with its placements
   found_placements : HoldsPlacements (wagner_in order codes weights n m).placements built.placements built.count
-  unfolding build_says placements_in
-  found_placements = record { list = rw pass at done.placements; count = rw pass at done.count }
+  found_placements = record { list = done.placements; count = done.count }
 
   -- and its length
   found_length : built.length ≡ wagner_length (difference weights) n (wagner_in order codes weights n m)
-  unfolding build_says
-  found_length = rw pass at done.whole
+  found_length = done.whole
 
   -- the matrix then
   found_matrix : after ≡ matrix_after codes n (wagner_in order codes weights n m)
-  unfolding build_says
-  found_matrix = rw pass at done.matrix
+  found_matrix = done.matrix
 
   -- the tree is a branching
   pub found_branching : branching_within n (ancestors built.tree) ≡ true
-  found_branching = branching-plain n (ancestors built.tree) lent.taxa ∙ built-whole order codes after weights n m built done pass
+  found_branching = branching-plain n (ancestors built.tree) lent.taxa ∙ built-whole order codes after weights n m built done
 
   -- the matrix is still a lent one
   pub found_lent : LentMatrix after n m
@@ -147,15 +155,11 @@ module _ (order : Order) (codes after : List ℤ) (weights : List ℕ) (n m : �
   -- what was found
   pub results_found : (low high chosen : List ℤ) (fitted : FittedTree)
       → FittedOf (weighing weights) (rows_of after m n) n m (ancestors built.tree) low high chosen fitted
-      → ResultsOf order codes weights n m low high chosen (record { network = answer.network; built = built; fitted = fitted })
+      → ResultsOf order codes weights n m low high chosen (record { network = links; built = built; fitted = fitted })
   unfolding wagner_in
   results_found low high chosen fitted of = record {
-    listable = record {
-      sizes = lent-sizes codes n m lent;
-      links = links-within _ n answer.network lent.taxa found_network;
-      placements = placements-within (difference weights) order n (rows_of codes m n) built.placements built.count lent.taxa found_placements;
-    };
-    network = found_network;
+    sizes = lent-sizes codes n m lent;
+    network = held;
     tree = found_tree;
     placements = found_placements;
     whole = found_length;

@@ -1,6 +1,5 @@
 -- What is put for what is handed in is what the definitions print: the lines of each block, under what the arrays and lists hold.
 use mathlib.Core.Path.{◌≡◌, sym, ap, ◌∙◌}
-use mathlib.Core.Bool.{Bool}
 use mathlib.Core.List.{List, map, flat_map, Memᴰ}
 use Prim.Native.Nat.{ℕ, ◌+◌, ◌-◌, ◌*◌, ◌≤◌, ◌<◌}
 use native.Mathlib.Omega.{arith}
@@ -10,14 +9,14 @@ use Rattle.lists.specs.Numbers.{numbers}
 use Rattle.lists.proofs.Filled.{filled-first}
 use Rattle.lists.proofs.Numbers.{numbers-within}
 use Rattle.matrix.specs.Outcomes.{refused}
-use Rattle.prim.specs.Network.{Link, network}
-use Rattle.prim.specs.Answers.{most_links, Holds}
+use Rattle.prim.specs.Network.{Link}
+use Rattle.prim.specs.Answers.{Holds}
 use Rattle.prim.specs.declared.answer.Network.{Network}
-use Rattle.prim.proofs.Placing.{network-length}
 use Rattle.prim.proofs.Holding.{holds-first}
 use Rattle.branching.specs.declared.placement.Placement.{Placement}
 use Rattle.branching.specs.Ancestors.{ancestor}
 use Rattle.branching.specs.Nodes.{other_nodes}
+use Rattle.fitting.specs.declared.whole.BranchFit.{BranchFit}
 use Rattle.lines.specs.Lines.{joined}
 use Rattle.lines.specs.Kinds.{prim_line, wagner_line, branch_line, state_line, refusal_line}
 use Rattle.lines.specs.Names.{names_in}
@@ -25,10 +24,7 @@ use Rattle.listing.specs.Blocks.{fitted_line, fitted_lines, range_line, range_li
 use Rattle.listing.specs.Listing.{printed}
 use Rattle.listing.specs.Handed.{HoldsNames, HoldsPlacements, HoldsFit, HoldsStates, branch_text_at, branch_texts, state_text_at, node_texts, state_texts}
 use Rattle.branching.specs.Unasked.{no_placement}
-use Rattle.wagner.specs.declared.order.Order.{Order}
 use Rattle.wagner.specs.Answers.{most_placements}
-use Rattle.wagner.specs.Build.{wagner}
-use Rattle.listing.proofs.Parts.{wagner-count}
 use Rattle.listing.proofs.Joined.{joined-one, joined-map, joined-each, flat_map-same}
 use Rattle.listing.proofs.Unpadded.{same_names}
 
@@ -36,16 +32,6 @@ use Rattle.listing.proofs.Unpadded.{same_names}
 pub refusal_text : (number at : ℕ) → refusal_line number at ≡ joined (printed (refused number at))
 unfolding printed
 refusal_text number at = sym (joined-one (refusal_line number at))
-
--- a Prim Network of at most 64 taxa that is held has at most 63 links
-pub links-within : (d : ℕ → ℕ → ℕ) (n : ℕ) (r : Network) → n ≤ 64 → Holds (network d n) r → r.count ≤ most_links
-links-within d n r h held = omega (arith, held.count, network-length d n)
-
--- and its Wagner tree has at most 63 placements
-pub placements-within : (d : List ℤ → List ℤ → ℕ) (order : Order) (n : ℕ) (rows : List (List ℤ)) (array : List Placement) (count : ℕ)
-    → n ≤ 64
-    → HoldsPlacements (wagner d order n rows).placements array count → count ≤ most_placements
-placements-within d order n rows array count h held = omega (arith, held.count, wagner-count d order n rows)
 
 module _ (n : ℕ) (names : List (List ℕ)) (lent : List ℕ) (named : HoldsNames n names lent) where
   -- a `P` line with the names that the lent bytes hold
@@ -76,10 +62,10 @@ module _ (n : ℕ) (names : List (List ℕ)) (lent : List ℕ) (named : HoldsNam
       ∙ sym (joined-map (wagner_line n names) placements)
 
   module _ (tree : List ℕ) (rows : List (List ℤ)) (m : ℕ) where
-    module _ (step : ℕ → ℤ → ℤ → ℕ) (lengths : List ℕ) (marks : List Bool) (held : HoldsFit step tree rows n m lengths marks) where
+    module _ (step : ℕ → ℤ → ℤ → ℕ) (branches : List BranchFit) (held : HoldsFit step tree rows n m branches) where
       -- a `T` line with the length and the mark of the fit
       branch_fitted : (v : ℕ) → 2 ≤ v → v ≤ 2 * n - 2
-          → branch_text_at n (names_in n lent) tree lengths marks v ≡ fitted_line n names tree rows m step v
+          → branch_text_at n (names_in n lent) tree branches v ≡ fitted_line n names tree rows m step v
       unfolding branch_text_at branch_line fitted_line
       branch_fitted v low high =
           rw (
@@ -89,11 +75,11 @@ module _ (n : ℕ) (names : List (List ℕ)) (lent : List ℕ) (named : HoldsNam
             same_names n names lent named (ancestor tree v),
           )
 
-      -- the `T` lines put for lengths and marks are those of the fit
-      pub fitted-text : branch_texts n (names_in n lent) tree lengths marks ≡ joined (fitted_lines n names tree rows m step)
+      -- the `T` lines put for branches are those of the fit
+      pub fitted-text : branch_texts n (names_in n lent) tree branches ≡ joined (fitted_lines n names tree rows m step)
       unfolding branch_texts fitted_lines other_nodes
       fitted-text =
-          flat_map-same (branch_text_at n (names_in n lent) tree lengths marks) (fitted_line n names tree rows m step) (other_nodes n)
+          flat_map-same (branch_text_at n (names_in n lent) tree branches) (fitted_line n names tree rows m step) (other_nodes n)
           (λ v mem. let at = numbers-within 2 (2 * n - 3) v mem in branch_fitted v (omega arith) (omega arith))
           ∙ sym (joined-map (fitted_line n names tree rows m step) (other_nodes n))
 

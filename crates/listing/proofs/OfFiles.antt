@@ -21,7 +21,7 @@ use Rattle.difference.proofs.Laws.Measure.{measure_alike}
 use Rattle.branching.specs.Ancestors.{tree_with}
 use Rattle.lines.specs.Lines.{joined}
 use Rattle.lines.specs.Kinds.{total_line, index_line, refusal_line}
-use Rattle.consistency.specs.declared.index.Index.TheVariants.{NoTotal}
+use Rattle.std.specs.Prelude.{None}
 use Rattle.listing.specs.Meant.{measure_meant}
 use Rattle.listing.specs.Listing.{listing, printed, output}
 use Rattle.listing.proofs.Joined.{joined-one}
@@ -79,13 +79,13 @@ module _ (file : List ℕ) (job : Job) (read : read_answer file ≡ value job) w
 
   -- of one taxon: `p 0`, `w 0`, `t 0`, `c` with two hyphens, whatever its name, its codes and their number
   pub one_taxon-file : job.kind ≡ Wagner → job.n ≡ 1
-      → output file ≡ joined (total_line "p" 0 ∷ total_line "w" 0 ∷ total_line "t" 0 ∷ index_line NoTotal ∷ [])
+      → output file ≡ joined (total_line "p" 0 ∷ total_line "w" 0 ∷ total_line "t" 0 ∷ index_line None ∷ [])
   one_taxon-file k e =
       known-output Wagner 1 k e
       ∙ ap joined (one-taxon (measure_meant job) job.m job.order job.weighed job.weights job.names job.rows job.ancestors)
 
   -- of one taxon in an `F` file: `t 0`, and this `c`
-  pub own_taxon_file : job.kind ≡ Own → job.n ≡ 1 → output file ≡ joined (total_line "t" 0 ∷ index_line NoTotal ∷ [])
+  pub own_taxon_file : job.kind ≡ Own → job.n ≡ 1 → output file ≡ joined (total_line "t" 0 ∷ index_line None ∷ [])
   own_taxon_file k e =
       known-output Own 1 k e
       ∙ ap joined (own-taxon (measure_meant job) job.m job.order job.weighed job.weights job.names job.rows job.ancestors)

@@ -12,7 +12,7 @@ use Rattle.difference.specs.Rows.{Measure}
 use Rattle.file_form.specs.Job.{Job}
 use Rattle.file_form.specs.declared.header.Kind.{Kind}
 use Rattle.file_form.specs.declared.header.Kind.TheVariants.{Wagner, Own}
-use Rattle.file_form.specs.declared.header.OrderWord.{OrderWord}
+use Rattle.branching.specs.declared.order.Order.{Order}
 use Rattle.prim.specs.Network.{network, network_length, grow}
 use Rattle.branching.specs.Nodes.{nodes_in, other_nodes}
 use Rattle.branching.specs.Branches.{tree_length}
@@ -21,13 +21,13 @@ use Rattle.wagner.specs.Build.{wagner, wagner_length, build, build_on}
 use Rattle.fitting.specs.Assignments.{total}
 use Rattle.fitting.specs.Fit.{fitted_total}
 use Rattle.consistency.specs.Index.{index}
-use Rattle.consistency.specs.declared.index.Index.TheVariants.{NoTotal}
+use Rattle.std.specs.Prelude.{Option, None}
 use Rattle.lines.specs.Kinds.{total_line, index_line}
 use Rattle.listing.specs.Blocks.{fitted_lines, range_lines}
 use Rattle.listing.specs.Listing.{prim_block, wagner_block, fitted_block, index_block, range_block, tree_blocks, blocks_for, blocks, listing}
 
 -- a job of one taxon
-abbrev pub one_job : Kind → ℕ → OrderWord → Bool → List ℕ → List (List ℕ) → List (List ℤ) → List ℕ → Job
+abbrev pub one_job : Kind → ℕ → Option Order → Bool → List ℕ → List (List ℕ) → List (List ℤ) → List ℕ → Job
 one_job kind m word weighed weights names rows above = record {
   kind = kind;
   n = 1;
@@ -41,18 +41,18 @@ one_job kind m word weighed weights names rows above = record {
 }
 
 -- one taxon: three totals of 0, and no index
-pub one-taxon : (measure : Measure) (m : ℕ) (word : OrderWord) (weighed : Bool) (weights : List ℕ) (names : List (List ℕ)) (rows : List (List ℤ))
+pub one-taxon : (measure : Measure) (m : ℕ) (word : Option Order) (weighed : Bool) (weights : List ℕ) (names : List (List ℕ)) (rows : List (List ℤ))
     (above : List ℕ)
     → listing measure (one_job Wagner m word weighed weights names rows above)
-    ≡ total_line "p" 0 ∷ total_line "w" 0 ∷ total_line "t" 0 ∷ index_line NoTotal ∷ []
+    ≡ total_line "p" 0 ∷ total_line "w" 0 ∷ total_line "t" 0 ∷ index_line None ∷ []
 unfolding listing blocks blocks_for tree_blocks prim_block wagner_block fitted_block index_block index range_block network network_length grow wagner wagner_length build build_on
     length_under tree_length nodes_in other_nodes numbers keep sum_over fitted_lines range_lines fitted_total total flat_map
 one-taxon measure m word weighed weights names rows above = refl
 
 -- of an `F` file: a total of 0, and no index
-pub own-taxon : (measure : Measure) (m : ℕ) (word : OrderWord) (weighed : Bool) (weights : List ℕ) (names : List (List ℕ)) (rows : List (List ℤ))
+pub own-taxon : (measure : Measure) (m : ℕ) (word : Option Order) (weighed : Bool) (weights : List ℕ) (names : List (List ℕ)) (rows : List (List ℤ))
     (above : List ℕ)
-    → listing measure (one_job Own m word weighed weights names rows above) ≡ total_line "t" 0 ∷ index_line NoTotal ∷ []
+    → listing measure (one_job Own m word weighed weights names rows above) ≡ total_line "t" 0 ∷ index_line None ∷ []
 unfolding listing blocks blocks_for tree_blocks fitted_block index_block index range_block other_nodes numbers sum_over fitted_lines range_lines fitted_total
     total flat_map
 own-taxon measure m word weighed weights names rows above = refl

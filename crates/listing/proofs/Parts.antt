@@ -15,9 +15,10 @@ use Rattle.prim.specs.Network.{Link, network, network_length}
 use Rattle.prim.proofs.Placing.{network-length}
 use Rattle.branching.specs.Ancestors.{tree_with}
 use Rattle.branching.specs.Nodes.{other_nodes}
-use Rattle.wagner.specs.declared.order.Order.{Order}
+use Rattle.branching.specs.declared.order.Order.{Order}
 use Rattle.wagner.specs.Build.{Built, wagner, wagner_length, build, build_on}
 use Rattle.fitting.specs.Fit.{fitted_total}
+use Rattle.std.specs.Prelude.{Option}
 use Rattle.consistency.specs.declared.index.Index.{Index}
 use Rattle.consistency.specs.Floor.{floor}
 use Rattle.consistency.specs.Index.{index}
@@ -39,7 +40,7 @@ after_block a x others = simp (flat_map-append, append-nil, append_assoc)
 last_blocks : (w : List ℕ) (d : List (List ℕ))
     → joined (flat_map (λ (block : List (List ℕ)). block) ((w ∷ []) ∷ d ∷ [])) ≡ w ++ joined d
 unfolding flat_map
-last_blocks w d = simp (flat_map-append, append-nil, append_assoc)
+last_blocks w d = simp append-nil
 
 -- so many items, each with as many texts
 length-each : {A B : Type 0} (f : A → List B) (size : ℕ) (xs : List A) → ((x : A) → length (f x) ≡ size) → length (flat_map f xs) ≡ length xs * size
@@ -100,7 +101,7 @@ module _ (measure : Measure) (job : Job) where
     tree_total = total_line "t" (fitted_total measure.step tree job.rows job.n job.m)
 
     -- its index
-    abbrev pub index_of : Index
+    abbrev pub index_of : Option Index
     index_of =
         index (floor measure.step job.rows job.n job.m) (fitted_total measure.step tree job.rows job.n job.m)
 

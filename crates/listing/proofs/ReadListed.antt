@@ -11,13 +11,13 @@ use Rattle.matrix.specs.NodeRows.{rows_of}
 use Rattle.matrix.specs.Questions.{LentMatrix, LentWeights}
 use Rattle.matrix.specs.Refusals.{refusal_number}
 use Rattle.matrix.specs.Outcomes.{value, refused}
-use Rattle.matrix.specs.declared.refusal.Refusal.{Refusal}
 use Rattle.file_form.specs.Header.{header_of}
 use Rattle.file_form.specs.Reading.{read_answer}
 use Rattle.matrix_file.specs.Report.{read_says, read_outcome, ReadDone}
 use Rattle.file_form.specs.Written.{names_size, weights_written, LentLists}
 use Rattle.file_form.specs.declared.header.Header.{Header}
-use Rattle.matrix_file.specs.declared.answer.Read.{Read}
+use Rattle.matrix_file.specs.declared.answer.Refused.{Refused}
+use Rattle.std.specs.Prelude.{Result, Ok, Err}
 use Rattle.file_form.proofs.File.Outcomes.{then_refused}
 use Rattle.matrix_file.proofs.Lists.ReadLists.{job_lent, job_weighed, Accepting, read_accepting}
 use Rattle.matrix_file.proofs.Lists.ReadWalk.{full-lists, sized, full as outcome-full}
@@ -28,7 +28,8 @@ use Rattle.difference.specs.Rows.{weighing}
 use Rattle.rivals.proofs.Reading.{read_rows, written_measure}
 use Rattle.lines.specs.Lines.{joined}
 use Rattle.lines.specs.Kinds.{refusal_line}
-use Rattle.lines.specs.Put.{Put}
+use Rattle.lines.specs.declared.put.Listing.{Listing}
+use Rattle.lines.specs.Puts.{Puts}
 use Rattle.lines.proofs.Puts.{put_same}
 use Rattle.listing.specs.Meant.{measure_meant}
 use Rattle.listing.specs.Listing.{listing, printed, output}
@@ -40,7 +41,7 @@ use Rattle.listing.proofs.Printed.{output-printed}
 use Rattle.listing.proofs.Totals.{limits}
 
 -- a read of a file into lists of full size
-module _ (file : List ℕ) (old new : LentLists) (r : Read) (done : ReadDone file old new r) (full : length old.matrix ≡ matrix_size)
+module _ (file : List ℕ) (old new : LentLists) (r : Result Header Refused) (done : ReadDone file old new r) (full : length old.matrix ≡ matrix_size)
     (ones : old.weights ≡ replicate columns 1) (room : length old.names ≡ names_size) (records : length old.branches ≡ lent_numbers) where
   -- there are 128 weights
   weights-full : length old.weights ≡ columns
@@ -51,21 +52,19 @@ module _ (file : List ℕ) (old new : LentLists) (r : Read) (done : ReadDone fil
   sizes-full = full-lists _ _ _ _ (full, weights-full, room, records)
 
   -- a refused file brings its refusal
-  refused_answer : (refusal : Refusal) (line : ℕ) → r ≡ Read.Refused refusal line → read_answer file ≡ refused (refusal_number refusal) line
-  refused_answer refusal line e =
+  refused_answer : (report : Refused) → r ≡ Err report → read_answer file ≡ refused (refusal_number report.refusal) report.line
+  refused_answer report e =
       sym (outcome-full file old sizes-full)
-      ∙ then_refused (read_outcome file old) header_of (refusal_number refusal) line (sym done.says ∙ ap read_says e)
+      ∙ then_refused (read_outcome file old) header_of (refusal_number report.refusal) report.line (sym done.says ∙ ap read_says e)
 
   -- so the line of the refusal is what is printed
-  pub refused-printed : (refusal : Refusal) (line number : ℕ) → number ≡ refusal_number refusal → r ≡ Read.Refused refusal line
-      → refusal_line number line ≡ output file
-  refused-printed refusal line number is e =
-      ap (λ (k : ℕ). refusal_line k line) is
-      ∙ refusal_text (refusal_number refusal) line
-      ∙ sym (output-printed file _ (refused_answer refusal line e))
+  pub refused-printed : (report : Refused) → r ≡ Err report → refusal_line (refusal_number report.refusal) report.line ≡ output file
+  refused-printed report e =
+      refusal_text (refusal_number report.refusal) report.line
+      ∙ sym (output-printed file _ (refused_answer report e))
 
   -- an accepted file: what the read tells
-  module _ (header : Header) (e : r ≡ Read.Accepted header) where
+  module _ (header : Header) (e : r ≡ Ok header) where
     abbrev told : Accepting file old new header
     told = read_accepting file old new r header done e
 
@@ -142,7 +141,7 @@ module _ (file : List ℕ) (old new : LentLists) (r : Read) (done : ReadDone fil
         ∙ sym (output-printed file (value told.job) told.read)
 
     -- so where the job's listing was put, what is printed was put
-    pub accepted_printed : {out after : List ℕ} {next : ℕ} → ListsJob header new out after next → Put (output file) out 0 after next
-    accepted_printed {out} {after} {next} listed =
-        let lists : ListsJob (header_of told.job) new out after next = subst⁻¹ (λ said. ListsJob said new out after next) told.says listed in
+    pub accepted_printed : {before after : Listing} → ListsJob header new before after → Puts (output file) before after
+    accepted_printed {before} {after} listed =
+        let lists : ListsJob (header_of told.job) new before after = subst⁻¹ (λ said. ListsJob said new before after) told.says listed in
         put_same job_printed (lists.is told.job.names told.job.weights told.job.ancestors accepted_held)

@@ -5,28 +5,34 @@ use Rattle.matrix.specs.NodeRows.{rows_of}
 use Rattle.file_form.specs.declared.header.Header.{Header}
 use Rattle.file_form.specs.declared.header.Kind.TheVariants.{Own}
 use Rattle.file_form.specs.Job.{Job}
-use Rattle.file_form.specs.Written.{LentLists}
+use Rattle.file_form.specs.Written.{LentLists, lent}
 use Rattle.difference.specs.Rows.{Measure, difference, node_difference, weighing}
 use Rattle.prim.specs.Network.{network}
-use Rattle.prim.specs.Answers.{most_links, Holds}
+use Rattle.prim.specs.Answers.{Holds}
 use Rattle.branching.specs.declared.tree.Tree.{Tree}
 use Rattle.branching.specs.Ancestors.{ancestors, tree_with}
 use Rattle.branching.specs.Branches.{ancestors_of, lent_branching}
 use Rattle.branching.specs.LentNumbers.{records_in}
-use Rattle.wagner.specs.declared.order.Order.{Order}
+use Rattle.branching.specs.declared.order.Order.{Order}
 use Rattle.wagner.specs.Build.{wagner_length}
-use Rattle.wagner.specs.Answers.{most_placements, wagner_in}
+use Rattle.wagner.specs.Answers.{wagner_in}
 use Rattle.fitting.specs.Calls.{FitOf}
 use Rattle.fitting.specs.Fit.{fitted_total}
 use Rattle.consistency.specs.Index.{index}
 use Rattle.consistency.specs.Floor.{floor}
 use Rattle.lines.specs.Lines.{joined}
 use Rattle.lines.specs.Kinds.{index_line}
-use Rattle.lines.specs.Put.{Put}
+use Rattle.lines.specs.declared.put.Listing.{Listing}
+use Rattle.lines.specs.Puts.{Puts}
+use Rattle.listing.specs.declared.job.Lists.{Lists}
 use Rattle.listing.specs.declared.job.FittedTree.{FittedTree}
 use Rattle.listing.specs.declared.job.Results.{Results}
 use Rattle.listing.specs.Listing.{listing}
 use Rattle.listing.specs.Handed.{HoldsNames, HoldsPlacements, HoldsStates, prim_texts, wagner_texts, fitted_texts, state_texts}
+
+-- the lists that a file is read into
+abbrev pub lists_of : Lists → LentLists
+lists_of lists = lent lists.matrix lists.weights lists.names lists.branches
 
 -- three lists have the matrix's size
 pub record StateLists (low high chosen : List ℤ) : Type 0 where
@@ -34,7 +40,7 @@ pub record StateLists (low high chosen : List ℤ) : Type 0 where
   pub high_full : length high ≡ matrix_size
   pub chosen_full : length chosen ≡ matrix_size
 
--- what was found of a tree by rows, as change is measured: its fit, the index of the fit, and its states in three lists of full size
+-- what was found of a tree by rows, as change is measured: its fit, the index of the fit, and its states in three lists
 pub record FittedOf
     (measure : Measure)
     (rows : List (List ℤ))
@@ -42,7 +48,6 @@ pub record FittedOf
     (tree : List ℕ)
     (low high chosen : List ℤ)
     (r : FittedTree) : Type 0 where
-  pub full : StateLists low high chosen
   pub fit : FitOf measure.step tree rows n m r.fit
   pub index : r.index ≡ index (floor measure.step rows n m) (fitted_total measure.step tree rows n m)
   pub states : HoldsStates tree rows n m low high chosen
@@ -53,15 +58,9 @@ pub record SizesWithin (n m : ℕ) : Type 0 where
   pub taxa : n ≤ 64
   pub characters : m ≤ columns
 
--- what can be listed: n and m are within their limits, and no more links and placements are counted than there is room for
-pub record Listable (n m : ℕ) (r : Results) : Type 0 where
-  pub sizes : SizesWithin n m
-  pub links : r.network.count ≤ most_links
-  pub placements : r.built.count ≤ most_placements
-
 -- what was found of a lent matrix: its Prim Network, its Wagner tree, and what was found of that tree
 pub record ResultsOf (order : Order) (codes : List ℤ) (weights : List ℕ) (n m : ℕ) (low high chosen : List ℤ) (r : Results) : Type 0 where
-  pub listable : Listable n m r
+  pub sizes : SizesWithin n m
   pub network : Holds (network (node_difference (difference weights) (row codes m)) n) r.network
   pub tree : ancestors r.built.tree ≡ (wagner_in order codes weights n m).tree
   pub placements : HoldsPlacements (wagner_in order codes weights n m).placements r.built.placements r.built.count
@@ -98,10 +97,10 @@ pub record HoldsJob (header : Header) (lists : LentLists) (names : List (List �
   pub weighed : weighing lists.weights ≡ weighing weights
   pub branched : header.kind ≡ Own → ancestors_of header.n (records_in lists.branches) ≡ tree_with above
 
--- the listing of the job that lent lists hold was put in front of a list
-pub record ListsJob (header : Header) (lists : LentLists) (old new : List ℕ) (next : ℕ) : Type 0 where
+-- the listing of the job that lent lists hold was put
+pub record ListsJob (header : Header) (lists : LentLists) (old new : Listing) : Type 0 where
   pub is : (names : List (List ℕ)) (weights above : List ℕ) → HoldsJob header lists names weights above
-      → Put (joined (listing (weighing weights) (held_job header weights names lists.matrix above))) old 0 new next
+      → Puts (joined (listing (weighing weights) (held_job header weights names lists.matrix above))) old new
 
 -- what is asked of a lent branching: that of an `F` file is one
 abbrev pub BranchingLent : Header → List ℕ → Type 0

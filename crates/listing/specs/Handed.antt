@@ -1,6 +1,7 @@
 -- What the functions that put blocks are handed, and the texts that they put. No public contract cites this.
-use Rattle.std.specs.Prelude.{◌≡◌, Bool, true, false, ℕ, ◌+◌, ◌-◌, ◌*◌, ◌≤◌, ◌<◌, ℤ, length, get_or, take}
+use Rattle.std.specs.Prelude.{◌≡◌, true, ℕ, ◌+◌, ◌-◌, ◌*◌, ◌≤◌, ◌<◌, ℤ, length, get_or, take}
 use mathlib.Core.List.{List, [], ◌++◌, flat_map}
+use Rattle.std.specs.Borrow.{MutBor}
 use Rattle.lists.specs.Filled.{filled}
 use Rattle.lists.specs.Numbers.{numbers}
 use Rattle.file_form.specs.Job.{name_form}
@@ -9,15 +10,25 @@ use Rattle.prim.specs.declared.answer.Network.{Network}
 use Rattle.branching.specs.declared.placement.Placement.{Placement}
 use Rattle.branching.specs.declared.tree.Tree.{Tree}
 use Rattle.branching.specs.Unasked.{no_placement}
-use Rattle.wagner.specs.declared.build.WagnerTree.{WagnerTree}
+use Rattle.wagner.specs.declared.answer.WagnerTree.{WagnerTree}
 use Rattle.wagner.specs.Answers.{most_placements}
 use Rattle.branching.specs.Ancestors.{ancestors, ancestor}
 use Rattle.branching.specs.Nodes.{other_nodes}
 use Rattle.fitting.specs.Handing.{state_at}
 use Rattle.fitting.specs.Fit.{chosen_state, range, fitted_length, marked}
+use Rattle.fitting.specs.Calls.{branch_at}
+use Rattle.fitting.specs.declared.whole.BranchFit.{BranchFit}
 use Rattle.fitting.specs.declared.whole.Fit.{Fit}
 use Rattle.lines.specs.Kinds.{total_line, prim_line, wagner_line, branch_line, state_line}
 use Rattle.lines.specs.Names.{name_bytes}
+use Rattle.lines.specs.declared.put.Listing.{Listing}
+use Rattle.lines.specs.Puts.{Puts}
+
+-- each call puts the line of one thing
+abbrev pub PutsLine : {T : Type 0} → (MutBor Listing → T → Unit {0} → MutBor Listing → Type 0) → (T → List ℕ) → Type 0
+PutsLine {T} calls line =
+    (listing : MutBor Listing) (thing : T) (done : Unit {0}) (after : MutBor Listing) → calls listing thing done after
+    → Puts (line thing) listing.now after.now
 
 -- lent bytes hold the names of n taxa: each well formed, and padded with zeros
 pub record HoldsNames (n : ℕ) (names : List (List ℕ)) (lent : List ℕ) : Type 0 where
@@ -29,10 +40,10 @@ pub record HoldsPlacements (placements array : List Placement) (number : ℕ) : 
   pub list : array ≡ filled most_placements no_placement placements
   pub count : number ≡ length placements
 
--- lengths and marks by node number are those of a fit, for nodes 2 to 2n-2
-pub record HoldsFit (step : ℕ → ℤ → ℤ → ℕ) (tree : List ℕ) (rows : List (List ℤ)) (n m : ℕ) (lengths : List ℕ) (marks : List Bool) : Type 0 where
-  pub length_at : (v : ℕ) → 2 ≤ v → v ≤ 2 * n - 2 → get_or lengths v 0 ≡ fitted_length step tree rows n m v
-  pub mark_at : (v : ℕ) → 2 ≤ v → v ≤ 2 * n - 2 → get_or marks v false ≡ marked step tree rows n m v
+-- branches by node number have the lengths and marks of a fit, for nodes 2 to 2n-2
+pub record HoldsFit (step : ℕ → ℤ → ℤ → ℕ) (tree : List ℕ) (rows : List (List ℤ)) (n m : ℕ) (branches : List BranchFit) : Type 0 where
+  pub length_at : (v : ℕ) → 2 ≤ v → v ≤ 2 * n - 2 → (branch_at branches v).length ≡ fitted_length step tree rows n m v
+  pub mark_at : (v : ℕ) → 2 ≤ v → v ≤ 2 * n - 2 → (branch_at branches v).mark ≡ marked step tree rows n m v
 
 -- lists of the matrix's shape hold the lowest, the highest and the chosen states of the HTUs
 pub record HoldsStates (tree : List ℕ) (rows : List (List ℤ)) (n m : ℕ) (low high chosen : List ℤ) : Type 0 where
@@ -41,10 +52,10 @@ pub record HoldsStates (tree : List ℕ) (rows : List (List ℤ)) (n m : ℕ) (l
   pub chosen_at : (v j : ℕ) → n < v → v ≤ 2 * n - 2 → 1 ≤ j → j ≤ m → state_at chosen v j ≡ chosen_state tree rows n v j
 
 module _ (n : ℕ) (names : List (List ℕ)) where
-  module _ (tree lengths : List ℕ) (marks : List Bool) where
-    -- the `T` line of node v of a tree, with lengths and marks by node number
+  module _ (tree : List ℕ) (branches : List BranchFit) where
+    -- the `T` line of node v of a tree, with the fit of its branch
     unfoldable pub branch_text_at : ℕ → List ℕ
-    branch_text_at v = branch_line n names v (ancestor tree v) (get_or lengths v 0) (get_or marks v false)
+    branch_text_at v = branch_line n names v (ancestor tree v) (branch_at branches v).length (branch_at branches v).mark
 
     -- the `T` lines of a tree, by node number from 2
     unfoldable pub branch_texts : List ℕ
@@ -73,4 +84,4 @@ module _ (n : ℕ) (names : List (List ℕ)) where
 
   -- the `T` lines of a tree with its fit, and the line `t`
   unfoldable pub fitted_texts : Tree → Fit → List ℕ
-  fitted_texts tree fit = branch_texts (ancestors tree) fit.lengths fit.marks ++ total_line "t" fit.total
+  fitted_texts tree fit = branch_texts (ancestors tree) fit.branches ++ total_line "t" fit.total

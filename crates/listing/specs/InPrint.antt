@@ -1,7 +1,7 @@
 -- Demand 3 for what is printed (document 01, "The three rivals"): the numbers that the listing of an accepted file prints, and that no
 -- rival does better than they say; with the index of its tree and the claim about the floor (document 02, M-102), and for a file with its
 -- own branching (M-103).
-use Rattle.std.specs.Prelude.{◌≡◌, ◌↔◌, Bool, true, ℕ, ◌+◌, ◌*◌, ◌-◌, ◌≤◌, ◌<◌, ℤ, ◌≤ℤ◌}
+use Rattle.std.specs.Prelude.{◌≡◌, ◌↔◌, Bool, true, Option, ℕ, ◌+◌, ◌*◌, ◌-◌, ◌≤◌, ◌<◌, ℤ, ◌≤ℤ◌}
 use mathlib.Core.List.{List, [], ◌∷◌, ◌++◌, map, flat_map}
 use Rattle.lists.specs.Numbers.{numbers}
 use Rattle.lists.specs.Sums.{sum_over}
@@ -43,7 +43,7 @@ pub record PrintedTree : Type 0 where
   pub marks : ℕ → Bool
   pub t : ℕ
   -- the index in the line `c`
-  pub c : Index
+  pub c : Option Index
   -- lowest, highest and chosen state in the `H` line of a node and a character
   pub low : ℕ → ℕ → ℤ
   pub high : ℕ → ℕ → ℤ

@@ -1,173 +1,101 @@
-// The blocks of the listing, each apart: the lines of the network, of the placements, of the fitted tree and of the states, and totals.
-ghost use Rattle.std.specs.Prelude.{◌≡◌, ◌≤◌, ◌*◌, ◌-◌, length, take};
-ghost use mathlib.Core.List.{flat_map};
-ghost use Rattle.matrix.specs.Shape.{columns, matrix_size};
-ghost use Rattle.branching.specs.Ancestors.{ancestors};
-ghost use Rattle.prim.specs.Answers.{most_links};
-ghost use Rattle.lines.specs.Kinds.{total_line, prim_line, wagner_line};
-ghost use Rattle.lines.specs.Put.{Put};
-ghost use Rattle.lines.specs.Names.{names_in};
-ghost use Rattle.listing.specs.Handed.{branch_texts, node_texts, state_texts};
-ghost use Rattle.wagner.specs.Answers.{most_placements};
+// The blocks of the listing, each apart: the lines of the network, of the placements, of the fitted tree and of the states.
+ghost use Rattle.std.specs.Prelude.{◌≡◌, ◌≤◌, List, ℕ};
+ghost use mathlib.Core.List.{flat_map, ◌++◌};
+ghost use Rattle.matrix.specs.Shape.{columns};
+ghost use Rattle.fitting.specs.Handing.{state_at};
+ghost use Rattle.lines.specs.Fields.{names_of};
+ghost use Rattle.lines.specs.Kinds.{total_text};
+ghost use Rattle.lines.specs.Puts.{Puts};
+ghost use Rattle.listing.specs.Found.{SizesWithin};
+ghost use Rattle.listing.specs.Handed.{PutsLine, fitted_texts, node_texts, state_texts};
 
-use branching::placement::Placement;
 use branching::tree::Tree;
-use lines::lines::{
-    put_branch_line, put_prim_line, put_state_line, put_total_line, put_wagner_line,
-};
-use matrix::COLUMNS;
-use prim::answer::{Link, Network};
+use fitting::characters::States;
+use fitting::whole::Fit;
+use lines::names::Names;
+use lines::put::Listing;
+use matrix::{COLUMNS, ROWS};
 
-// Puts the `P` lines of the first `count` links.
-fn put_link_lines(
-    out: &mut [u8],
-    at: usize,
-    n: usize,
-    names: &[u8],
-    links: [Link; 63],
-    count: usize,
-) -> usize
-    requires { count ≤ most_links }
-    ensures { Put (flat_map (prim_line n (names_in n names.now)) (take count links)) out.old at out.new result }
-{
-    let mut next = at;
-    let mut k = 0;
-    while k < count {
-        next = put_prim_line(out, next, n, names, links[k]);
-        k += 1;
+// The states of the HTUs, in lists of the matrix's shape: the lowest, the highest and the chosen one.
+// Kept: interface, `fit_tree` writes three lists, since `wagner_fit` takes three; an array of structs would be filled from them anew.
+#[derive(Drop)]
+pub(crate) struct Ranges {
+    pub(crate) low: [i32; ROWS * COLUMNS],
+    pub(crate) high: [i32; ROWS * COLUMNS],
+    pub(crate) chosen: [i32; ROWS * COLUMNS],
+}
+
+impl Ranges {
+    // The states of node v in character j.
+    fn states(&self, v: usize, j: usize) -> States
+        requires { (1 ≤ v) × (v ≤ 126) × (1 ≤ j) × (j ≤ columns) }
+        ensures { result ≡ record { low = state_at self.now.low v j; high = state_at self.now.high v j; chosen = state_at self.now.chosen v j } }
+    {
+        let place = (v - 1) * COLUMNS + (j - 1);
+        States {
+            low: self.low[place],
+            high: self.high[place],
+            chosen: self.chosen[place],
+        }
     }
-    next
 }
 
-// Puts the `P` lines of a network.
-pub(crate) fn put_prim_lines(
-    out: &mut [u8],
-    at: usize,
-    n: usize,
-    names: &[u8],
-    network: Network,
-) -> usize
-    requires { network.count ≤ most_links }
-    ensures { Put (flat_map (prim_line n (names_in n names.now)) (take network.count network.links)) out.old at out.new result }
-{
-    let links = network.links;
-    put_link_lines(out, at, n, names, links, network.count)
+// By what the lines of a job go: the names of its taxa, and how many characters it has.
+#[derive(Clone, Copy)]
+pub(crate) struct Sizes<'a> {
+    pub(crate) names: Names<'a>,
+    pub(crate) m: usize,
+    ghost within: { SizesWithin names.n m },
 }
 
-// Puts the line `p`: the total of a network.
-pub(crate) fn put_prim_total(out: &mut [u8], at: usize, total: u64) -> usize
-    ensures { Put (total_line "p" total) out.old at out.new result }
+// Puts a block: the lines of some things, one after another, by what puts the line of one, and the line of the block's total.
+pub(crate) fn put_block<T: Copy, F: Fn(&mut Listing, T)>(
+    listing: &mut Listing,
+    things: &[T],
+    put: F,
+    letter: u8,
+    total: u64,
+)
+    requires { F.IsAlwaysCallable put }
+    ensures { (line : T → List ℕ) → PutsLine (F.post put) line
+        → Puts (flat_map line things.now ++ total_text letter total) listing.old listing.new }
 {
-    put_total_line(out, at, b'p', total)
-}
-
-// Puts the `W` lines of the first `count` placements.
-pub(crate) fn put_wagner_lines(
-    out: &mut [u8],
-    at: usize,
-    n: usize,
-    names: &[u8],
-    placements: [Placement; 63],
-    count: usize,
-) -> usize
-    requires { count ≤ most_placements }
-    ensures { Put (flat_map (wagner_line n (names_in n names.now)) (take count placements)) out.old at out.new result }
-{
-    let mut next = at;
-    let mut i = 0;
-    while i < count {
-        next = put_wagner_line(out, next, n, names, placements[i]);
-        i += 1;
+    for thing in things {
+        put(listing, *thing);
     }
-    next
+    listing.put_total_line(letter, total);
 }
 
-// Puts the line `w`: the length of the tree with median codes.
-pub(crate) fn put_wagner_total(out: &mut [u8], at: usize, total: u64) -> usize
-    ensures { Put (total_line "w" total) out.old at out.new result }
+// Puts the block of a fitted tree: its `T` lines, for nodes 2 to 2n-2, and the line `t`.
+pub(crate) fn put_fitted_block(listing: &mut Listing, sizes: Sizes, tree: &Tree, fit: &Fit)
+    ensures { Puts (fitted_texts sizes.entry.names.n (names_of sizes.entry.names) tree.now fit.now) listing.old listing.new }
 {
-    put_total_line(out, at, b'w', total)
-}
-
-// Puts the `T` lines of a tree of n taxa: nodes 2 to 2n-2, with lengths and marks by node number.
-pub(crate) fn put_branch_lines(
-    out: &mut [u8],
-    at: usize,
-    n: usize,
-    names: &[u8],
-    tree: Tree,
-    lengths: [u64; 127],
-    marks: [bool; 127],
-) -> usize
-    requires { (1 ≤ n) × (n ≤ 64) }
-    ensures { Put (branch_texts n (names_in n names.now) (ancestors tree) lengths marks) out.old at out.new result }
-{
-    let end = 2 * n - 1;
-    let mut next = at;
-    let mut v = 2;
-    while v < end {
-        let above = tree.ancestor(v);
-        next = put_branch_line(out, next, n, names, v, above, lengths[v], marks[v]);
-        v += 1;
+    for v in 2..2 * sizes.names.n - 1 {
+        listing.put_branch_line(sizes.names, v, tree.ancestor(v), fit.branches[v]);
     }
-    next
-}
-
-// Puts the line `t`: the fitted total.
-pub(crate) fn put_fitted_total(out: &mut [u8], at: usize, total: u64) -> usize
-    ensures { Put (total_line "t" total) out.old at out.new result }
-{
-    put_total_line(out, at, b't', total)
+    listing.put_total_line(b't', fit.total);
 }
 
 // Puts the `H` lines of node v, for characters 1 to m.
-fn put_node_lines(
-    out: &mut [u8],
-    at: usize,
-    n: usize,
-    m: usize,
-    names: &[u8],
-    v: usize,
-    low: &[i32],
-    high: &[i32],
-    chosen: &[i32],
-) -> usize
-    requires node_in_matrix { (1 ≤ v) × (v ≤ 126) × (m ≤ columns) }
-    requires state_lists { (length low.now ≡ matrix_size) × (length high.now ≡ matrix_size) × (length chosen.now ≡ matrix_size) }
-    ensures { Put (node_texts n (names_in n names.now) low.now high.now chosen.now m v) out.old at out.new result }
+fn put_node_lines(listing: &mut Listing, sizes: Sizes, v: usize, ranges: &Ranges)
+    requires { (1 ≤ v) × (v ≤ 126) }
+    ensures { Puts
+        (node_texts sizes.entry.names.n (names_of sizes.entry.names) ranges.now.low ranges.now.high ranges.now.chosen sizes.entry.m v)
+        listing.old listing.new }
 {
-    let start = (v - 1) * COLUMNS;
-    let mut next = at;
-    let mut j = 1;
-    while j <= m {
-        let i = start + (j - 1);
-        next = put_state_line(out, next, n, names, v, j, low[i], high[i], chosen[i]);
-        j += 1;
+    for j in 1..sizes.m + 1 {
+        listing.put_state_line(sizes.names, v, j, ranges.states(v, j));
     }
-    next
 }
 
-// Puts the `H` lines of HTUs n+1 to 2n-2, for characters 1 to m; their states stand in lists of the matrix's shape.
-pub(crate) fn put_state_lines(
-    out: &mut [u8],
-    at: usize,
-    n: usize,
-    m: usize,
-    names: &[u8],
-    low: &[i32],
-    high: &[i32],
-    chosen: &[i32],
-) -> usize
-    requires taxa_in_matrix { (1 ≤ n) × (n ≤ 64) × (m ≤ columns) }
-    requires state_lists { (length low.now ≡ matrix_size) × (length high.now ≡ matrix_size) × (length chosen.now ≡ matrix_size) }
-    ensures { Put (state_texts n (names_in n names.now) low.now high.now chosen.now m) out.old at out.new result }
+// Puts the `H` lines of HTUs n+1 to 2n-2, for characters 1 to m.
+pub(crate) fn put_state_lines(listing: &mut Listing, sizes: Sizes, ranges: &Ranges)
+    ensures { Puts
+        (state_texts sizes.entry.names.n (names_of sizes.entry.names) ranges.now.low ranges.now.high ranges.now.chosen sizes.entry.m)
+        listing.old listing.new }
 {
-    let end = 2 * n - 1;
-    let mut next = at;
-    let mut v = n + 1;
-    while v < end {
-        next = put_node_lines(out, next, n, m, names, v, low, high, chosen);
-        v += 1;
+    let n = sizes.names.n;
+    for v in n + 1..2 * n - 1 {
+        put_node_lines(listing, sizes, v, ranges);
     }
-    next
 }

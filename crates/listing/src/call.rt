@@ -1,84 +1,59 @@
 // From a file's bytes to the bytes of its listing.
-ghost use Rattle.std.specs.Prelude.{◌≡◌, length, replicate};
-ghost use Rattle.matrix.specs.Shape.{matrix_size, columns};
-ghost use Rattle.file_form.specs.Written.{names_size};
-ghost use Rattle.branching.specs.LentNumbers.{lent_numbers};
-ghost use Rattle.lines.specs.Put.{Put};
+ghost use Rattle.std.specs.Prelude.{◌≡◌, replicate};
+ghost use Rattle.matrix.specs.Shape.{columns};
+ghost use Rattle.lines.specs.Puts.{Puts};
 ghost use Rattle.listing.specs.Listing.{output};
-ghost use Rattle.listing.specs.Found.{StateLists};
 ghost use Rattle.listing.specs.Call.{ListDone};
 
-use crate::job::put_job;
+use crate::blocks::Ranges;
+use crate::job::{Lists, put_job};
 use branching::numbers::LENT_NUMBERS;
-use lines::lines::put_refusal_line;
-use matrix::refusal::{Refusal, number};
+use file_form::NAMES_SIZE;
+use lines::put::Listing;
+use matrix::refusal::Refusal;
 use matrix::{COLUMNS, LIGHTEST, ROWS};
-use matrix_file::NAMES_SIZE;
-use matrix_file::answer::Read;
 use matrix_file::reading::read;
 
 // So many bytes are lent for what is printed; no file needs more.
 pub const OUTPUT_SIZE: usize = 1048576;
 
-// How many bytes were written, or why none were.
-#[derive(Clone, Copy)]
-pub enum Listed {
-    Written(usize),
-    Refused(Refusal),
-}
-
-// Puts what is printed for a file in front of a list: its listing, or the line of its refusal. The other lists are room to compute in; the
-// weights are 1 before.
-fn put_file(
-    out: &mut [u8],
-    file: &[u8],
-    matrix: &mut [i32],
-    weights: &mut [u8],
-    names: &mut [u8],
-    branches: &mut [usize],
-    low: &mut [i32],
-    high: &mut [i32],
-    chosen: &mut [i32],
-) -> usize
-    requires read_lists { (length matrix.old ≡ matrix_size) × (weights.old ≡ replicate columns 1) × (length names.old ≡ names_size)
-        × (length branches.old ≡ lent_numbers) }
-    requires state_lists { StateLists low.old high.old chosen.old }
-    ensures { Put (output file.now) out.old 0 out.new result }
+// Puts what is printed for a file: its listing, or the line of its refusal. The file is read into lists, whose weights are 1 before.
+fn put_file(listing: &mut Listing, file: &[u8], lists: &mut Lists, ranges: &mut Ranges)
+    requires { lists.old.weights ≡ replicate columns 1 }
+    ensures { Puts (output file.now) listing.old listing.new }
 {
-    match read(file, matrix, weights, names, branches) {
-        Read::Refused { refusal, line } => put_refusal_line(out, 0, number(refusal), line),
-        Read::Accepted(header) => {
-            put_job(
-                out, header, names, matrix, weights, branches, low, high, chosen,
-            )
-        }
+    match read(
+        file,
+        &mut lists.matrix,
+        &mut lists.weights,
+        &mut lists.names,
+        &mut lists.branches,
+    ) {
+        Ok(header) => put_job(listing, header, lists, ranges),
+        Err(refused) => listing.put_refusal_line(refused.refusal, refused.line),
     }
 }
 
-// The listing of a file's bytes, or the line of its refusal, written into the front of lent bytes.
-pub fn list(file: &[u8], out: &mut [u8]) -> Listed
+// The listing of a file's bytes, or the line of its refusal, written into the front of lent bytes: how many bytes are written. Refused if
+// these are not 1,048,576.
+pub fn list(file: &[u8], out: &mut [u8]) -> Result<usize, Refusal>
     ensures { ListDone file.now out.old out.new result }
 {
     if out.len() != OUTPUT_SIZE {
-        return Listed::Refused(Refusal::ListSize);
+        return Err(Refusal::ListSize);
     }
-    let mut matrix = [0i32; ROWS * COLUMNS];
-    let mut weights = [LIGHTEST; COLUMNS];
-    let mut names = [0u8; NAMES_SIZE];
-    let mut branches = [0usize; LENT_NUMBERS];
-    let mut low = [0i32; ROWS * COLUMNS];
-    let mut high = [0i32; ROWS * COLUMNS];
-    let mut chosen = [0i32; ROWS * COLUMNS];
-    let length = put_file(
-        out,
-        file,
-        &mut matrix,
-        &mut weights,
-        &mut names,
-        &mut branches,
-        &mut low,
-        &mut high,
-        &mut chosen,
-    );
-    Listed::Written(length)
+    let mut lists = Lists {
+        matrix: [0; ROWS * COLUMNS],
+        weights: [LIGHTEST; COLUMNS],
+        names: [0; NAMES_SIZE],
+        branches: [0; LENT_NUMBERS],
+    };
+    let mut ranges = Ranges {
+        low: [0; ROWS * COLUMNS],
+        high: [0; ROWS * COLUMNS],
+        chosen: [0; ROWS * COLUMNS],
+    };
+    let mut listing = Listing { out, at: 0 };
+    put_file(&mut listing, file, &mut lists, &mut ranges);
+    Ok(listing.at)
 }

@@ -2,16 +2,11 @@
 ghost use Rattle.std.specs.Prelude.{◌≡◌};
 ghost use Rattle.listing.specs.Meant.{order_meant};
 
-use file_form::header::OrderWord;
-use wagner::order::Order;
+use branching::order::Order;
 
-// The order that a word means, and the one that is meant without a word.
-pub fn order_meant(word: OrderWord) -> Order
+// The order that a word says, and the one that is meant without a word.
+pub fn order_meant(word: Option<Order>) -> Order
     ensures { result ≡ order_meant word }
 {
-    match word {
-        OrderWord::Unsaid => Order::Advance,
-        OrderWord::Advance => Order::Advance,
-        OrderWord::Closest => Order::Closest,
-    }
+    word.unwrap_or(Order::Advance)
 }

@@ -5,11 +5,10 @@ use mathlib.Core.List.{List}
 use Prim.Native.Nat.{ℕ, ◌+◌, ◌-◌}
 use lib.IntN.{ℤ}
 use lib.ListN.{length, take}
-use Rattle.lists.specs.Filled.{filled}
+use Rattle.std.specs.Prelude.{Ok}
 use Rattle.lists.proofs.Filled.{filled-first}
 use Rattle.matrix.specs.NodeRows.{rows_of}
-use Rattle.matrix.specs.Questions.{ask_matrix}
-use Rattle.matrix.specs.declared.refusal.Asked.TheVariants.{Passed}
+use Rattle.matrix.specs.Outcomes.{value}
 use Rattle.matrix.proofs.Passing.{matrix_passed}
 use Rattle.difference.specs.Rows.{difference}
 use Rattle.branching.specs.declared.placement.Placement.{Placement}
@@ -24,11 +23,10 @@ use Rattle.branching.specs.Rival.{PlacementIsLeast}
 use Rattle.branching.specs.Unasked.{no_placement}
 use Rattle.branching.proofs.Passed.{placement_asked}
 use Rattle.branching.proofs.Standing.{asked_standing, placed-rows}
-use Rattle.wagner.specs.declared.build.WagnerTree.{WagnerTree}
-use Rattle.wagner.specs.declared.order.Order.{Order}
+use Rattle.wagner.specs.declared.answer.WagnerTree.{WagnerTree}
+use Rattle.branching.specs.declared.order.Order.{Order}
 use Rattle.wagner.specs.Build.{Built}
-use Rattle.wagner.specs.Matrix.{matrix_after}
-use Rattle.wagner.specs.Answers.{wagner_in, build_says, placements_in, BuildDone}
+use Rattle.wagner.specs.Answers.{wagner_in, BuiltFrom}
 use Rattle.wagner.proofs.Matrix.{after_rows}
 use Rattle.wagner.proofs.Lengths.{ours_sound, ours_room}
 use Rattle.rivals.specs.Accepted.{matrix_lent}
@@ -42,8 +40,8 @@ handed_back new n m r =
     record { tree = ancestors r.tree; rows = rows_of new m (last_row n (ancestors r.tree)); placement = r.placement }
 
 -- a placement that passed its questions, on a tree with 127 places that is not row 1 alone
-module _ (codes new : List ℤ) (weights : List ℕ) (n m : ℕ) (tree : List ℕ) (b : ℕ) (r : Placed) (done : PlacementDone codes new weights n m tree b r)
-    (pass : ask_placement codes weights n m tree b ≡ Passed) (places : length tree ≡ 127) where
+module _ (codes new : List ℤ) (weights : List ℕ) (n m : ℕ) (tree : List ℕ) (b : ℕ) (r : Placed) (done : PlacementDone codes new weights n m tree b (Ok r))
+    (pass : ask_placement codes weights n m tree b ≡ Ok tt) (places : length tree ≡ 127) where
   -- it is ours
   handed-placement : handed_back new n m r ≡ place_in codes weights n m tree b
   unfolding placement_says
@@ -51,7 +49,8 @@ module _ (codes new : List ℤ) (weights : List ℕ) (n m : ℕ) (tree : List �
       let asked = placement_asked codes weights n m tree b pass in
       let stands = asked_standing codes weights n m tree b asked places in
       let grown : ancestors r.tree ≡ (place_in codes weights n m tree b).tree = rw pass at done.tree in
-      let what : r.placement ≡ (place_in codes weights n m tree b).placement = rw pass at done.placement in
+      let says : value r.placement ≡ value (place_in codes weights n m tree b).placement = rw pass at done.says in
+      let what : r.placement ≡ (place_in codes weights n m tree b).placement = cc in
       let held : new ≡ matrix_placed codes weights n m tree b = rw pass at done.matrix in
       let rows = placed-rows codes weights n m (taxa_placed n tree) tree stands b asked.unplaced in
       rw (grown, what, held, rows)
@@ -68,30 +67,25 @@ abbrev pub built_back : List ℤ → ℕ → ℕ → WagnerTree → Built
 built_back new n m r =
     record { tree = ancestors r.tree; rows = rows_of new m (n + (n - 2)); placements = take r.count r.placements }
 
--- a build that passed its questions
-module _ (order : Order) (codes new : List ℤ) (weights : List ℕ) (n m : ℕ) (r : WagnerTree) (done : BuildDone order codes new weights n m r)
-    (pass : ask_matrix codes weights n m ≡ Passed) where
+-- a build that no question refuses
+module _ (order : Order) (codes new : List ℤ) (weights : List ℕ) (n m : ℕ) (r : WagnerTree)
+    (done : BuiltFrom order codes new weights n m r) where
   -- it is ours
   built-ours : built_back new n m r ≡ wagner_in order codes weights n m
-  unfolding build_says placements_in
   built-ours =
-      let lent = matrix_passed codes weights n m pass in
-      let grown : ancestors r.tree ≡ (wagner_in order codes weights n m).tree = rw pass at done.tree in
-      let list : r.placements ≡ filled 63 no_placement (wagner_in order codes weights n m).placements = rw pass at done.placements in
-      let count : r.count ≡ length (wagner_in order codes weights n m).placements = rw pass at done.count in
-      let held : new ≡ matrix_after codes n (wagner_in order codes weights n m) = rw pass at done.matrix in
+      let lent = matrix_passed codes weights n m done.passed in
       let rows : rows_of new m (n + (n - 2)) ≡ (wagner_in order codes weights n m).rows =
-      ap (λ (all : List ℤ). rows_of all m (n + (n - 2))) held
+      ap (λ (all : List ℤ). rows_of all m (n + (n - 2))) done.matrix
       ∙ after_rows (difference weights) codes n m lent.characters (ours_room order codes weights n m lent) (wagner_in order codes weights n m)
       (ours_sound order codes weights n m lent) in
       let first : take r.count r.placements ≡ (wagner_in order codes weights n m).placements =
-      ap (take r.count) list ∙ filled-first no_placement 63 r.count (wagner_in order codes weights n m).placements count in
+      ap (take r.count) done.placements ∙ filled-first no_placement 63 r.count (wagner_in order codes weights n m).placements done.count in
       ap₂ (λ (tree : List ℕ) (all : List (List ℤ)). record {
         tree = tree;
         rows = all;
         placements = take r.count
             r.placements;
-      }) grown rows
+      }) done.tree rows
       ∙ ap (λ (list : List Placement). record {
         tree = (wagner_in order codes weights n m).tree;
         rows = (wagner_in order codes weights n m).rows;
@@ -100,10 +94,10 @@ module _ (order : Order) (codes new : List ℤ) (weights : List ℕ) (n m : ℕ)
 
   -- each of its placements is least
   pub built-least : BuildIsLeast order (difference weights) n m (rows_of codes m n) (built_back new n m r)
-  built-least = rw built-ours (unfold wagner_in in (no_rival n m weights (rows_of codes m n) (matrix_lent codes weights n m pass)).build order)
+  built-least = rw built-ours (unfold wagner_in in (no_rival n m weights (rows_of codes m n) (matrix_lent codes weights n m done.passed)).build order)
 
   -- and its tree is a branching of all taxa
   pub built-whole : branching n (ancestors r.tree) ≡ true
   built-whole =
       rw (ap (λ (built : Built). built.tree) built-ours)
-      (unfold wagner_in in (no_rival n m weights (rows_of codes m n) (matrix_lent codes weights n m pass)).whole order)
+      (unfold wagner_in in (no_rival n m weights (rows_of codes m n) (matrix_lent codes weights n m done.passed)).whole order)

@@ -4,10 +4,10 @@ use mathlib.Core.Bool.{true}
 use mathlib.Core.List.{List}
 use Prim.Native.Nat.{ℕ, ◌≤◌}
 use lib.IntN.{ℤ}
+use Rattle.std.specs.Prelude.{Some, Ok}
 use Rattle.matrix.specs.NodeRows.{rows_of}
 use Rattle.matrix.specs.Outcomes.{value}
 use Rattle.matrix.specs.Questions.{ask_matrix}
-use Rattle.matrix.specs.declared.refusal.Asked.TheVariants.{Passed}
 use Rattle.file_form.specs.Job.{Job}
 use Rattle.file_form.specs.Reading.{read_answer}
 use Rattle.difference.specs.Rows.{weighing}
@@ -15,7 +15,6 @@ use Rattle.branching.specs.Growing.{branching}
 use Rattle.fitting.specs.Fit.{fitted_total}
 use Rattle.consistency.specs.Floor.{floor, FloorNeverPasses}
 use Rattle.consistency.specs.Index.{thousand, IsIndex}
-use Rattle.consistency.specs.declared.index.Index.TheVariants.{Divided}
 use Rattle.consistency.proofs.NeverPasses.{floor_never_passes, floor-fitted}
 use Rattle.consistency.proofs.Division.{quotient_most}
 use Rattle.rivals.specs.Accepted.{Accepted, file_read, matrix_lent}
@@ -35,7 +34,7 @@ module _ (n m : ℕ) (weights : List ℕ) (rows : List (List ℤ)) (matrix : Acc
 
   -- so the quotient of an index is at most 1000
   pub quotient_bounded : (tree : List ℕ) → branching n tree ≡ true → (quotient remainder : ℕ)
-      → IsIndex (floor (weighing weights).step rows n m) (fitted_total (weighing weights).step tree rows n m) (Divided quotient remainder)
+      → IsIndex (floor (weighing weights).step rows n m) (fitted_total (weighing weights).step tree rows n m) (Some (record { quotient = quotient; remainder = remainder }))
       → quotient ≤ thousand
   quotient_bounded tree b quotient remainder is =
       quotient_most (floor (weighing weights).step rows n m) (fitted_total (weighing weights).step tree rows n m) quotient remainder
@@ -47,6 +46,6 @@ pub floor_of_every_file : (file : List ℕ) (job : Job) → read_answer file ≡
 floor_of_every_file file job e = floor_lowest job.n job.m job.weights job.rows (file_read file job e)
 
 -- for every lent matrix that passes 12, 4, 16 and the taxa's 10
-pub floor_of_every_lent_matrix : (codes : List ℤ) (weights : List ℕ) (n m : ℕ) → ask_matrix codes weights n m ≡ Passed
+pub floor_of_every_lent_matrix : (codes : List ℤ) (weights : List ℕ) (n m : ℕ) → ask_matrix codes weights n m ≡ Ok tt
     → FloorNeverPasses (weighing weights).step (rows_of codes m n) n m
 floor_of_every_lent_matrix codes weights n m e = floor_lowest n m weights (rows_of codes m n) (matrix_lent codes weights n m e)

@@ -8,10 +8,10 @@ use Prim.Native.Nat.{ℕ, ◌+◌, ◌≤◌}
 use native.Mathlib.Omega.{arith}
 use lib.IntN.{ℤ}
 use lib.ListN.{length, drop}
+use Rattle.std.specs.Prelude.{Ok}
 use Rattle.matrix.specs.Shape.{last_node}
 use Rattle.matrix.specs.NodeRows.{row_of, rows_of}
 use Rattle.matrix.specs.Questions.{ask_matrix}
-use Rattle.matrix.specs.declared.refusal.Asked.TheVariants.{Passed}
 use Rattle.file_form.specs.Job.{Job}
 use Rattle.matrix.specs.Outcomes.{value}
 use Rattle.file_form.specs.Reading.{read_answer}
@@ -26,8 +26,8 @@ use Rattle.branching.specs.Hanging.{no_branches, linked}
 use Rattle.branching.specs.RowLengths.{length_under}
 use Rattle.branching.specs.Placing.{place}
 use Rattle.branching.specs.Rival.{hung_length}
-use Rattle.wagner.specs.declared.order.Order.{Order}
-use Rattle.wagner.specs.declared.order.Order.TheVariants.{Closest}
+use Rattle.branching.specs.declared.order.Order.{Order}
+use Rattle.branching.specs.declared.order.Order.TheVariants.{Closest}
 use Rattle.wagner.specs.Build.{Built, wagner}
 use Rattle.fitting.specs.Sets.{In}
 use Rattle.fitting.specs.Assignments.{character, IsAssignment, IsLeast, Occurs, total}
@@ -42,7 +42,7 @@ pub for_every_file : (file : List ℕ) (job : Job) → read_answer file ≡ valu
 for_every_file file job e = no_rival job.n job.m job.weights job.rows (file_read file job e)
 
 -- for every lent matrix that passes 12, 4, 16 and the taxa's 10
-pub for_every_lent_matrix : (codes : List ℤ) (weights : List ℕ) (n m : ℕ) → ask_matrix codes weights n m ≡ Passed
+pub for_every_lent_matrix : (codes : List ℤ) (weights : List ℕ) (n m : ℕ) → ask_matrix codes weights n m ≡ Ok tt
     → NoRivalDoesBetter (weighing weights) n m (rows_of codes m n)
 for_every_lent_matrix codes weights n m e = no_rival n m weights (rows_of codes m n) (matrix_lent codes weights n m e)
 

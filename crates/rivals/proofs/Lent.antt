@@ -8,13 +8,13 @@ use borrow.Author.Tests.{leb-true, eq-eqb}
 use lib.Dec.{leb, eqb}
 use lib.IntN.{ℤ}
 use lib.ListN.{length, get_or}
+use Rattle.std.specs.Prelude.{Ok}
 use Rattle.fitting.specs.Rival.{FitIsLeast}
 use Rattle.matrix.specs.NodeRows.{rows_of, row_of}
 use Rattle.lists.specs.Numbers.{numbers}
 use Rattle.lists.specs.Tests.{every}
 use Rattle.matrix.specs.Shape.{row}
 use Rattle.matrix.specs.Questions.{all_in_range, htu_in_range, htus_in_range, ask_matrix}
-use Rattle.matrix.specs.declared.refusal.Asked.TheVariants.{Passed}
 use Rattle.matrix.specs.declared.refusal.Refusal.TheVariants.{NotBranching, ListSize}
 use Rattle.matrix.proofs.Passing.{ask_passed, and_then_passed, matrix_passed}
 use Rattle.difference.specs.Rows.{difference, node_difference, weighing}
@@ -111,11 +111,11 @@ module _ (codes : List ℤ) (weights : List ℕ) (n m : ℕ) (tree : List ℕ) (
       asked.unplaced)
 
 -- a lent branching that no question refuses: the fit on it is least
-pub fit-lent : (codes : List ℤ) (weights : List ℕ) (n m : ℕ) (records : List Branch) → ask_branching codes weights n m records ≡ Passed
+pub fit-lent : (codes : List ℤ) (weights : List ℕ) (n m : ℕ) (records : List Branch) → ask_branching codes weights n m records ≡ Ok tt
     → FitIsLeast (weighing weights).step (ancestors_of n records) (rows_of codes m n) n m
 unfolding ask_branching
 fit-lent codes weights n m records e =
     let size = ask_passed (eqb (length records) branches_size) ListSize _ e in
     let matrix = and_then_passed (ask_matrix codes weights n m) _ size.1 in
-    let whole = ask_passed (lent_branching n records) NotBranching Passed matrix.1 in
+    let whole = ask_passed (lent_branching n records) NotBranching (Ok tt) matrix.1 in
     (no_rival n m weights (rows_of codes m n) (matrix_lent codes weights n m matrix.0)).lent_fit records whole.0

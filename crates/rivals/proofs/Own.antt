@@ -13,7 +13,8 @@ use Rattle.matrix_file.specs.Report.{ReadDone}
 use Rattle.file_form.specs.Written.{LentLists}
 use Rattle.file_form.specs.declared.header.Header.{Header}
 use Rattle.file_form.specs.declared.header.Kind.TheVariants.{Own}
-use Rattle.matrix_file.specs.declared.answer.Read.{Read}
+use Rattle.matrix_file.specs.declared.answer.Refused.{Refused}
+use Rattle.std.specs.Prelude.{Result, Ok}
 use Rattle.file_form.proofs.File.Accepted.{accepted_exactly}
 use Rattle.matrix_file.proofs.Lists.ReadLists.{read_accepting}
 use Rattle.difference.specs.Rows.{weighing}
@@ -55,7 +56,7 @@ own-least file job e own =
     (own-branching job ((accepted_exactly file job).0 e).0 own)
 
 -- a read of an `F` file hands its branching back: the lent records then are a branching, that of the file
-pub own_handed_back : (file : List ℕ) (old new : LentLists) (r : Read) (header : Header) → ReadDone file old new r → r ≡ Read.Accepted header
+pub own_handed_back : (file : List ℕ) (old new : LentLists) (r : Result Header Refused) (header : Header) → ReadDone file old new r → r ≡ Ok header
     → header.kind ≡ Own
     → (job : Job)
     × (read_answer file ≡ value job)

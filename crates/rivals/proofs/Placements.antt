@@ -21,8 +21,8 @@ use Rattle.branching.specs.Ancestors.{ancestor}
 use Rattle.branching.specs.RowLengths.{length_under}
 use Rattle.branching.specs.Rival.{hung_length, PlacementIsLeast}
 use Rattle.branching.proofs.Counts.{taxon-unplaced}
-use Rattle.wagner.specs.declared.order.Order.{Order}
-use Rattle.wagner.specs.declared.order.Order.TheVariants.{Closest}
+use Rattle.branching.specs.declared.order.Order.{Order}
+use Rattle.branching.specs.declared.order.Order.TheVariants.{Closest}
 use Rattle.wagner.specs.Next.{by_closeness, next_by}
 use Rattle.wagner.specs.Build.{build_on, build, wagner}
 use Rattle.wagner.proofs.Closest.{adds, closeness_least}

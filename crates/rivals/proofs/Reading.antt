@@ -17,7 +17,8 @@ use Rattle.file_form.specs.Job.{Job, JobWithinLimits}
 use Rattle.file_form.specs.declared.header.Header.{Header}
 use Rattle.matrix_file.specs.Report.{ReadDone}
 use Rattle.file_form.specs.Written.{matrix_written, weights_written, LentLists}
-use Rattle.matrix_file.specs.declared.answer.Read.{Read}
+use Rattle.matrix_file.specs.declared.answer.Refused.{Refused}
+use Rattle.std.specs.Prelude.{Result, Ok}
 use Rattle.matrix_file.proofs.Lists.ReadLists.{job_row, job_lent, job_weighed, read_accepting}
 use Rattle.difference.specs.Rows.{weighing}
 use Rattle.difference.proofs.Laws.Measure.{measure_weights}
@@ -67,7 +68,7 @@ written_measure weights room = measure_weights (weights_written weights ones) we
         ∙ sym (get_or-eq_default weights 1 (omega arith)))
 
 -- no rival does better on a matrix that the call has read, by the weights that it has read
-pub no_rival_read : (file : List ℕ) (old new : LentLists) (r : Read) (header : Header) → ReadDone file old new r → r ≡ Read.Accepted header
+pub no_rival_read : (file : List ℕ) (old new : LentLists) (r : Result Header Refused) (header : Header) → ReadDone file old new r → r ≡ Ok header
     → NoRivalDoesBetter (weighing new.weights) header.n header.m (rows_of new.matrix header.m header.n)
 no_rival_read file old new r header done e =
     let accepting = read_accepting file old new r header done e in

@@ -8,13 +8,13 @@ use borrow.Author.Tests.{eqb-true, eq-eqb}
 use lib.IntN.{ℤ}
 use lib.ListN.{length, get_or}
 use lib.Seq.{take_all}
+use Rattle.std.specs.Prelude.{Ok}
 use Rattle.matrix.proofs.NodeRows.{row_of-rows_of, length-rows_of}
 use Rattle.branching.proofs.RowLengths.{OfLength}
 use Rattle.matrix.specs.NodeRows.{row_of, rows_of}
 use Rattle.lists.specs.Tests.{every}
 use Rattle.matrix.specs.Shape.{row, is_weight}
 use Rattle.matrix.specs.Questions.{within_limits, all_in_range, are_weights, ask_matrix, LentMatrix}
-use Rattle.matrix.specs.declared.refusal.Asked.TheVariants.{Passed}
 use Rattle.lists.proofs.Both.{and_both}
 use Rattle.lists.proofs.Every.{every_at, every-from, every_append}
 use Rattle.matrix.proofs.Passing.{matrix_passed, weights_passed, true-one_to}
@@ -74,7 +74,7 @@ rows-from test codes m n h = every-from test [] (rows_of codes m n) at_place
         rw (row_at codes m n i small) (h (i + 1) (omega arith) (omega arith))
 
 -- and those of a lent matrix that passes its questions
-rows-lent : (codes : List ℤ) (weights : List ℕ) (n m : ℕ) → ask_matrix codes weights n m ≡ Passed
+rows-lent : (codes : List ℤ) (weights : List ℕ) (n m : ℕ) → ask_matrix codes weights n m ≡ Ok tt
     → MatrixRows n m weights (rows_of codes m n)
 unfolding within_limits has_codes
 rows-lent codes weights n m e =

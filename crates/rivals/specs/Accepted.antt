@@ -1,9 +1,8 @@
 -- Accepted matrices, and the trees that are handed in for them.
-use Rattle.std.specs.Prelude.{◌≡◌, true, false, List, ℕ, ◌-◌, ℤ, length}
+use Rattle.std.specs.Prelude.{◌≡◌, true, false, List, ℕ, ◌-◌, ℤ, length, Ok}
 use Rattle.matrix.specs.NodeRows.{rows_of}
 use Rattle.lists.specs.Tests.{every}
 use Rattle.matrix.specs.Questions.{all_in_range, ask_matrix}
-use Rattle.matrix.specs.declared.refusal.Asked.TheVariants.{Passed}
 use Rattle.file_form.specs.Job.{Job, has_codes}
 use Rattle.matrix.specs.Outcomes.{value}
 use Rattle.file_form.specs.Reading.{read_answer}
@@ -14,7 +13,7 @@ use Rattle.branching.specs.Growing.{growing_tree, row_one_alone}
 -- questions 12, 4, 16 and 10
 pub data Accepted : ℕ → ℕ → List ℕ → List (List ℤ) → Type 0 where
   file_read : (file : List ℕ) (job : Job) → read_answer file ≡ value job → Accepted job.n job.m job.weights job.rows
-  matrix_lent : (codes : List ℤ) (weights : List ℕ) (n m : ℕ) → ask_matrix codes weights n m ≡ Passed
+  matrix_lent : (codes : List ℤ) (weights : List ℕ) (n m : ℕ) → ask_matrix codes weights n m ≡ Ok tt
       → Accepted n m weights (rows_of codes m n)
 
 -- rows of m codes from -999 to 999

@@ -12,8 +12,8 @@ use Rattle.branching.specs.Hanging.{no_branches, linked}
 use Rattle.branching.specs.Branches.{lent_branching, ancestors_of}
 use Rattle.branching.specs.RowLengths.{length_under}
 use Rattle.branching.specs.Placing.{AfterPlacing, link_first, place}
-use Rattle.wagner.specs.declared.order.Order.{Order}
-use Rattle.wagner.specs.declared.order.Order.TheVariants.{Closest}
+use Rattle.branching.specs.declared.order.Order.{Order}
+use Rattle.branching.specs.declared.order.Order.TheVariants.{Closest}
 use Rattle.wagner.specs.Build.{Built, wagner}
 use Rattle.branching.specs.Rival.{hung_length, PlacementIsLeast}
 use Rattle.fitting.specs.Rival.{FitIsLeast}

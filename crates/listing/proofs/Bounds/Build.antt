@@ -23,8 +23,8 @@ use Rattle.branching.specs.Ancestors.{ancestor, places}
 use Rattle.branching.specs.Nodes.{in_tree, nodes_in, nodes_out, other_nodes, taxa_placed}
 use Rattle.branching.specs.Hanging.{no_branches, linked, hung, next_htu}
 use Rattle.branching.specs.Placing.{AfterPlacing, from_interval, nearest_interval, median_row, link_first, hang, place_on, place}
-use Rattle.wagner.specs.declared.order.Order.{Order}
-use Rattle.wagner.specs.declared.order.Order.TheVariants.{Advance, Closest}
+use Rattle.branching.specs.declared.order.Order.{Order}
+use Rattle.branching.specs.declared.order.Order.TheVariants.{Advance, Closest}
 use Rattle.wagner.specs.Next.{advancement, by_advancement, next_by}
 use Rattle.wagner.specs.Build.{Built, build_on, build, wagner}
 use Rattle.wagner.proofs.Closest.{adds, closeness_least}

@@ -9,8 +9,8 @@ use lib.ListN.{drop}
 use Rattle.matrix.specs.Outcomes.{ask, Outcome, value, refused, on_line, then_with}
 use Rattle.matrix.specs.Questions.{within_limits}
 use Rattle.matrix.specs.declared.refusal.Refusal.TheVariants.{FirstLine, UnknownOrder, BeyondLimits, FileGoesOn, BranchForm}
-use Rattle.matrix.specs.declared.refusal.Asked.{Asked}
-use Rattle.matrix.specs.declared.refusal.Asked.TheVariants.{Passed, Refused}
+use Rattle.matrix.specs.Outcomes.{Asked}
+use Rattle.std.specs.Prelude.{Ok, Err}
 use Rattle.file_form.specs.declared.header.Header.{Header}
 use Rattle.file_form.specs.Lines.{lines_of, fields_of}
 use Rattle.file_form.specs.Header.{header_in, row_line, behind_header, first_line_form, first_fields, order_known, ask_first_line, ask_weights}
@@ -35,10 +35,14 @@ pub data LineWithin {A : Type 0} (most : ℕ) : Outcome A → Type 0 where
   some : {number line : ℕ} → line ≤ most → LineWithin most (refused number line)
 
 -- a line's questions and those that follow
-on_line_within : {A : Type 0} (most line : ℕ) (asked : Asked) (rest : Outcome A) → line ≤ most → (asked ≡ Passed → LineWithin most rest)
+on_line_within : {A : Type 0} (most line : ℕ) (asked : Asked) (rest : Outcome A) → line ≤ most → (asked ≡ Ok tt → LineWithin most rest)
     → LineWithin most (on_line line asked rest)
-on_line_within most line Passed rest h later = later refl
-on_line_within most line (Refused refusal) rest h later = some h
+on_line_within most line (Ok _) rest h later = later refl
+on_line_within most line (Err refusal) rest h later = some h
+
+-- one line on, and one less to go
+one_on : (line left : ℕ) → suc line + left ≡ line + suc left
+one_on line left = omega arith
 
 -- the questions on the rows: no line behind the last row's, if none is given by what follows them
 rows-lines : {A : Type 0} (most : ℕ) (header : Header) (earlier : List (List ℕ)) (line left : ℕ) (lines : List (List ℕ))
@@ -49,9 +53,8 @@ rows-lines most header earlier line zero lines follow h own = rw add-zero at (ow
 rows-lines most header earlier line (suc left) [] follow h own = some {line = line} (omega arith)
 rows-lines most header earlier line (suc left) (behind ∷ []) follow h own = some {line = line} (omega arith)
 rows-lines most header earlier line (suc left) (row ∷ next ∷ lines) follow h own =
-    let same : suc line + left ≡ line + suc left = omega arith in
     on_line_within most line (ask_row header earlier row) (ask_rows header (name_in row ∷ earlier) (suc line) left (next ∷ lines) follow) (omega arith)
-    (λ e. rows-lines most header (name_in row ∷ earlier) (suc line) left (next ∷ lines) follow (omega arith) (λ others. rw same (own others)))
+    (λ e. rows-lines most header (name_in row ∷ earlier) (suc line) left (next ∷ lines) follow (omega arith) (λ others. rw (one_on line left) (own others)))
 
 -- the questions on `C` lines: no line behind the last one's, if none is given by what follows them
 branches-lines : {A : Type 0} (most line v left : ℕ) (lines : List (List ℕ)) (follow : ℕ → List (List ℕ) → Outcome A) → line + left ≤ most
@@ -61,9 +64,8 @@ branches-lines most line v zero lines follow h own = rw add-zero at (own lines)
 branches-lines most line v (suc left) [] follow h own = some {line = line} (omega arith)
 branches-lines most line v (suc left) (behind ∷ []) follow h own = some {line = line} (omega arith)
 branches-lines most line v (suc left) (text ∷ next ∷ lines) follow h own =
-    let same : suc line + left ≡ line + suc left = omega arith in
-    on_line_within most line (ask (branch_form v (fields_of text)) BranchForm Passed) (ask_branches (suc line) (suc v) left (next ∷ lines) follow) (omega arith)
-    (λ e. branches-lines most (suc line) (suc v) left (next ∷ lines) follow (omega arith) (λ others. rw same (own others)))
+    on_line_within most line (ask (branch_form v (fields_of text)) BranchForm (Ok tt)) (ask_branches (suc line) (suc v) left (next ∷ lines) follow) (omega arith)
+    (λ e. branches-lines most (suc line) (suc v) left (next ∷ lines) follow (omega arith) (λ others. rw (one_on line left) (own others)))
 
 -- the questions on what stands behind the rows of a job of at most 64 taxa
 after_lines : (job : Job) (line : ℕ) (lines : List (List ℕ)) → job.n ≤ 64 → line ≤ behind_rows_most → LineWithin most_lines (ask_after job line lines)
@@ -74,16 +76,16 @@ after_lines job line lines h low =
     let most = count_most job.kind job.n in
     branches-lines most_lines line 2 count lines (ask_end (on_line 0 tree (value job))) (omega arith)
     (λ others.
-    on_line_within most_lines (line + count) (ask (nothing_more others) FileGoesOn Passed) (on_line 0 tree (value job)) (omega arith)
+    on_line_within most_lines (line + count) (ask (nothing_more others) FileGoesOn (Ok tt)) (on_line 0 tree (value job)) (omega arith)
     (λ e. on_line_within most_lines 0 tree (value job) (omega arith) (λ passed. none)))
 
 -- line 1 that passes its questions has n and m within their limits
-first-limits : (lines : List (List ℕ)) → ask_first_line lines ≡ Passed → within_limits (header_in lines).n (header_in lines).m ≡ true
+first-limits : (lines : List (List ℕ)) → ask_first_line lines ≡ Ok tt → within_limits (header_in lines).n (header_in lines).m ≡ true
 unfolding ask_first_line
 first-limits lines passed =
     let form = ask_passed (first_line_form lines) FirstLine _ passed in
     let order = ask_passed (order_known (first_fields lines)) UnknownOrder _ form.1 in
-    (ask_passed (within_limits (header_in lines).n (header_in lines).m) BeyondLimits Passed order.1).0
+    (ask_passed (within_limits (header_in lines).n (header_in lines).m) BeyondLimits (Ok tt) order.1).0
 
 -- the questions on what stands behind a header of at most 64 taxa
 behind-lines : (header : Header) (lines : List (List ℕ)) → header.n ≤ 64 → LineWithin most_lines (ask_behind header lines)
@@ -95,10 +97,10 @@ behind-lines header lines h =
 
 -- two lines' questions with what they bring, and what follows it
 then_lines : {A B : Type 0} (most : ℕ) (first second : Asked) (a : A) (follow : A → Outcome B) → 2 ≤ most
-    → (first ≡ Passed → LineWithin most (follow a)) → LineWithin most (then_with (on_line 1 first (on_line 2 second (value a))) follow)
-then_lines most Passed Passed a follow h later = later refl
-then_lines most Passed (Refused refusal) a follow h later = some {line = 2} h
-then_lines most (Refused refusal) second a follow h later = some {line = 1} (omega arith)
+    → (first ≡ Ok tt → LineWithin most (follow a)) → LineWithin most (then_with (on_line 1 first (on_line 2 second (value a))) follow)
+then_lines most (Ok _) (Ok _) a follow h later = later refl
+then_lines most (Ok _) (Err refusal) a follow h later = some {line = 2} h
+then_lines most (Err refusal) second a follow h later = some {line = 1} (omega arith)
 
 -- the questions on a file
 pub file-line : (file : List ℕ) → LineWithin most_lines (read_answer file)

@@ -1,18 +1,17 @@
 -- `listing::job::put_results` meets its contract: block after block. Assumes nothing.
-use Rattle.listing.specs.Found.{result_texts}
+use borrow.Author.Rules.{rules}
+use Rattle.file_form.specs.Text.{bytes}
+use Rattle.lines.specs.Kinds.{prim_line, wagner_line, total_line, total_text}
+use Rattle.lines.specs.Fields.{names_of}
 use Rattle.lines.proofs.Puts.{put_then}
+use Rattle.listing.specs.Handed.{prim_texts, wagner_texts}
+use Rattle.listing.specs.Found.{result_texts}
 use Rattle.listing.proofs.job.put_results.Goals as goal
 
-pub put_prim_block-a-requires : goal.put_prim_block-a-requires
-put_prim_block-a-requires c = c.requires.0.links
-
-pub put_wagner_block-b-requires : goal.put_wagner_block-b-requires
-put_wagner_block-b-requires c = c.requires.0.placements
-
-pub put_tree-requires : goal.put_tree-requires
-put_tree-requires c = (c.requires.0.sizes, c.requires.1)
-
 pub returns : goal.returns
-unfolding result_texts
+unfolding result_texts prim_texts wagner_texts total_line total_text bytes
 returns c =
-    put_then c.put_prim_block-a.ensures (put_then c.put_wagner_block-b.ensures c.put_tree.ensures)
+    let names = c.args.sizes.names in
+    let links = c.put_block.ensures (prim_line names.n (names_of names)) (λ listing link done after put. search rules) in
+    let placements = c.put_block-2.ensures (wagner_line names.n (names_of names)) (λ listing placement done after put. search rules) in
+    put_then (rw c.links.ensures at links) (put_then (rw c.placements.ensures at placements) c.put_tree.ensures)

@@ -1,18 +1,23 @@
 -- `listing::job::results_of` meets its contract: what the calls promise, put together. Assumes nothing.
-use Rattle.listing.proofs.FoundResults.{found_branching, found_lent, results_found}
+use Rattle.listing.proofs.FoundResults.{lent_network, lent_built, found_branching, found_lent, results_found}
 use Rattle.listing.proofs.job.results_of.Goals as goal
 
-pub fitted_of-fitted-requires : goal.fitted_of-fitted-requires
-fitted_of-fitted-requires c = record {
-  lent_matrix = (
-    found_lent _ _ _ _ _ _ c.requires.lent_matrix.0 c.requires.lent_matrix.1 _ c.network-answer.ensures _ c.build-built.ensures,
-    c.requires.lent_matrix.1,
-    found_branching _ _ _ _ _ _ c.requires.lent_matrix.0 c.requires.lent_matrix.1 _ c.network-answer.ensures _ c.build-built.ensures,
-  );
-  state_lists = c.requires.state_lists;
-}
+pub unwrap-links-requires : goal.unwrap-links-requires
+unwrap-links-requires c = lent_network _ _ _ _ _ c.requires.0 c.requires.1 c.network.ensures
 
-pub returns : goal.returns
-returns c =
-    results_found _ _ _ _ _ _ c.requires.lent_matrix.0 c.requires.lent_matrix.1 _ c.network-answer.ensures _ c.build-built.ensures _ _ _ _
-    c.fitted_of-fitted.ensures
+pub unwrap-built-requires : goal.unwrap-built-requires
+unwrap-built-requires c = lent_built _ _ _ _ _ _ _ c.requires.0 c.requires.1 c.build.ensures
+
+pub fitted_of-fitted-requires : goal.fitted_of-fitted-requires
+fitted_of-fitted-requires c =
+    let links = rw c.unwrap-links.ensures at c.network.ensures in
+    let built = rw c.unwrap-built.ensures at c.build.ensures in record {
+      lent_matrix = (found_lent _ _ _ _ _ _ c.requires.0 c.requires.1 _ links.1 _ built, c.requires.1);
+      branching = found_branching _ _ _ _ _ _ c.requires.0 c.requires.1 _ links.1 _ built;
+    }
+
+pub returns-clause-found : goal.returns-clause-found
+returns-clause-found c =
+    let links = rw c.unwrap-links.ensures at c.network.ensures in
+    let built = rw (c.order_meant-order.ensures, c.unwrap-built.ensures) at c.build.ensures in
+    results_found _ _ _ _ _ _ c.requires.0 c.requires.1 _ links.1 _ built _ _ _ _ c.fitted_of-fitted.ensures

@@ -1,0 +1,17 @@
+-- `lines::put::Listing::put_prim_line` meets its contract. Assumes nothing.
+use mathlib.Core.Path.{sym}
+use Rattle.file_form.specs.Text.{bytes}
+use Rattle.lines.specs.Kinds.{prim_line}
+use Rattle.lines.proofs.Puts.{put_then, put_same, put_said}
+use Rattle.lines.proofs.LineFields.{behind, line_fields}
+use Rattle.lines.proofs.put.Listing.put_prim_line.Goals as goal
+
+pub returns : goal.returns
+unfolding prim_line bytes behind
+returns c =
+    put_same (sym (line_fields _ _))
+    (put_then c.put_byte.ensures
+    (put_then (put_said c.node.ensures c.put_field.ensures)
+    (put_then (put_said c.node-2.ensures c.put_field-2.ensures)
+    (put_then c.put_field-3.ensures
+    c.put_byte-2.ensures))))

@@ -1,7 +1,0 @@
--- `lines::put::put_tab_number` meets its contract. Assumes nothing.
-use Rattle.lines.proofs.Puts.{put_then}
-use Rattle.lines.proofs.put.put_tab_number.Goals as goal
-
-pub returns : goal.returns
-returns c =
-    put_then c.put_byte-next.ensures c.put_number.ensures

@@ -1,0 +1,106 @@
+// The fields of a line: what each says, and how it is put.
+ghost use Rattle.std.specs.Prelude.{List, ◌∷◌, ℕ};
+ghost use Rattle.file_form.specs.Bytes.{tab};
+ghost use Rattle.file_form.specs.Decimal.{digits_of, decimal};
+ghost use Rattle.lines.specs.Kinds.{mark};
+ghost use Rattle.lines.specs.Fields.{node_text, or_hyphen};
+ghost use Rattle.lines.specs.Puts.{Puts};
+
+use crate::names::Node;
+use crate::put::Listing;
+use difference::codes::apart;
+use file_form::TAB;
+
+const HYPHEN: u8 = b'-';
+
+const PLUS: u8 = b'+';
+
+const HASH: u8 = b'#';
+
+// A field of a line.
+pub(crate) trait Field: Copy {
+    // The bytes that it says.
+    ghost text: { Self → List ℕ };
+
+    // Puts them.
+    fn put(self, listing: &mut Listing)
+        ensures { Puts (text self) listing.old listing.new };
+}
+
+// A number in decimal.
+impl Field for u64 {
+    ghost text = { digits_of };
+
+    fn put(self, listing: &mut Listing) {
+        listing.put_number(self);
+    }
+}
+
+// A code in decimal.
+impl Field for i32 {
+    ghost text = { decimal };
+
+    fn put(self, listing: &mut Listing) {
+        let size = apart(self, 0);
+        if self < 0 {
+            listing.put_byte(HYPHEN);
+            listing.put_number(size);
+        } else {
+            listing.put_number(size);
+        }
+    }
+}
+
+// The mark of a branch.
+impl Field for bool {
+    ghost text = { mark };
+
+    fn put(self, listing: &mut Listing) {
+        if self {
+            listing.put_byte(PLUS);
+        } else {
+            listing.put_byte(HYPHEN);
+        }
+    }
+}
+
+// A hyphen for no node, a taxon by its name, an HTU by `#` and its number among the HTUs.
+impl<'a> Field for Node<'a> {
+    ghost text = { node_text };
+
+    fn put(self, listing: &mut Listing) {
+        let v = self.v;
+        let n = self.names.n;
+        // Kept: no plainer, a placement says 0 for no node; an `Option` of a node would be made of that 0 by the same test.
+        if v == 0 {
+            return listing.put_byte(HYPHEN);
+        }
+        if v <= n {
+            return listing.put_name(self.names.name_bytes(v - 1));
+        }
+        listing.put_byte(HASH);
+        listing.put_number((v - n) as u64);
+    }
+}
+
+// A hyphen where there is no field.
+impl<F: Field> Field for Option<F> {
+    ghost text = { or_hyphen F.text };
+
+    fn put(self, listing: &mut Listing) {
+        match self {
+            Some(field) => field.put(listing),
+            None => listing.put_byte(HYPHEN),
+        }
+    }
+}
+
+impl<'a> Listing<'a> {
+    // Puts a tab and a field.
+    pub(crate) fn put_field<F: Field>(&mut self, field: F)
+        ensures { Puts (tab ∷ F.text field) self.old self.new }
+    {
+        self.put_byte(TAB);
+        field.put(self);
+    }
+}

@@ -1,0 +1,38 @@
+// The names of taxa in lent bytes, and the nodes that they name.
+ghost use Rattle.std.specs.Prelude.{◌≡◌};
+ghost use Rattle.lines.specs.Lines.{node_name};
+ghost use Rattle.lines.specs.Names.{name_bytes};
+ghost use Rattle.lines.specs.Fields.{names_of, node_text};
+
+use file_form::NAME_SIZE;
+
+// The names of n taxa, in lent bytes.
+// Kept: no plainer, `n` tells a taxon from an HTU as well; from a slice of n names each field would have it by a division.
+#[derive(Clone, Copy)]
+pub struct Names<'a> {
+    pub n: usize,
+    pub lent: &'a [u8],
+}
+
+// A node, as names say it.
+#[derive(Clone, Copy)]
+pub(crate) struct Node<'a> {
+    pub(crate) names: Names<'a>,
+    pub(crate) v: usize,
+}
+
+impl<'a> Names<'a> {
+    // Node v.
+    pub(crate) fn node(self, v: usize) -> Node<'a>
+        ensures { node_text result ≡ node_name self.entry.n (names_of self.entry) v }
+    {
+        Node { names: self, v }
+    }
+
+    // The bytes lent for the name at place k, as far as the lent list goes.
+    pub(crate) fn name_bytes(self, k: usize) -> &'a [u8]
+        ensures { result.now ≡ name_bytes self.entry.lent.now k }
+    {
+        self.lent.chunks(NAME_SIZE).nth(k).unwrap_or(&[])
+    }
+}
