@@ -1,5 +1,5 @@
 -- What the exported call for a listing hands back, from what the call below it answers.
-use mathlib.Core.Path.{◌≡◌, sym, ap, ◌∙◌}
+use mathlib.Core.Path.{◌≡◌, refl, sym, ap, ◌∙◌}
 use mathlib.Core.Logic.{by_cases}
 use mathlib.Core.List.{List, ◌++◌}
 use Prim.Native.Nat.{ℕ, ◌≤◌}
@@ -8,17 +8,23 @@ use native.Mathlib.Decide.{ℕ_discrete}
 use borrow.Author.Tests.{eq-eqb, ne_eqb}
 use lib.ListN.{length, drop, length-append}
 use lib.Seq.{length-take-le}
+use Rattle.std.specs.Prelude.{Result, Ok, Err}
+use Rattle.std.specs.Result.{result_unwrap_or}
 use Rattle.matrix.specs.Outcomes.{answered}
+use Rattle.matrix.specs.declared.refusal.Refusal.{Refusal}
 use Rattle.matrix.specs.declared.refusal.Refusal.TheVariants.{ListSize}
-use Rattle.matrix.specs.declared.refusal.Asked.TheVariants.{Passed, Refused}
-use Rattle.listing.specs.declared.call.Listed.{Listed}
 use Rattle.listing.specs.Listing.{output}
 use Rattle.listing.specs.Call.{output_size, ask_output, listed_says, ListDone}
 use Rattle.listing.proofs.OfFiles.{output-some}
 use Rattle.exports.specs.Answers.{bytes_said}
 use Rattle.exports.specs.Calls.{ListExported}
 
-module _ (file old new : List ℕ) (listed : Listed) (done : ListDone file old new listed) (r : ℕ) (says : r ≡ bytes_said (listed_says listed)) where
+-- the number of bytes that an answer says, or 0
+pub number_or : (listed : Result ℕ Refusal) → result_unwrap_or listed 0 ≡ bytes_said (listed_says listed)
+number_or (Ok count) = refl
+number_or (Err refusal) = refl
+
+module _ (file old new : List ℕ) (listed : Result ℕ Refusal) (done : ListDone file old new listed) (r : ℕ) (says : r ≡ bytes_said (listed_says listed)) where
   -- it says how many bytes are printed, or 0
   counts : r ≡ bytes_said (answered (ask_output old) (length (output file)))
   counts = says ∙ ap bytes_said done.says
@@ -26,7 +32,7 @@ module _ (file old new : List ℕ) (listed : Listed) (done : ListDone file old n
   -- as many bytes were lent as are asked for
   list_full : length old ≡ output_size → ListExported file old new r
   list_full full =
-      let pass : ask_output old ≡ Passed = unfold ask_output in rw (eq-eqb (length old) output_size full) in
+      let pass : ask_output old ≡ Ok tt = unfold ask_output in rw (eq-eqb (length old) output_size full) in
       let count : r ≡ length (output file) = rw pass at counts in
       let front : new ≡ output file ++ drop (length (output file)) old = rw pass at done.bytes in
       let size : length new ≡ length (output file ++ drop (length (output file)) old) = ap length front in
@@ -43,7 +49,7 @@ module _ (file old new : List ℕ) (listed : Listed) (done : ListDone file old n
   -- another number of them
   list-other : (length old ≡ output_size → ⊥) → ListExported file old new r
   list-other h =
-      let refuses : ask_output old ≡ Refused ListSize = unfold ask_output in rw (ne_eqb (length old) output_size h) in
+      let refuses : ask_output old ≡ Err ListSize = unfold ask_output in rw (ne_eqb (length old) output_size h) in
       let none : r ≡ 0 = rw refuses at counts in
       let room : r ≤ length new = omega arith in
       record {

@@ -4,9 +4,9 @@ use mathlib.Core.List.{List}
 use Prim.Native.Nat.{ℕ}
 use borrow.Author.Tests.{eq-eqb}
 use lib.ListN.{length}
+use Rattle.std.specs.Prelude.{Result, Ok}
 use Rattle.matrix.specs.Outcomes.{value}
 use Rattle.matrix.specs.Questions.{ask_matrix}
-use Rattle.matrix.specs.declared.refusal.Asked.TheVariants.{Passed}
 use Rattle.matrix.proofs.Passing.{matrix_passes}
 use Rattle.file_form.specs.Job.{Job}
 use Rattle.file_form.specs.Reading.{read_answer}
@@ -14,8 +14,7 @@ use Rattle.matrix_file.specs.Report.{ReadDone}
 use Rattle.file_form.specs.Written.{LentLists, job_written}
 use Rattle.file_form.specs.declared.header.Header.{Header}
 use Rattle.file_form.specs.declared.header.Kind.TheVariants.{Own}
-use Rattle.matrix_file.specs.declared.answer.Read.{Read}
-use Rattle.matrix_file.specs.declared.answer.Read.TheVariants.{Accepted}
+use Rattle.matrix_file.specs.declared.answer.Refused.{Refused}
 use Rattle.matrix_file.proofs.Lists.ReadLists.{job_lent, job_weighed, read_accepting}
 use Rattle.difference.specs.Rows.{weighing}
 use Rattle.branching.specs.Ancestors.{tree_with}
@@ -41,7 +40,7 @@ own_index weights job =
     (fitted_total (weighing weights).step (tree_with job.ancestors) job.rows job.n job.m)))
 
 -- a read of an `F` file, and then the call for an index on what it has written
-pub own-indexed : (file : List ℕ) (old new : LentLists) (r : Read) (header : Header) → ReadDone file old new r → r ≡ Accepted header
+pub own-indexed : (file : List ℕ) (old new : LentLists) (r : Result Header Refused) (header : Header) → ReadDone file old new r → r ≡ Ok header
     → header.kind ≡ Own
     → (job : Job)
     × (read_answer file ≡ value job)
@@ -54,7 +53,7 @@ own-indexed file old new r header done e own =
     let written = job_written job old in
     let lent =
     own-lent job told.within (ap (λ (said : Header). said.kind) told.says ∙ own) old.branches sizes.3 in
-    let asked : ask_matrix written.matrix written.weights job.n job.m ≡ Passed =
+    let asked : ask_matrix written.matrix written.weights job.n job.m ≡ Ok tt =
     (matrix_passes _ _ _ _).1
     (job_lent job told.within old.matrix sizes.0, job_weighed job told.within old.weights sizes.1) in
     let full = eq-eqb (length written.branches) lent_numbers (length-records_written job.ancestors old.branches ∙ sizes.3) in

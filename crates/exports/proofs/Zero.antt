@@ -4,21 +4,19 @@ use mathlib.Core.Logic.{◌↔◌}
 use mathlib.Core.List.{List}
 use Prim.Native.Nat.{ℕ, ◌≤◌}
 use native.Mathlib.Omega.{arith}
-use Rattle.matrix.specs.Outcomes.{Outcome, value, refused, on_line, answered}
+use Rattle.std.specs.Prelude.{Option, None, Some, Ok, Err}
+use Rattle.matrix.specs.Outcomes.{Asked, Outcome, value, refused, on_line, answered}
 use Rattle.matrix.specs.Refusals.{refusal_number}
 use Rattle.matrix.specs.declared.refusal.Refusal.{Refusal}
 use Rattle.matrix.specs.declared.refusal.Refusal.TheVariants.{FileTooLong, FileEmpty, FirstLine, BeyondLimits, LineMissing}
 use Rattle.matrix.specs.declared.refusal.Refusal.TheVariants.{NameForm, NameTaken, FieldCount, CodeForm, CodeRange, FileGoesOn}
 use Rattle.matrix.specs.declared.refusal.Refusal.TheVariants.{ListSize, NotThere, NotBranching, UnknownOrder, WeightForm, BranchForm}
-use Rattle.matrix.specs.declared.refusal.Asked.{Asked}
-use Rattle.matrix.specs.declared.refusal.Asked.TheVariants.{Passed, Refused}
 use Rattle.file_form.specs.Job.{Job}
 use Rattle.file_form.specs.Reading.{read_answer}
 use Rattle.matrix_file.specs.Report.{ask_size, read_outcome, with_header}
 use Rattle.file_form.specs.Written.{LentLists}
 use Rattle.file_form.proofs.File.Numbered.{refused_bounds}
 use Rattle.consistency.specs.declared.index.Index.{Index}
-use Rattle.consistency.specs.declared.index.Index.TheVariants.{Divided, NoTotal}
 use Rattle.exports.specs.Answers.{file_read, measured, indexed}
 
 -- no refusal has the number 0
@@ -42,24 +40,23 @@ numbered WeightForm = omega arith
 numbered BranchForm = omega arith
 
 -- a call on a lent matrix hands back 0 exactly if its questions passed
-pub zero_passed : (asked : Asked) (length : ℕ) → ((measured (answered asked length)).refusal ≡ 0) ↔ (asked ≡ Passed)
-zero_passed Passed length = (λ e. refl, λ e. refl)
-zero_passed (Refused refusal) length =
+pub zero_passed : (asked : Asked) (length : ℕ) → ((measured (answered asked length)).refusal ≡ 0) ↔ (asked ≡ Ok tt)
+zero_passed (Ok _) length = (λ e. refl, λ e. refl)
+zero_passed (Err refusal) length =
     (λ e. absurd (omega (arith, numbered refusal)), λ e. absurd (let z : ◌≡◌ {A = ℕ} 0 1 = cc in omega arith))
 
 -- so does the call for an index
-pub zero-indexed : (asked : Asked) (index : Index) → ((indexed (answered asked index)).refusal ≡ 0) ↔ (asked ≡ Passed)
-zero-indexed Passed (Divided quotient remainder) = (λ e. refl, λ e. refl)
-zero-indexed Passed NoTotal = (λ e. refl, λ e. refl)
-zero-indexed (Refused refusal) index =
+pub zero-indexed : (asked : Asked) (index : Option Index) → ((indexed (answered asked index)).refusal ≡ 0) ↔ (asked ≡ Ok tt)
+zero-indexed (Ok _) (Some found) = (λ e. refl, λ e. refl)
+zero-indexed (Ok _) None = (λ e. refl, λ e. refl)
+zero-indexed (Err refusal) index =
     (λ e. absurd (omega (arith, numbered refusal)), λ e. absurd (let z : ◌≡◌ {A = ℕ} 0 1 = cc in omega arith))
 
 -- which hands back 1 for divided exactly if there is an index
-pub one-divided : (outcome : Outcome Index)
-    → ((indexed outcome).divided ≡ 1) ↔ ((quotient : ℕ) × (remainder : ℕ) × (outcome ≡ value (Divided quotient remainder)))
-one-divided (value (Divided quotient remainder)) = (λ e. (quotient, remainder, refl), λ is. refl)
-one-divided (value NoTotal) = (λ e. absurd (omega arith), λ is. let same = is.2 in absurd (let z : ◌≡◌ {A = ℕ} 0 1 = cc in omega arith))
-one-divided (refused number line) = (λ e. absurd (omega arith), λ is. let same = is.2 in absurd (let z : ◌≡◌ {A = ℕ} 0 1 = cc in omega arith))
+pub one-divided : (outcome : Outcome (Option Index)) → ((indexed outcome).divided ≡ 1) ↔ ((index : Index) × (outcome ≡ value (Some index)))
+one-divided (value (Some found)) = (λ e. (found, refl), λ is. refl)
+one-divided (value None) = (λ e. absurd (omega arith), λ is. let same = is.1 in absurd (let z : ◌≡◌ {A = ℕ} 0 1 = cc in omega arith))
+one-divided (refused number line) = (λ e. absurd (omega arith), λ is. let same = is.1 in absurd (let z : ◌≡◌ {A = ℕ} 0 1 = cc in omega arith))
 
 -- nor has any refusal of a read
 read_numbered : (file : List ℕ) (lists : LentLists) (number line : ℕ) → read_outcome file lists ≡ refused number line → 1 ≤ number
@@ -67,8 +64,8 @@ unfolding read_outcome
 read_numbered file lists number line e = go (ask_size lists) e
   where
     go : (asked : Asked) → on_line 0 asked (read_answer file) ≡ refused number line → 1 ≤ number
-    go Passed e = (refused_bounds file number line e).0
-    go (Refused refusal) e = let same : refusal_number refusal ≡ number = cc in omega (arith, numbered refusal)
+    go (Ok _) e = (refused_bounds file number line e).0
+    go (Err refusal) e = let same : refusal_number refusal ≡ number = cc in omega (arith, numbered refusal)
 
 -- what a file brings is a job, or it is refused by a number that is not 0
 zero-value : (outcome : Outcome Job) → ((number line : ℕ) → outcome ≡ refused number line → 1 ≤ number)

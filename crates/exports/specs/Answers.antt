@@ -1,5 +1,5 @@
 -- What the structs that are handed back say of what an input brings.
-use Rattle.std.specs.Prelude.{ℕ}
+use Rattle.std.specs.Prelude.{ℕ, Option, None, Some}
 use Rattle.matrix.specs.Outcomes.{Outcome, value, refused}
 use Rattle.file_form.specs.declared.header.Header.{Header}
 use Rattle.file_form.specs.declared.header.Kind.{Kind}
@@ -7,7 +7,6 @@ use Rattle.file_form.specs.declared.header.Kind.TheVariants.{Wagner, Own}
 use Rattle.listing.specs.Meant.{order_meant}
 use Rattle.exports.specs.Orders.{order_number}
 use Rattle.consistency.specs.declared.index.Index.{Index}
-use Rattle.consistency.specs.declared.index.Index.TheVariants.{Divided, NoTotal}
 use Rattle.exports.specs.declared.answers.FileRead.{FileRead}
 use Rattle.exports.specs.declared.answers.Indexed.{Indexed}
 use Rattle.exports.specs.declared.answers.Measured.{Measured}
@@ -42,7 +41,7 @@ measured (value length) = record { refusal = 0; length = length }
 measured (refused number line) = record { refusal = number; length = 0 }
 
 -- an index, with 0 for the refusal: 1, quotient and remainder, or zeros where there is none; or the number of the refusal, with zeros
-abbrev pub indexed : Outcome Index → Indexed
-indexed (value (Divided quotient remainder)) = record { refusal = 0; divided = 1; quotient = quotient; remainder = remainder }
-indexed (value NoTotal) = record { refusal = 0; divided = 0; quotient = 0; remainder = 0 }
+abbrev pub indexed : Outcome (Option Index) → Indexed
+indexed (value (Some index)) = record { refusal = 0; divided = 1; quotient = index.quotient; remainder = index.remainder }
+indexed (value None) = record { refusal = 0; divided = 0; quotient = 0; remainder = 0 }
 indexed (refused number line) = record { refusal = number; divided = 0; quotient = 0; remainder = 0 }

@@ -1,18 +1,16 @@
 -- What each exported call answers, for all inputs and refusals, and what the lent lists then hold.
-use Rattle.std.specs.Prelude.{◌≡◌, ◌↔◌, List, ◌++◌, ℕ, ◌≤◌, eqb, ℤ, length, take, drop}
+use Rattle.std.specs.Prelude.{◌≡◌, ◌↔◌, List, ◌++◌, ℕ, ◌≤◌, eqb, ℤ, length, take, drop, Ok, Err}
 use Rattle.matrix.specs.Shape.{row}
 use Rattle.matrix.specs.NodeRows.{rows_of}
-use Rattle.matrix.specs.Outcomes.{ask, and_then, on_line, answered, asked_says, afterwards}
+use Rattle.matrix.specs.Outcomes.{Asked, ask, and_then, on_line, answered, asked_says, afterwards}
 use Rattle.matrix.specs.Questions.{ask_matrix}
 use Rattle.matrix.specs.declared.refusal.Refusal.TheVariants.{ListSize}
-use Rattle.matrix.specs.declared.refusal.Asked.{Asked}
-use Rattle.matrix.specs.declared.refusal.Asked.TheVariants.{Passed, Refused}
 use Rattle.difference.specs.Rows.{difference, node_difference, weighing}
 use Rattle.file_form.specs.Written.{LentLists}
 use Rattle.matrix_file.specs.Report.{with_header, read_outcome, lists_after}
 use Rattle.prim.specs.Network.{network, network_length}
 use Rattle.branching.specs.LentNumbers.{lent_numbers, records_in}
-use Rattle.wagner.specs.declared.order.Order.{Order}
+use Rattle.branching.specs.declared.order.Order.{Order}
 use Rattle.wagner.specs.Build.{wagner_length}
 use Rattle.wagner.specs.Matrix.{matrix_after}
 use Rattle.wagner.specs.Answers.{wagner_in}
@@ -37,7 +35,7 @@ pub record ListExported (file old new : List ℕ) (r : ℕ) : Type 0 where
   pub answers : r ≡ bytes_said (answered (ask_output old) (length (output file)))
   pub bytes : new ≡ afterwards (asked_says (ask_output old)) (output file ++ drop (length (output file)) old) old
   -- so it says 0 exactly if it refuses, and what it counts lies within the lent bytes
-  pub zero : (r ≡ 0) ↔ (ask_output old ≡ Refused ListSize)
+  pub zero : (r ≡ 0) ↔ (ask_output old ≡ Err ListSize)
   pub within : r ≤ length new
   pub counted : r ≡ length (take r new)
 
@@ -60,7 +58,7 @@ floor_exported codes weights n m = measured (floor_answer codes weights n m)
 -- branching
 unfoldable pub index_exported : List ℤ → List ℕ → ℕ → ℕ → List ℕ → Indexed
 index_exported codes weights n m lent =
-    indexed (on_line 0 (ask (eqb (length lent) lent_numbers) ListSize Passed) (index_answer codes weights n m (records_in lent)))
+    indexed (on_line 0 (ask (eqb (length lent) lent_numbers) ListSize (Ok tt)) (index_answer codes weights n m (records_in lent)))
 
 -- the questions of a build in an order with a number: the sizes of the matrix and of the weights, the number, then n and m, the weights
 -- and the codes
@@ -108,7 +106,7 @@ pub record FitExported
   pub is_low : low' ≡ afterwards (asked_says asked) (states_of_tree order Low codes weights n m low) low
   pub is_high : high' ≡ afterwards (asked_says asked) (states_of_tree order High codes weights n m high) high
   pub is_chosen : chosen' ≡ afterwards (asked_says asked) (states_of_tree order Chosen codes weights n m chosen) chosen
-  pub handed : asked ≡ Passed
+  pub handed : asked ≡ Ok tt
       → (fit : Fit)
       × (fit.total ≡ r.length)
       × HandedBack (weighing weights).step (wagner_in order codes weights n m).tree (rows_of codes m n) n m low' high' chosen' fit

@@ -1,13 +1,11 @@
 -- Orders of placing by number, and the question put to such a number: a rule for a word in a file binds the number handed to a call, by the
 -- same refusal and at the file's place in the order of questions.
-use Rattle.std.specs.Prelude.{Bool, cond, ◌||◌, ℕ, eqb}
+use Rattle.std.specs.Prelude.{Bool, cond, ◌||◌, ℕ, eqb, Ok}
 use Rattle.matrix.specs.Shape.{columns, matrix_size}
-use Rattle.matrix.specs.Outcomes.{ask}
+use Rattle.matrix.specs.Outcomes.{Asked, ask}
 use Rattle.matrix.specs.declared.refusal.Refusal.TheVariants.{ListSize, UnknownOrder}
-use Rattle.matrix.specs.declared.refusal.Asked.{Asked}
-use Rattle.matrix.specs.declared.refusal.Asked.TheVariants.{Passed}
-use Rattle.wagner.specs.declared.order.Order.{Order}
-use Rattle.wagner.specs.declared.order.Order.TheVariants.{Advance, Closest}
+use Rattle.branching.specs.declared.order.Order.{Order}
+use Rattle.branching.specs.declared.order.Order.TheVariants.{Advance, Closest}
 use Rattle.fitting.specs.Calls.{lists_full}
 
 -- the number of an order: 1 by advancement, 2 the closest first
@@ -26,7 +24,7 @@ order_numbered number = cond (eqb number (order_number Closest)) Closest Advance
 -- the question put to an order's number, behind those of the sizes of the matrix and of the weights
 unfoldable pub ask_order : ℕ → ℕ → ℕ → Asked
 ask_order size weights number =
-    ask (eqb size matrix_size) ListSize (ask (eqb weights columns) ListSize (ask (is_number number) UnknownOrder Passed))
+    ask (eqb size matrix_size) ListSize (ask (eqb weights columns) ListSize (ask (is_number number) UnknownOrder (Ok tt)))
 
 -- the same behind the sizes of the three lists of a fit
 unfoldable pub ask_fit_order : ℕ → ℕ → ℕ → ℕ → ℕ → ℕ → Asked

@@ -1,19 +1,23 @@
 // Orders of placing by number, and the question put to such a number.
 ghost use Rattle.std.specs.Prelude.{◌≡◌};
+ghost use Rattle.matrix.specs.Outcomes.{Answers};
 ghost use Rattle.exports.specs.Orders.{order_number, order_numbered, ask_order, ask_fit_order};
 
+use branching::order::Order;
 use fitting::whole::lists_full;
-use matrix::refusal::{Asked, Refusal};
+use matrix::refusal::Refusal;
 use matrix::{COLUMNS, ROWS};
-use wagner::order::Order;
 
 // The number of the order by advancement.
+// Kept: interface, C hands an order over as a number and reads it as one.
 pub const ADVANCE: u64 = 1;
 
 // The number of the order in which the closest taxon comes first.
+// Kept: interface, C hands an order over as a number and reads it as one.
 pub const CLOSEST: u64 = 2;
 
 // The number of an order.
+// Kept: interface, the numbers are C's; as `From<Order>` they would have to stand in branching, which knows nothing of C.
 pub(crate) fn order_number(order: Order) -> u64
     ensures { result ≡ order_number order }
 {
@@ -23,48 +27,36 @@ pub(crate) fn order_number(order: Order) -> u64
     }
 }
 
-// The order with a number; any other number than 2 gives the order by advancement.
-pub(crate) fn order_numbered(number: u64) -> Order
-    ensures { result ≡ order_numbered number }
+// The order with a number, behind the sizes of the matrix and of the weights.
+// Kept: interface, the numbers are C's; as `TryFrom<u64>` they would have to stand in branching, which knows nothing of C.
+#[tactic(auto, unfolding(crate::specs::Orders::ask_order, crate::specs::Orders::is_number, crate::specs::Orders::order_numbered))]
+pub(crate) fn order_asked(size: usize, weights: usize, number: u64) -> Result<Order, Refusal>
+    ensures { Answers (ask_order size weights number) (λ order. order ≡ order_numbered number) result }
 {
-    if number == CLOSEST {
-        return Order::Closest;
+    if size != ROWS * COLUMNS || weights != COLUMNS {
+        return Err(Refusal::ListSize);
     }
-    Order::Advance
+    match number {
+        ADVANCE => Ok(Order::Advance),
+        CLOSEST => Ok(Order::Closest),
+        _ => Err(Refusal::UnknownOrder),
+    }
 }
 
-// Have the matrix and the weights their full sizes? Is there an order with this number?
-pub(crate) fn ask_order(size: usize, weights: usize, number: u64) -> Asked
-    ensures { result ≡ ask_order size weights number }
-{
-    if size != ROWS * COLUMNS {
-        return Asked::Refused(Refusal::ListSize);
-    }
-    if weights != COLUMNS {
-        return Asked::Refused(Refusal::ListSize);
-    }
-    if number == ADVANCE {
-        return Asked::Passed;
-    }
-    if number == CLOSEST {
-        return Asked::Passed;
-    }
-    Asked::Refused(Refusal::UnknownOrder)
-}
-
-// Have the three lists of a fit their full size? Then the same of the matrix, the weights and the number.
-pub(crate) fn ask_fit_order(
+// The order with a number, behind the sizes of the three lists of a fit and those of the matrix and of the weights.
+#[tactic(auto, unfolding(crate::specs::Orders::ask_fit_order))]
+pub(crate) fn fit_order_asked(
     low: usize,
     high: usize,
     chosen: usize,
     size: usize,
     weights: usize,
     number: u64,
-) -> Asked
-    ensures { result ≡ ask_fit_order low high chosen size weights number }
+) -> Result<Order, Refusal>
+    ensures { Answers (ask_fit_order low high chosen size weights number) (λ order. order ≡ order_numbered number) result }
 {
     if !lists_full(low, high, chosen) {
-        return Asked::Refused(Refusal::ListSize);
+        return Err(Refusal::ListSize);
     }
-    ask_order(size, weights, number)
+    order_asked(size, weights, number)
 }

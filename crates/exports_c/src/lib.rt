@@ -1,8 +1,8 @@
 // The calls for other languages, as a static library. Each hands its arguments to the call of the same name in `exports`, and has its contract.
+// Kept: interface, C hands over each list and number by itself: matrix, weights, n and m, and the three lists of states.
 #![tactic(auto)]
 
 ghost use Rattle.std.specs.Prelude.{◌≡◌};
-ghost use Rattle.matrix.specs.Questions.{ask_matrix};
 ghost use Rattle.file_form.specs.Written.{lent};
 ghost use Rattle.exports.specs.Orders.{order_numbered};
 ghost use Rattle.exports.specs.Calls.{ListExported, ReadExported, network_exported, ask_build, BuildExported};
