@@ -1,20 +1,20 @@
 #!/usr/bin/env python3
 """Counts, by text patterns, the places that the design pass speaks of, in crates/*/src/**/*.rt and crates/*/proofs/**/*.antt.
 
-usage: python3 tools/design_counts.py [COMMIT] [--list] [--only KIND] [--table] [--reasons]     at the top of the repository
+usage: python3 tools/design_counts.py [COMMIT] [--list] [--only KIND] [--table] [--reasons] [--points]     at the top of the repository
 
 Without a commit it reads the working tree. --list prints each place as file:line with its kind, --only KIND those of one kind alone
-(`1a`, or `1` for all of point 1), --table a Markdown table by kind and crate, --reasons the comments beside kept places. A kind counts
-what its pattern finds, and a pattern reads words, not meanings: docs/DESIGN-PASS.md says what each one takes for a place.
+(`1a`, or `1` for all of point 1), --table a Markdown table by kind and crate, --reasons the comments beside kept places, --points
+a row for each kind: found at the commit, changed since, kept with a reason, and left. A kind counts what its pattern finds, and a pattern
+reads words, not meanings: docs/DESIGN-PASS.md says what each one takes for a place.
 """
 
 import collections
-import io
-import os
+import itertools
 import re
-import subprocess
 import sys
-import tarfile
+
+from design_text import closing, files_of, parts, plain
 
 KINDS = {
     "1a": "own enum of the shape of Option or Result",
@@ -42,10 +42,11 @@ KINDS = {
     "7a": "function that goes by cases on an enum handed in",
     "7b": "function that begins with a test of a flag handed in",
     "8a": "answer that is one tactic of the check",
-    "8b": "`let` of a stated fact, or two `let` lines, that stand in the crate before",
+    "8b": "`let` of a stated fact, or two `let` lines, that three or more places of a crate have",
 }
 MARKER = re.compile(r"^\s*(?://|--) Kept: (.*)")
-NOISE = re.compile(r"//[^\n]*|b?\"(?:\\.|[^\"\\])*\"|b?'(?:\\.[^']*|[^'\\\n])'", re.S)
+ITEM = re.compile(r"\s*(?:pub(?:\(crate\))? )?(?:const|fn|struct|enum|impl|trait|extern)\b|(?:pub )?[\w-]+ : ")
+OF_FILE = ("1e", "2b", "5a", "5b", "6c")
 TOKEN = re.compile(r"\w+|[^\w\s]")
 KEYWORDS = set("fn let mut if else match while for in return break continue as impl pub self true false loop".split())
 SIMPLE = {"u8", "u64", "usize", "i32", "i64", "u32", "bool"}
@@ -56,45 +57,7 @@ Function = collections.namedtuple("Function", "crate path line name params resul
 
 def sources(commit):
     """Path and text of each file of src/ and proofs/, of a commit or of the working tree."""
-    if commit:
-        packed = subprocess.run(["git", "archive", commit, "crates"], check=True, capture_output=True).stdout
-        with tarfile.open(fileobj=io.BytesIO(packed)) as tar:
-            found = {m.name: tar.extractfile(m).read().decode() for m in tar.getmembers() if m.isfile() and m.name.endswith((".rt", ".antt"))}
-    else:
-        found = {}
-        for top, folders, names in os.walk("crates"):
-            folders[:] = [f for f in folders if f != "out"]
-            for name in names:
-                if name.endswith((".rt", ".antt")):
-                    with open(os.path.join(top, name), encoding="utf-8") as f:
-                        found[os.path.join(top, name)] = f.read()
-    return {p: t for p, t in sorted(found.items()) if re.match(r"crates/\w+/(src/.*\.rt|proofs/.*\.antt)$", p)}
-
-
-def plain(text):
-    """The text with comments, strings and characters blanked, line by line."""
-    return NOISE.sub(lambda m: "".join("\n" if c == "\n" else "_" if m[0][0] != "/" else " " for c in m[0]), text)
-
-
-def closing(text, start):
-    """The place behind the bracket that closes the one at a place."""
-    depth = 0
-    for i in range(start, len(text)):
-        depth += (text[i] in "([{") - (text[i] in ")]}")
-        if depth == 0:
-            return i + 1
-    return len(text)
-
-
-def parts(text, separator):
-    """The parts of a text between separators that stand outside of brackets."""
-    found, depth, last = [], 0, 0
-    for i, c in enumerate(text):
-        depth += (c in "([{<") - (c in ")]}" or c == ">" and text[i - 1] not in "-=")
-        if c == separator and depth == 0:
-            found.append(text[last:i])
-            last = i + 1
-    return [" ".join(p.split()) for p in found + [text[last:]] if p.strip()]
+    return {p: t for p, t in files_of(commit, (".rt", ".antt")).items() if re.match(r"crates/\w+/(src/.*\.rt|proofs/.*\.antt)$", p)}
 
 
 def functions(path, text):
@@ -133,6 +96,7 @@ def types(path, text):
 
 
 def field_type(field):
+    """The type of a field or a parameter."""
     return field.split(":", 1)[-1].strip()
 
 
@@ -295,8 +259,8 @@ def travelling(all_functions):
 
 
 def proof_places(files):
-    """Answers of one tactic, and `let` lines with a stated fact, or two `let` lines in a row, that stand in the crate before."""
-    stood = collections.defaultdict(set)
+    """Answers of one tactic; a `let` with its fact, or two `let` lines in a row of which one is proved, that three or more places of a crate have."""
+    stood = collections.defaultdict(list)
     for path, text in files.items():
         crate, before = path.split("/")[1], ""
         for number, line in enumerate(text.split("\n"), 1):
@@ -304,13 +268,20 @@ def proof_places(files):
             if path.endswith("/Answers.antt") and re.search(r"^[a-zA-Z][\w-]*( \w+)+ = (search rules|omega arith)$", line):
                 yield Place("8a", crate, path, number, words)
             one = re.search(r"\blet (\w+ : .* in)$", words)
+            # nor does one that gives a name to a number, a node or a list
+            if one and re.match(r"\w+ : (ℕ|ℤ|Bool|List .*) = ", one[1]):
+                one = None
             two = before + " " + words if re.match(r"let .* in$", words) and before else ""
+            # a `let` that only gives a part of the context a name proves nothing
+            if two and all(re.match(r"^let \w+ = [\w.+-]+ in$", half) for half in (before, words)):
+                two = ""
             for said in ([one[1]] if one else []) + ([two] if two else []):
-                if said in stood[crate]:
-                    yield Place("8b", crate, path, number, said)
-                    break
-                stood[crate].add(said)
+                stood[crate, said].append((path, number))
             before = words if re.match(r"let .* in$", words) else ""
+    for (crate, said), users in stood.items():
+        if len(users) >= 3:
+            for path, number in users[1:]:
+                yield Place("8b", crate, path, number, said)
 
 
 def places(files):
@@ -352,7 +323,34 @@ def table(found):
         print(f"| {kind} | {words} | {sum(count.values())} | {', '.join(f'{c} {n}' for c, n in sorted(count.items()))} |")
 
 
+def has_reason(place, files):
+    """Whether a comment says why a place is kept: above it, in its type or function, or, for what is said of a file, at its head."""
+    lines = files[place.path].split("\n")
+    items = [i for i, line in enumerate(lines) if ITEM.match(line)]
+    head = itertools.takewhile(lambda line: line.startswith(("//", "--")), lines)
+    if place.kind in OF_FILE and any(MARKER.match(line) for line in head):
+        return True
+    start, end = max((i for i in items if i < place.line), default=0), place.line
+    while start > 0 and lines[start - 1].strip().startswith(("//", "--", "#[")):
+        start -= 1
+    while place.text.startswith(("struct ", "enum ")) and lines[end - 1] != "}":
+        end += 1
+    return any(MARKER.match(line) for line in lines[start:end])
+
+
+def points(before, found, files):
+    """A Markdown table by kind: found before, changed since, kept with a reason, left."""
+    print("| Kind | What is counted | Found | Changed | Kept | Left |")
+    print("|---|---|--:|--:|--:|--:|")
+    for kind, words in KINDS.items():
+        first = sum(p.kind == kind for p in before)
+        now = [p for p in found if p.kind == kind]
+        kept = sum(has_reason(p, files) for p in now)
+        print(f"| {kind} | {words} | {first} | {first - len(now)} | {kept} | {len(now) - kept} |")
+
+
 def main():
+    """Prints counts, places, the table, the reasons or the points."""
     options = [a for a in sys.argv[1:] if a.startswith("--")]
     plain_words = [a for a in sys.argv[1:] if not a.startswith("--")]
     only = plain_words.pop() if "--only" in options else ""
@@ -363,6 +361,10 @@ def main():
             print(f"{path}:{number}: {reason}")
         for first, count in sorted(collections.Counter(r.split(",")[0] for _, _, r in kept).items()):
             print(f"{count:5} {first}")
+        return
+    if "--points" in options:
+        files = sources(None)
+        points(places(sources(plain_words[0])), places(files), files)
         return
     found = [p for p in places(files) if p.kind.startswith(only)]
     if "--list" in options:
