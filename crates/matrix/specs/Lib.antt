@@ -3,4 +3,5 @@ pub mod Shape
 pub mod Refusals
 pub mod Outcomes
 pub mod Questions
+pub mod Lent
 pub mod NodeRows

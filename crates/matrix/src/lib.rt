@@ -1,6 +1,7 @@
 // The shapes of the lent lists, the refusals and their numbers, and the questions put to a lent matrix.
 #![tactic(auto)]
 
+pub mod lent;
 pub mod questions;
 pub mod refusal;
 pub mod rows;
@@ -9,6 +10,9 @@ pub mod weights;
 pub const ROWS: usize = 126;
 
 pub const COLUMNS: usize = 128;
+
+// A matrix has so many codes.
+pub const MATRIX_SIZE: usize = ROWS * COLUMNS;
 
 pub const MOST_TAXA: usize = 64;
 

@@ -24,9 +24,8 @@ pub enum Refusal {
     BranchForm = 17,
 }
 
-// Kept: no plainer, callers name what the cast gives.
 // The number of a refusal.
-// Kept: no plainer, `u64::from(refusal)` would not say which number it is, and would stand beside this function, which is promised.
+// Kept: interface, this function is promised, and a `From` beside it would say the same a second time.
 pub fn number(refusal: Refusal) -> u64
     ensures { result ≡ refusal_number refusal }
 {

@@ -13,6 +13,7 @@ pub fn row_start(len: usize, v: usize) -> usize
 }
 
 // The row of node v: its codes for characters 1 to m, as far as the list goes.
+// Kept: no plainer, `chunks` parts the list into rows of 128, and m can be more: the codes then go on in the next row.
 #[tactic(auto, using(crate::proofs::Row::row_part))]
 pub fn row(matrix: &[i32], m: usize, v: usize) -> &[i32]
     ensures { result.now ≡ row matrix.now m v }
@@ -22,6 +23,7 @@ pub fn row(matrix: &[i32], m: usize, v: usize) -> &[i32]
 }
 
 // Writes a row over the first codes of the row of node v, as far as the list goes.
+// Kept: no plainer, `chunks_mut` would end with the row, and a row of more than 128 codes goes on in the next.
 pub fn write_row(matrix: &mut [i32], v: usize, row: &[i32])
     ensures { matrix.new ≡ with_row matrix.old v row.now }
 {

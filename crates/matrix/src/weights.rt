@@ -21,6 +21,7 @@ pub fn are_weights(weights: &[u8], m: usize) -> bool
     weights.iter().take(m).all(|weight| is_weight(*weight))
 }
 
+// Kept: no plainer, as a method of `Lent` by character it would say `weight_at` of j - 1 in its contract all the same, and each of its three callers would.
 // The weight at a place, counted from 0: that of character place + 1, and 1 past the end of the list.
 #[tactic(auto, unfolding(crate::specs::Shape::weight_at))]
 pub fn weight_at(weights: &[u8], place: usize) -> u8
