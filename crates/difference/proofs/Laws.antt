@@ -7,4 +7,5 @@ pub mod Weights
 pub mod Rows
 pub mod Parts
 pub mod Sums
+pub mod Splits
 pub mod Measure

@@ -6,4 +6,4 @@ use Rattle.difference.specs.declared.nodes.Nodes.{Nodes}
 
 -- the difference of two nodes, by the weights of the characters
 abbrev pub between : Nodes → ℕ → ℕ → ℕ
-between nodes = node_difference (difference nodes.weights.now) (row nodes.matrix.now nodes.m)
+between nodes = node_difference (difference nodes.lent.weights.now) (row nodes.lent.matrix.now nodes.lent.m)

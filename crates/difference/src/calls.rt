@@ -6,66 +6,36 @@ ghost use Rattle.difference.specs.Calls.{difference_answer, interval_answer, Med
 use crate::nodes::Nodes;
 use crate::rows::write_medians;
 use matrix::COLUMNS;
-use matrix::questions::ask_nodes;
+use matrix::lent::Lent;
 use matrix::refusal::Refusal;
 
-// Kept: no plainer, a call takes the lists and numbers as they are lent, not yet known to be right; behind its questions `Nodes` has them.
 // The difference of nodes a and b.
 #[tactic(auto, using(matrix::proofs::Passing::nodes_passed), unfolding(crate::specs::Calls::difference_answer, crate::specs::Rows::node_difference))]
-pub fn difference(
-    matrix: &[i32],
-    weights: &[u8],
-    n: usize,
-    m: usize,
-    a: usize,
-    b: usize,
-) -> Result<u64, Refusal>
-    ensures { result_says result ≡ difference_answer matrix.now weights.now n m a b }
+pub fn difference(lent: &Lent, a: usize, b: usize) -> Result<u64, Refusal>
+    ensures { result_says result ≡ difference_answer lent.now.matrix.now lent.now.weights.now lent.now.n lent.now.m a b }
 {
-    ask_nodes(matrix, weights, n, m, &[a, b])?;
-    let nodes = Nodes { matrix, weights, m };
-    Ok(nodes.difference(a, b))
+    lent.ask_nodes(&[a, b])?;
+    Ok(Nodes { lent: *lent }.difference(a, b))
 }
 
-// Kept: no plainer, a call takes the lists and numbers as they are lent, not yet known to be right; behind its questions `Nodes` has them.
 // The interval difference of node b from the interval between nodes c and d.
 #[tactic(auto, using(matrix::proofs::Passing::nodes_passed), unfolding(crate::specs::Calls::interval_answer))]
-pub fn interval_difference(
-    matrix: &[i32],
-    weights: &[u8],
-    n: usize,
-    m: usize,
-    b: usize,
-    c: usize,
-    d: usize,
-) -> Result<u64, Refusal>
-    ensures { result_says result ≡ interval_answer matrix.now weights.now n m b c d }
+pub fn interval_difference(lent: &Lent, b: usize, c: usize, d: usize) -> Result<u64, Refusal>
+    ensures { result_says result ≡ interval_answer lent.now.matrix.now lent.now.weights.now lent.now.n lent.now.m b c d }
 {
-    ask_nodes(matrix, weights, n, m, &[b, c, d])?;
-    let nodes = Nodes { matrix, weights, m };
-    Ok(nodes.interval_difference(b, c, d))
+    lent.ask_nodes(&[b, c, d])?;
+    Ok(Nodes { lent: *lent }.interval_difference(b, c, d))
 }
 
-// Kept: no plainer, a call takes the lists and numbers as they are lent, not yet known to be right; behind its questions `Nodes` has them.
 // Writes the medians of nodes a, b and c over the first m codes of a lent row of 128.
 #[tactic(auto, using(matrix::proofs::Passing::nodes_passed), unfolding(crate::specs::Calls::ask_medians))]
-pub fn medians(
-    matrix: &[i32],
-    weights: &[u8],
-    n: usize,
-    m: usize,
-    a: usize,
-    b: usize,
-    c: usize,
-    out: &mut [i32],
-) -> Result<(), Refusal>
-    ensures { MediansAnswer matrix.now weights.now n m a b c out.old out.new result }
+pub fn medians(lent: &Lent, a: usize, b: usize, c: usize, out: &mut [i32]) -> Result<(), Refusal>
+    ensures { MediansAnswer lent.now.matrix.now lent.now.weights.now lent.now.n lent.now.m a b c out.old out.new result }
 {
     if out.len() != COLUMNS {
         return Err(Refusal::ListSize);
     }
-    ask_nodes(matrix, weights, n, m, &[a, b, c])?;
-    let nodes = Nodes { matrix, weights, m };
-    write_medians(out, nodes.row(a), nodes.row(b), nodes.row(c));
+    lent.ask_nodes(&[a, b, c])?;
+    write_medians(out, lent.row(a), lent.row(b), lent.row(c));
     Ok(())
 }

@@ -1,5 +1,5 @@
 // The absolute difference of two codes and the median of three, for every i32.
-ghost use Rattle.std.specs.Prelude.{◌≡◌};
+ghost use Rattle.std.specs.Prelude.{◌≡◌, ◌≤◌, ◌^◌};
 ghost use Rattle.difference.specs.Rows.{apart, part, lower, higher, median};
 
 // The absolute difference of two codes.
@@ -10,9 +10,10 @@ pub fn apart(a: i32, b: i32) -> u64
     u64::from(a.abs_diff(b))
 }
 
-// The part of one character: its weight times the absolute difference of two codes.
+// The part of one character: its weight times the absolute difference of two codes, at most 2 ^ 8 times 2 ^ 32.
 pub fn part(weight: u8, a: i32, b: i32) -> u64
-    ensures { result ≡ part weight a b }
+    ensures is { result ≡ part weight a b }
+    ensures most { result ≤ 2 ^ 40 }
 {
     u64::from(weight) * apart(a, b)
 }

@@ -1,36 +1,53 @@
 // Difference, medians and interval difference of rows of any length.
-ghost use Rattle.std.specs.Prelude.{◌≡◌, ◌≤◌, ◌^◌, take};
-ghost use Rattle.matrix.specs.Shape.{most_characters, weight_at};
+ghost use Rattle.std.specs.Prelude.{◌≡◌, ◌≤◌, ◌*◌, ◌^◌, length, take};
+ghost use Rattle.matrix.specs.Shape.{most_characters};
 ghost use Rattle.difference.specs.Answers.{DifferenceOf};
 ghost use Rattle.lists.specs.Over.{over};
-ghost use Rattle.difference.specs.Rows.{part, medians, interval_difference};
+ghost use Rattle.difference.specs.Rows.{difference, unweighted, medians, interval_difference};
 
 use crate::codes::{median, part};
-use matrix::MOST_CHARACTERS;
-use matrix::weights::weight_at;
+use matrix::{LIGHTEST, MOST_CHARACTERS};
 
-// The part of the character at a place, counted from 0: at most 2 ^ 8 times 2 ^ 32.
-fn part_at(weights: &[u8], place: usize, x: i32, y: i32) -> u64
-    ensures is { result ≡ part (weight_at weights.now place) x y }
-    ensures most { result ≤ 2 ^ 40 }
-{
-    part(weight_at(weights, place), x, y)
-}
-
+// The difference of two rows of one length, with a weight for each character.
 // Kept: no plainer, two rows are no pairs until they are gone through.
-// The difference of two rows by the weights of the characters, over their first 128 characters.
-pub fn difference(weights: &[u8], xs: &[i32], ys: &[i32]) -> u64
-    ensures { DifferenceOf weights.now xs.now ys.now result }
+fn weighed(weights: &[u8], xs: &[i32], ys: &[i32]) -> u64
+    requires { (length xs.now ≤ most_characters) × (length xs.now ≤ length weights.now) }
+    ensures is { result ≡ difference weights.now xs.now ys.now }
+    ensures most { result ≤ length xs.now * 2 ^ 40 }
 {
     xs.iter()
         .zip(ys.iter())
-        .take(MOST_CHARACTERS)
-        .enumerate()
-        .map(|(j, (x, y))| part_at(weights, j, *x, *y))
+        .zip(weights.iter())
+        .map(|((x, y), weight)| part(*weight, *x, *y))
         .sum()
 }
 
-// Kept: no plainer, as `difference`.
+// The difference of two rows whose characters all weigh 1.
+// Kept: no plainer, in one function with `weighed` a constant list of ones would be cut here, for a sum that no call behind its questions reaches.
+fn alike(xs: &[i32], ys: &[i32]) -> u64
+    requires { length xs.now ≤ most_characters }
+    ensures is { result ≡ unweighted xs.now ys.now }
+    ensures most { result ≤ length xs.now * 2 ^ 40 }
+{
+    xs.iter()
+        .zip(ys.iter())
+        .map(|(x, y)| part(LIGHTEST, *x, *y))
+        .sum()
+}
+
+// The difference of two rows by the weights of the characters, over their first 128 characters; a character without a weight weighs 1.
+// Cut to one length, the two rows and their weights are gone through without a test in each turn.
+// Kept: slower, a chain over `zip`, `take` and `enumerate` with the weight looked up takes 546 ms where this takes 146 (2 million times 100 codes), 3.7 times, where 1.3 is allowed.
+pub fn difference(weights: &[u8], xs: &[i32], ys: &[i32]) -> u64
+    ensures { DifferenceOf weights.now xs.now ys.now result }
+{
+    let count = xs.len().min(ys.len()).min(MOST_CHARACTERS);
+    let known = weights.len().min(count);
+    weighed(&weights[..known], &xs[..known], &ys[..known])
+        + alike(&xs[known..count], &ys[known..count])
+}
+
+// Kept: no plainer, as `weighed`.
 // The interval difference of b from the interval between c and d, over their first 128 characters.
 #[tactic(auto, unfolding(crate::specs::Rows::interval_by))]
 pub fn interval_difference(weights: &[u8], b: &[i32], c: &[i32], d: &[i32]) -> u64
@@ -42,13 +59,13 @@ pub fn interval_difference(weights: &[u8], b: &[i32], c: &[i32], d: &[i32]) -> u
     ends.saturating_sub(across) / 2
 }
 
-// Kept: no plainer, as `difference`.
+// Kept: no plainer, as `weighed`.
 // Writes the medians of three rows over the front of a list, as far as all four go.
 pub fn write_medians(out: &mut [i32], xs: &[i32], ys: &[i32], zs: &[i32])
     ensures { out.new ≡ over 0 (medians xs.now ys.now zs.now) out.old }
 {
     let count = out.len().min(xs.len()).min(ys.len()).min(zs.len());
-    // Kept: unproved, a proof learns nothing of what is written through a zip of `iter_mut`.
+    // Kept: no plainer, `iter_mut().enumerate()` would still read three lists by the index.
     for j in 0..count {
         out[j] = median(xs[j], ys[j], zs[j]);
     }

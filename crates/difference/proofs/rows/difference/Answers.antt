@@ -1,36 +1,43 @@
--- `difference::rows::difference` meets its contract: the parts of the pairs, by place, make the difference, and each is at most 2 ^ 40.
-use mathlib.Core.Path.{◌∙◌}
+-- `difference::rows::difference` meets its contract: the two sums make the difference, each of at most 2 ^ 40 a character.
+use mathlib.Core.Path.{◌≡◌, sym, ap, ap₂, ◌∙◌}
+use Prim.Native.Nat.{ℕ, ◌+◌, ◌-◌, ◌*◌, ◌≤◌}
 use native.Mathlib.Omega.{arith}
-use Rattle.std.proofs.Common.{rules, tests}
-use Rattle.std.proofs.lemmas.Iterator.{YieldsList-from_map}
-use Rattle.std.proofs.lemmas.Iterator.Consumers.{YieldsList-at, sum_by_from_yields_List}
-use Rattle.std.proofs.lemmas.Iterator.Adapters.{fits_from_length, at_most_from_yields_List}
-use Rattle.difference.proofs.Pairs.{pairs, length-pairs, pairs_yielded, sum_bounded}
-use Rattle.difference.proofs.Laws.Sums.{part_at, parts-difference}
+use lib.ListN.{length, take, drop, length-take, length-drop}
+use Rattle.std.proofs.lemmas.List.{drop-take}
+use Rattle.difference.specs.Rows.{difference, unweighted}
+use Rattle.difference.proofs.Laws.Splits.{difference-parted}
 use Rattle.difference.proofs.rows.difference.Goals as goal
 
-pub sum-requires-clause-fits : goal.sum-requires-clause-fits
-sum-requires-clause-fits c =
-    fits_from_length {s = c.map.result} _ _ 128 18446744073709551616
-    (at_most_from_yields_List
-    (YieldsList-at c.map.ensures.source (pairs_yielded c.enumerate.result 128 c.args.xs.now c.args.ys.now (cc) (cc) (cc) c.enumerate.ensures.count))
-    (length-pairs 128 c.args.xs.now c.args.ys.now))
-    c.map.ensures.closure
-    (omega arith)
-    (λ x r q k. search rules)
-
-pub returns : goal.returns
-returns c =
+-- the two sums make the difference
+is : (c : goal.After-alike)
+    → c.weighed.result + c.alike.result ≡ difference c.args.weights.now (take 128 c.args.xs.now) (take 128 c.args.ys.now)
+is c =
+    let count = c.min-count.result in
+    let known = c.min-known.result in
     let xs = c.args.xs.now in
     let ys = c.args.ys.now in
-    let yielded =
-    YieldsList-at c.map.ensures.source (pairs_yielded c.enumerate.result 128 xs ys (cc) (cc) (cc) c.enumerate.ensures.count) in
-    record {
-      is =
-          sum_by_from_yields_List (part_at c.args.weights.now) (pairs 128 xs ys) c.map.result _ c.sum.ensures.ran
-          (YieldsList-from_map _ (part_at c.args.weights.now) yielded c.map.ensures.closure (λ x r q k. search (rules, tests)))
-          ∙ parts-difference c.args.weights.now 0 128 xs ys;
-      most =
-          sum_bounded c.map.result _ 128 1099511627776 c.sum.result (c.sum.ensures.runs tt)
-          (at_most_from_yields_List yielded (length-pairs 128 xs ys)) c.map.ensures.closure (λ x r q k. search rules) (omega arith);
-    }
+    let rest : known + (count - known) ≡ count = omega (arith, c.min-known.ensures) in
+    ap₂ ◌+◌ c.weighed.ensures.is
+    (c.alike.ensures.is
+    ∙ ap₂ unweighted (sym (drop-take known (count - known) xs)) (sym (drop-take known (count - known) ys))
+    ∙ ap (λ (k : ℕ). unweighted (drop known (take k xs)) (drop known (take k ys))) rest)
+    ∙ difference-parted 128 count known c.args.weights.now xs ys (omega (arith, c.min.ensures, c.min-count.ensures)) c.min-known.ensures
+
+-- each is at most 2 ^ 40 a character
+most : (c : goal.After-alike) → c.weighed.result + c.alike.result ≤ 128 * 1099511627776
+most c =
+    let count = c.min-count.result in
+    let known = c.min-known.result in
+    omega (
+      arith,
+      c.weighed.ensures.most,
+      c.alike.ensures.most,
+      length-take known c.args.xs.now,
+      length-take (count - known) (drop known c.args.xs.now),
+    )
+
+pub overflow_add-result : goal.overflow_add-result
+overflow_add-result c = record { fits = omega (arith, most c) }
+
+pub returns : goal.returns
+returns c = record { is = is c; most = most c }
