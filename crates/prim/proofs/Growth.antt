@@ -104,9 +104,9 @@ module _ (d : ℕ → ℕ → ℕ) (n : ℕ) (waiting : List (Option Link)) (r :
         omega arith
 
     -- there is room for the link, and its length can be added
-    pub grown_room : (r.count < 63) × (r.total + l.length < 2 ^ 64)
+    pub grown_room : (r.links.count < 63) × (r.total + l.length < 2 ^ 64)
     grown_room =
-        let count : r.count ≡ length g.links = g.holds.count in
+        let count : r.links.count ≡ length g.links = g.holds.count in
         let total : r.total ≡ network_length g.links = g.holds.total in
         let sum = g.sum in
         let left = some in

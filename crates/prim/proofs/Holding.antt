@@ -3,21 +3,23 @@ use mathlib.Core.Path.{◌≡◌, refl, ap, ◌∙◌}
 use mathlib.Core.List.{List, [], ◌∷◌, ◌++◌}
 use Prim.Native.Nat.{ℕ, suc, ◌+◌, ◌<◌}
 use native.Mathlib.Omega.{arith}
-use lib.ListN.{length, get_or, take, set, length-append}
+use lib.ListN.{length, get_or, take, length-append}
+use Rattle.filled.specs.Filling.{Pushed}
 use Rattle.lists.proofs.Sums.{sum_snoc}
 use Rattle.lists.proofs.Filled.{filled-first, filled_at, filled-snoc}
 use Rattle.prim.specs.Network.{Link, taxa, network_length}
 use Rattle.prim.specs.Answers.{no_link, Holds, most_links}
+use Rattle.prim.specs.Growing.{WithLink}
 use Rattle.prim.specs.declared.answer.Network.{Network}
 
 -- a network handed back that holds these links
 module _ (links : List Link) (r : Network) (h : Holds links r) where
   -- the first `count` places are these links
-  pub holds-first : take r.count r.links ≡ links
-  holds-first = rw h.list (filled-first no_link most_links r.count links h.count)
+  pub holds-first : take r.links.count r.links.items ≡ links
+  holds-first = rw h.list (filled-first no_link most_links r.links.count links h.count)
 
   -- each of them stands at its place, and behind them stand zeros
-  pub holds_at : (i : ℕ) → get_or r.links i no_link ≡ get_or links i no_link
+  pub holds_at : (i : ℕ) → get_or r.links.items i no_link ≡ get_or links i no_link
   holds_at i = rw h.list (filled_at no_link most_links links i)
 
 -- the length of links and one more
@@ -35,13 +37,14 @@ taxa-snoc (k ∷ ls) l = ap {B = List ℕ} (λ (r : List ℕ). k.taxon ∷ r) (t
 pub length-snoc : (ls : List Link) (l : Link) → length (ls ++ (l ∷ [])) ≡ suc (length ls)
 length-snoc ls l = simp length-append (omega arith)
 
--- a link stored behind those that a network holds: it holds that one besides
-module _ (ls : List Link) (r : Network) (l : Link) (h : Holds ls r) (room : r.count < 63) where
-  -- the network with that link
-  pub holds-next : (next : Network) → next.count ≡ r.count + 1 → next.links ≡ set r.links r.count l → next.total ≡ r.total + l.length
-      → Holds (ls ++ (l ∷ [])) next
-  holds-next next count links total = record {
-    list = links ∙ rw h.list (filled-snoc no_link most_links r.count ls l h.count room);
-    count = rw (length-snoc ls l) (let before : r.count ≡ length ls = h.count in omega arith);
-    total = total ∙ rw (network_length-snoc ls l) (ap (λ (t : ℕ). t + l.length) h.total);
-  }
+-- a link put behind those of a network, whichever it holds: it holds that one besides
+pub pushed_holds : (r : Network) (l : Link) (next : Network) → r.links.count < 63 → Pushed r.links l next.links
+    → next.total ≡ r.total + l.length → WithLink r l next
+pushed_holds r l next room pushed total = record { holds = at }
+  where
+    at : (ls : List Link) → Holds ls r → Holds (ls ++ (l ∷ [])) next
+    at ls h = record {
+      list = pushed.items ∙ rw h.list (filled-snoc no_link most_links r.links.count ls l h.count room);
+      count = rw (length-snoc ls l) (let before : r.links.count ≡ length ls = h.count in omega (arith, pushed.count));
+      total = total ∙ rw (network_length-snoc ls l) (ap (λ (t : ℕ). t + l.length) h.total);
+    }

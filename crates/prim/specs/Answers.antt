@@ -20,8 +20,8 @@ most_links = 63
 -- a network handed back holds these links: they stand first, in their order, links of zeros fill the 63 places, and their number and
 -- their total are given
 pub record Holds (links : List Link) (r : Network) : Type 0 where
-  pub list : r.links ≡ filled most_links no_link links
-  pub count : r.count ≡ length links
+  pub list : r.links.items ≡ filled most_links no_link links
+  pub count : r.links.count ≡ length links
   pub total : r.total ≡ network_length links
 
 -- the answer for a lent matrix of n taxa and m characters with its weights: its questions, and the Prim Network by the weighted difference

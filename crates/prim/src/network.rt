@@ -11,15 +11,16 @@ ghost use Rattle.prim.specs.Growing.{WithLink, first_link, moved_link, link_leng
 
 use crate::answer::{Link, MOST_LINKS, Network};
 use difference::nodes::Nodes;
-use matrix::questions::ask_matrix;
+use filled::Filled;
+use matrix::lent::Lent;
 use matrix::refusal::Refusal;
 use std::array;
 
-// The link of taxon v before any is placed behind row 1: to row 1, if v is one of the n taxa.
-fn first_link(nodes: &Nodes, n: usize, v: usize) -> Option<Link>
-    ensures { result ≡ first_link (between nodes.now) n v }
+// The link of taxon v before any is placed behind row 1: to row 1, if v is one of the taxa.
+fn first_link(nodes: &Nodes, v: usize) -> Option<Link>
+    ensures { result ≡ first_link (between nodes.now) nodes.now.lent.n v }
 {
-    if n < v {
+    if nodes.lent.n < v {
         return None;
     }
     Some(Link {
@@ -30,10 +31,10 @@ fn first_link(nodes: &Nodes, n: usize, v: usize) -> Option<Link>
 }
 
 // What is kept of the taxa from 2 on before any of them is placed.
-fn start(nodes: &Nodes, n: usize) -> [Option<Link>; MOST_LINKS]
-    ensures { result ≡ map (first_link (between nodes.now) n) (numbers 2 63) }
+fn start(nodes: &Nodes) -> [Option<Link>; MOST_LINKS]
+    ensures { result ≡ map (first_link (between nodes.now) nodes.now.lent.n) (numbers 2 63) }
 {
-    array::from_fn(|i| first_link(nodes, n, i + 2))
+    array::from_fn(|i| first_link(nodes, i + 2))
 }
 
 // The link that places the unplaced taxon nearest to the network, of the lowest row among equals; none if all are placed.
@@ -74,7 +75,7 @@ fn place(waiting: &mut [Option<Link>; MOST_LINKS], nodes: &Nodes, v: usize)
     }
 }
 
-// Kept: no plainer, a derive is not given for a struct with a ghost invariant.
+// Kept: no plainer, a derive would want `Default` of `Filled`, and would say what the fields are, where this says that it holds no links.
 impl Default for Network {
     ghost is_default = { Holds [] };
 
@@ -82,8 +83,7 @@ impl Default for Network {
     #[tactic(auto, unfolding(crate::specs::Network::network_length, lists::specs::Sums::sum_over, lists::specs::Filled::filled))]
     fn default() -> Network {
         Network {
-            count: 0,
-            links: [Link::default(); MOST_LINKS],
+            links: Filled::none(Link::default()),
             total: 0,
         }
     }
@@ -91,24 +91,26 @@ impl Default for Network {
 
 impl Network {
     // Puts a link behind those of the network.
+    #[tactic(auto, using(crate::proofs::Holding::pushed_holds))]
     fn push(&mut self, link: Link)
-        requires { (self.old.count < 63) × (self.old.total + link.length < 2 ^ 64) }
+        requires { (self.old.links.count < 63) × (self.old.total + link.length < 2 ^ 64) }
         ensures { WithLink self.old link self.new }
     {
-        self.links[self.count] = link;
-        self.count += 1;
+        self.links.push(link);
         self.total += link.length;
     }
 }
 
+// Kept: no plainer, this one function asks for a matrix that passed: a view with the fact would be made in `network`, for this call alone.
 // The Prim Network of a matrix that no question refuses.
-fn grow(nodes: &Nodes, n: usize) -> Network
-    requires { LentMatrix nodes.now.matrix.now n nodes.now.m × LentWeights nodes.now.weights.now nodes.now.m }
-    ensures { Holds (network (between nodes.now) n) result }
+fn grow(nodes: &Nodes) -> Network
+    requires { LentMatrix nodes.now.lent.matrix.now nodes.now.lent.n nodes.now.lent.m
+        × LentWeights nodes.now.lent.weights.now nodes.now.lent.m }
+    ensures { Holds (network (between nodes.now) nodes.now.lent.n) result }
 {
-    let mut waiting = start(nodes, n);
+    let mut waiting = start(nodes);
     let mut network = Network::default();
-    // Kept: no plainer, a `for` over the taxa would ask in each turn whether there is a next link.
+    // Kept: no plainer, it ends where no taxon waits: a `for` over the taxa would have an arm for no next link, which never comes.
     while let Some(link) = next_link(&waiting) {
         network.push(link);
         place(&mut waiting, nodes, link.taxon);
@@ -116,13 +118,11 @@ fn grow(nodes: &Nodes, n: usize) -> Network
     network
 }
 
-// The Prim Network of a lent matrix of n taxa and m characters, by the weights of the characters.
-// Kept: no plainer, a call takes the lists and numbers as they are lent, not yet known to be right; behind its questions `Nodes` has them.
+// The Prim Network of a lent matrix, by the weights of its characters.
 #[tactic(auto, using(matrix::proofs::Passing::matrix_passed, matrix::proofs::Passing::weights_passed))]
-pub fn network(matrix: &[i32], weights: &[u8], n: usize, m: usize) -> Result<Network, Refusal>
-    ensures { NetworkAnswer matrix.now weights.now n m result }
+pub fn network(lent: &Lent) -> Result<Network, Refusal>
+    ensures { NetworkAnswer lent.now.matrix.now lent.now.weights.now lent.now.n lent.now.m result }
 {
-    ask_matrix(matrix, weights, n, m)?;
-    let nodes = Nodes { matrix, weights, m };
-    Ok(grow(&nodes, n))
+    lent.ask()?;
+    Ok(grow(&Nodes { lent: *lent }))
 }

@@ -5,7 +5,7 @@ use Rattle.prim.proofs.Growth.{GrownTo}
 use Rattle.prim.proofs.network.grow.Given as goal
 
 abbrev pub invariant-loop-link : goal.invariant-loop-link
-invariant-loop-link l = GrownTo (between l.nodes) l.fn.n l.waiting l.network
+invariant-loop-link l = GrownTo (between l.nodes) l.nodes.lent.n l.waiting l.network
 
 abbrev pub decreases-loop-link : goal.decreases-loop-link
-decreases-loop-link l = 63 - l.network.count
+decreases-loop-link l = 63 - l.network.links.count

@@ -1,5 +1,5 @@
 -- What the check leaves of `prim::network::place`.
-use mathlib.Core.Path.{refl, ap, ◌∙◌}
+use mathlib.Core.Path.{ap, ◌∙◌}
 use mathlib.Core.List.{List}
 use Prim.Native.Nat.{◌<◌}
 use native.Mathlib.Omega.{arith}
@@ -10,9 +10,6 @@ use Rattle.prim.specs.Network.{Link}
 use Rattle.prim.specs.Growing.{moved_link}
 use Rattle.prim.proofs.InPlace.{changed_more, changed_all}
 use Rattle.prim.proofs.network.place.Goals as goal
-
-pub loop-kept-init : goal.loop-kept-init
-loop-kept-init c = refl
 
 pub loop-kept-preserved : goal.loop-kept-preserved
 loop-kept-preserved c =

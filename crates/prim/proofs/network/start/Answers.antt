@@ -9,5 +9,5 @@ use Rattle.prim.proofs.network.start.Goals as goal
 
 pub returns : goal.returns
 returns c =
-    let kept = first_link (between c.args.nodes.now) c.args.n in
+    let kept = first_link (between c.args.nodes.now) c.args.nodes.now.lent.n in
     from_fn_is _ _ (λ i. kept (i + 2)) (λ i y q k. search rules) c.from_fn.result None 63 c.from_fn.ensures.items ∙ map_behind kept 2 0 63
