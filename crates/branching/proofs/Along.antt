@@ -9,7 +9,6 @@ use native.Mathlib.Omega.{arith}
 use native.Mathlib.Decide.{dec_le, dec_lt, ℕ_discrete}
 use lib.Dec.{leb, eqb}
 use lib.ListN.{length, set, replicate, length-set}
-use lib.Seq.{set-get_or}
 use borrow.Author.Tests.{leb-true}
 use Rattle.lists.specs.Filters.{keep}
 use Rattle.lists.specs.Numbers.{numbers}
@@ -18,14 +17,13 @@ use Rattle.lists.proofs.Keep.{keep-mem}
 use Rattle.lists.proofs.Numbers.{numbers-within, numbers-among}
 use Rattle.matrix.specs.Shape.{last_node}
 use Rattle.branching.specs.declared.walk.Below.{Below}
-use Rattle.branching.specs.declared.walk.Walk.{Walk}
 use Rattle.branching.specs.Ancestors.{ancestor, descendants}
 use Rattle.branching.specs.Nodes.{other_nodes}
 use Rattle.branching.specs.Growing.{branching, descendant_count}
 use Rattle.branching.specs.Facts.{Branching}
 use Rattle.branching.specs.Within.{branching_within}
-use Rattle.branching.specs.Walks.{node_at, Walking, first_two, below_at, Belows}
-use Rattle.branching.specs.Steps.{OneMore}
+use Rattle.branching.specs.Walks.{Walk, node_at, Walking, first_two, below_at, Belows}
+use Rattle.branching.specs.Steps.{NodePut}
 use Rattle.branching.proofs.Descendants.{mem-descendants}
 use Rattle.branching.proofs.Test.{branching_iff}
 use Rattle.branching.proofs.Whole.{branching-root, branching-taxon, branching-htu}
@@ -34,7 +32,6 @@ use Rattle.branching.proofs.Walks.{
   mark,
   Rooted,
   Walked,
-  node_old,
   stands_new,
   stands_old,
   still,
@@ -66,11 +63,11 @@ pub record Along (last i count : ℕ) (tree nodes : List ℕ) : Type 0 where
   pub all : (k u : ℕ) → k < i → 2 ≤ u → u ≤ last → ancestor tree u ≡ node_at nodes k → stands placed u ≡ true
   pub only : (u : ℕ) → 2 ≤ u → stands placed u ≡ true → (k : ℕ) × (k < i) × (node_at nodes k ≡ ancestor tree u)
 
--- the walk with w taken behind its `count` nodes, as far as w is a node
-record Taken (last count r : ℕ) (tree nodes : List ℕ) (placed : List Bool) (w : ℕ) : Type 0 where
+-- the walk with w taken behind its nodes, as far as w is a node: it then has r nodes
+record Taken (last r : ℕ) (tree after : List ℕ) (placed : List Bool) (w : ℕ) : Type 0 where
   now : List Bool
   marks : length now ≡ 127
-  walked : Walked last r tree (set nodes count w) now
+  walked : Walked last r tree after now
   held : 1 ≤ w → stands now w ≡ true
   before : (u : ℕ) → stands placed u ≡ true → stands now u ≡ true
   back : (u : ℕ) → stands now u ≡ true → (stands placed u ≡ true) ⊎ ((1 ≤ w) × (u ≡ w))
@@ -78,13 +75,11 @@ record Taken (last count r : ℕ) (tree nodes : List ℕ) (placed : List Bool) (
 module _ (last count : ℕ) (tree nodes : List ℕ) (placed : List Bool) (most : last ≤ 126) (places : length nodes ≡ 127)
     (marks : length placed ≡ 127) (w : Walked last count tree nodes placed) where
   -- with none taken the walk stays as it is
-  none_taken : Taken last count count tree nodes placed 0
-  unfolding node_at
+  none_taken : Taken last count tree nodes placed 0
   none_taken = record {
     now = placed;
     marks = marks;
-    walked = let same : set nodes count 0 ≡ nodes = ap (set nodes count) (sym (w.rest count (omega arith))) ∙ set-get_or nodes count 0 in
-        rw same w;
+    walked = w;
     held = λ h. absurd (omega arith);
     before = λ u t. t;
     back = λ u t. inl t;
@@ -92,7 +87,7 @@ module _ (last count : ℕ) (tree nodes : List ℕ) (placed : List Bool) (most :
 
   -- with a node taken whose immediate ancestor stands it has grown by one
   some_taken : (v u : ℕ) → 2 ≤ u → u ≤ last → ancestor tree u ≡ v → stands placed v ≡ true → stands placed u ≡ false
-      → Taken last count (count + 1) tree nodes placed u
+      → Taken last (count + 1) tree (set nodes count u) placed u
   some_taken v u low high up above free =
       let more = walked_less last count tree nodes placed w u low high free in
       record {
@@ -106,16 +101,20 @@ module _ (last count : ℕ) (tree nodes : List ℕ) (placed : List Bool) (most :
       }
 
   -- one of the two
-  taken : (v u r : ℕ) → From last tree v u → stands placed v ≡ true → (1 ≤ u → stands placed u ≡ false) → OneMore last count u r
-      → Taken last count r tree nodes placed u
-  taken v u r from above free one =
+  taken : (v u r : ℕ) (after : List ℕ) → From last tree v u → stands placed v ≡ true → (1 ≤ u → stands placed u ≡ false)
+      → NodePut last count nodes u r after → Taken last r tree after placed u
+  taken v u r after from above free put =
       by_cases
       (dec_le 1 u)
       (λ h.
       let f = from h in
       let more = walked_less last count tree nodes placed w u f.0 f.1 (free h) in
-      rw (one.some h more) (some_taken v u f.0 f.1 f.2 above (free h)))
-      (λ h. let z : u ≡ 0 = omega arith in rw (one.none z, z) none_taken)
+      let one = put.some h more in
+      rw (one.0, one.1) (some_taken v u f.0 f.1 f.2 above (free h)))
+      (λ h.
+      let z : u ≡ 0 = omega arith in
+      let same = put.none z in
+      rw (same.0, same.1, z) none_taken)
 
 -- with the descendants of node i taken, all descendants of one node more stand in the walk
 module _ (last i count : ℕ) (tree nodes : List ℕ) (below : List Below) (most : last ≤ 126) (places : length nodes ≡ 127)
@@ -138,8 +137,10 @@ module _ (last i count : ℕ) (tree nodes : List ℕ) (below : List Below) (most
           let o = along.only u f.0 t in
           along.walked.once o.0 i o.1 inside (o.2 ∙ f.2)
 
-  module _ (a b r s : ℕ) (is_first : a ≡ (below_at below (node_at nodes i)).first) (is_second : b ≡ (below_at below (node_at nodes i)).second)
-      (one : OneMore last count a r) (two : OneMore last r b s) where
+  module _ (a b r s : ℕ) (first second : List ℕ) (size : length first ≡ 127)
+      (is_first : a ≡ (below_at below (node_at nodes i)).first)
+      (is_second : b ≡ (below_at below (node_at nodes i)).second) (one : NodePut last count nodes a r first)
+      (two : NodePut last r first b s second) where
     -- where the first comes from
     from_first : From last tree (node_at nodes i) a
     from_first = rw is_first (pairs.first (node_at nodes i) node.0 node.1)
@@ -149,9 +150,9 @@ module _ (last i count : ℕ) (tree nodes : List ℕ) (below : List Below) (most
     from_second = rw is_second (pairs.second (node_at nodes i) node.0 node.1)
 
     -- the first is taken
-    take_first : Taken last count r tree nodes along.placed a
+    take_first : Taken last r tree first along.placed a
     take_first =
-        taken last count tree nodes along.placed most places along.marks along.walked (node_at nodes i) a r from_first here
+        taken last count tree nodes along.placed most places along.marks along.walked (node_at nodes i) a r first from_first here
         (fresh a from_first) one
 
     -- after it the second does not stand yet
@@ -165,19 +166,17 @@ module _ (last i count : ℕ) (tree nodes : List ℕ) (below : List Below) (most
         same e = pairs.apart (node_at nodes i) node.0 node.1 (rw is_second at h) (sym is_first ∙ sym e.1 ∙ is_second)
 
     -- the second is taken
-    take_second : Taken last r s tree (set nodes count a) take_first.now b
+    take_second : Taken last s tree second take_first.now b
     take_second =
-        taken last r tree (set nodes count a) take_first.now most (simp length-set places) take_first.marks take_first.walked
-        (node_at nodes i) b s from_second (take_first.before (node_at nodes i) here) fresh_second two
+        taken last r tree first take_first.now most size take_first.marks take_first.walked (node_at nodes i) b s second from_second
+        (take_first.before (node_at nodes i) here) fresh_second two
 
     -- the nodes up to node i keep their places
-    kept : (k : ℕ) → k < count → node_at (set (set nodes count a) r b) k ≡ node_at nodes k
-    kept k h =
-        let least = one.least in
-        node_old (set nodes count a) r b k (λ e. omega arith) ∙ node_old nodes count a k (λ e. omega arith)
+    kept : (k : ℕ) → k < count → node_at second k ≡ node_at nodes k
+    kept k h = let least = one.least in two.kept k (omega arith) ∙ one.kept k h
 
     -- and all descendants of the first i + 1 nodes stand, and no others
-    pub along_next : Along last (i + 1) s tree (set (set nodes count a) r b)
+    pub along_next : Along last (i + 1) s tree second
     along_next = record {
       placed = take_second.now;
       marks = take_second.marks;
@@ -197,7 +196,7 @@ module _ (last i count : ℕ) (tree nodes : List ℕ) (below : List Below) (most
             rw is (take_second.held (omega arith)))
             (pairs.every u l h)
 
-        all : (k u : ℕ) → k < i + 1 → 2 ≤ u → u ≤ last → ancestor tree u ≡ node_at (set (set nodes count a) r b) k
+        all : (k u : ℕ) → k < i + 1 → 2 ≤ u → u ≤ last → ancestor tree u ≡ node_at second k
             → stands take_second.now u ≡ true
         all k u less l h e =
             let up = e ∙ kept k (omega arith) in
@@ -207,11 +206,11 @@ module _ (last i count : ℕ) (tree nodes : List ℕ) (below : List Below) (most
             (λ late. let same : k ≡ i = omega arith in own u l h (up ∙ ap (node_at nodes) same))
 
         from_node : (u : ℕ) → ancestor tree u ≡ node_at nodes i
-            → (k : ℕ) × (k < i + 1) × (node_at (set (set nodes count a) r b) k ≡ ancestor tree u)
+            → (k : ℕ) × (k < i + 1) × (node_at second k ≡ ancestor tree u)
         from_node u e = (i, omega arith, kept i inside ∙ sym e)
 
         only : (u : ℕ) → 2 ≤ u → stands take_second.now u ≡ true
-            → (k : ℕ) × (k < i + 1) × (node_at (set (set nodes count a) r b) k ≡ ancestor tree u)
+            → (k : ℕ) × (k < i + 1) × (node_at second k ≡ ancestor tree u)
         only u l t =
             ⊎_elim
             (λ t'.
@@ -358,23 +357,23 @@ module _ (n : ℕ) (tree : List ℕ) (within : branching_within n tree ≡ true)
 
 -- what is handed back of any tree, from what is known where the walk ends
 pub walking : (n last : ℕ) (tree : List ℕ) (below : List Below) (walk : Walk) → last ≡ min (last_node n) 126 → walk.count ≤ last
-    → ((i : ℕ) → node_at walk.nodes i ≤ 126) → Belows n tree below
-    → (Pairs last tree below → Along last walk.count walk.count tree walk.nodes)
+    → ((i : ℕ) → node_at walk.items i ≤ 126) → Belows n tree below
+    → (Pairs last tree below → Along last walk.count walk.count tree walk.items)
     → Walking n tree walk
 unfolding last_node
 walking n last tree below walk is most all belows along = record {
   at_most = omega arith;
   places = all;
   count = λ e. (whole e).0;
-  walks = λ e. walked_all n tree walk.nodes _ (whole e).1;
+  walks = λ e. walked_all n tree walk.items _ (whole e).1;
 }
   where
     plain : branching_within n tree ≡ true → last ≡ last_node n
     plain e = let h = (parts n tree e).0 in omega arith
 
-    end : branching_within n tree ≡ true → Along (last_node n) walk.count walk.count tree walk.nodes
+    end : branching_within n tree ≡ true → Along (last_node n) walk.count walk.count tree walk.items
     end e = rw (plain e) at (along (rw (plain e) (pairs_of n tree e below belows)))
 
     whole : (e : branching_within n tree ≡ true)
-        → (walk.count ≡ last_node n) × Walked (last_node n) (last_node n) tree walk.nodes (end e).placed
-    whole e = along_whole (last_node n) walk.count tree walk.nodes (branching-rooted n tree (parts n tree e).1) (end e)
+        → (walk.count ≡ last_node n) × Walked (last_node n) (last_node n) tree walk.items (end e).placed
+    whole e = along_whole (last_node n) walk.count tree walk.items (branching-rooted n tree (parts n tree e).1) (end e)

@@ -40,6 +40,11 @@ use Rattle.branching.proofs.Records.{records-lent, records-same}
 abbrev pub no_branch : Branch
 no_branch = record { node = 0; ancestor = 0; length = 0 }
 
+-- the first of 125 records, as far as 2n-3 of them go: how many are taken
+pub taken : (records : List Branch) (n count : ℕ) → length records ≡ 125 → count ≡ min (2 * n - 3) 125
+    → length (take count records) ≡ min (2 * n - 3) 125
+taken records n count size is = omega (arith, length-take count records)
+
 -- the records of a tree that are written over a list of 125
 module _ (d : ℕ → ℕ → ℕ) (n : ℕ) (tree : List ℕ) (old : List Branch) where
   -- there are 2n-3 of them

@@ -27,6 +27,7 @@ pub mod Rival
 pub mod Searching
 pub mod Unasked
 pub mod Passed
+pub mod Mapped
 pub mod Handing
 pub mod Standing
 pub mod PlacedLaws

@@ -1,11 +1,15 @@
 -- A chain over consecutive numbers: the list of a range is `numbers`, and std's tests and filters of it are `every` and `keep`.
 use mathlib.Core.Path.{◌≡◌, refl, sym, ap, ◌∙◌}
 use mathlib.Core.List.{List, [], ◌∷◌, map}
-use mathlib.Core.Bool.{Bool, cond, ◌&&◌}
+use mathlib.Core.Bool.{Bool, cond, not, ◌&&◌}
 use Prim.Native.Nat.{ℕ, zero, suc}
 use denote.Param.Members.{Mut}
 use native.Mathlib.Numerals.{add-one}
-use lib.ListN.{length, get_or}
+use native.Mathlib.Omega.{arith}
+use borrow.Author.Tests.{ne_eqb, le-leb}
+use lib.Dec.{leb, eqb}
+use lib.ListN.{length, get_or, replicate}
+use lib.Pointwise.{pointwise}
 use Rattle.std.specs.Fn.{Called}
 use Rattle.std.specs.Array.{IsFromFnResult}
 use Rattle.std.specs.List.{list_all, filter, range_with_len}
@@ -56,14 +60,17 @@ unfolding every numbers
 every-shift test a zero = refl
 every-shift test a (suc n) = ap (λ (rest : Bool). test (suc a) && rest) (every-shift test (suc a) n)
 
--- a test of the elements of a list, and the same one of the element at each place
-pub all-places : (test other : ℕ → Bool) → ((x : ℕ) → test x ≡ other x) → (xs : List ℕ)
-    → list_all test xs ≡ every (λ v. other (get_or xs v 0)) (numbers 0 (length xs))
+-- a list of zeros: it equals one, and no place of it holds a number of at least 1
+pub equal-zeros : (xs : List ℕ) → pointwise eqb xs (replicate (length xs) 0) ≡ every (λ v. not (leb 1 (get_or xs v 0))) (numbers 0 (length xs))
 unfolding every numbers
-all-places test other same [] = refl
-all-places test other same (x ∷ xs) =
-    ap (λ (first : Bool). first && list_all test xs) (same x)
-    ∙ ap (λ (rest : Bool). other x && rest) (all-places test other same xs ∙ shifted)
+equal-zeros [] = refl
+equal-zeros (x ∷ xs) =
+    ap (λ (first : Bool). first && pointwise eqb xs (replicate (length xs) 0)) (zero-least x)
+    ∙ ap (λ (rest : Bool). not (leb 1 x) && rest) (equal-zeros xs ∙ shifted)
   where
-    shifted : every (λ v. other (get_or xs v 0)) (numbers 0 (length xs)) ≡ every (λ v. other (get_or (x ∷ xs) v 0)) (numbers 1 (length xs))
-    shifted = sym (every-shift (λ v. other (get_or (x ∷ xs) v 0)) 0 (length xs))
+    zero-least : (a : ℕ) → eqb a 0 ≡ not (leb 1 a)
+    zero-least zero = refl
+    zero-least (suc a) = ne_eqb (suc a) 0 (λ e. omega arith) ∙ sym (ap not (le-leb 1 (suc a) (omega arith)))
+
+    shifted : every (λ v. not (leb 1 (get_or xs v 0))) (numbers 0 (length xs)) ≡ every (λ v. not (leb 1 (get_or (x ∷ xs) v 0))) (numbers 1 (length xs))
+    shifted = sym (every-shift (λ v. not (leb 1 (get_or (x ∷ xs) v 0))) 0 (length xs))

@@ -6,7 +6,7 @@ use mathlib.Core.Bool.{Bool, true, false, not, false≢true}
 use Prim.Native.Nat.{ℕ, ◌+◌, ◌*◌, ◌-◌, ◌≤◌, ◌<◌}
 use native.Mathlib.Omega.{arith}
 use native.Mathlib.Decide.{dec_le, dec_lt, ℕ_discrete}
-use lib.ListN.{length, set, replicate, get_or}
+use lib.ListN.{length, set, replicate, get_or, length-set}
 use lib.Seq.{get_or-set_same, get_or-set_other}
 use borrow.Author.Tests.{not-true}
 use Rattle.lists.specs.Filters.{keep}
@@ -19,6 +19,7 @@ use Rattle.branching.specs.Ancestors.{ancestor}
 use Rattle.branching.specs.Growing.{branching}
 use Rattle.branching.specs.Facts.{ReachesRoot, root, up, Branching}
 use Rattle.branching.specs.Walks.{node_at, WalkOf}
+use Rattle.branching.specs.Steps.{NodePut}
 use Rattle.branching.proofs.Nodes.{same_everywhere}
 use Rattle.branching.proofs.Test.{branching_iff}
 use Rattle.branching.proofs.Whole.{branching_nodes, branching_reaches, growing_ancestor_le}
@@ -316,3 +317,16 @@ places-set nodes k v h most all i =
 -- the list with node 1 alone is one
 pub places-start : (i : ℕ) → node_at (set (replicate 127 0) 0 1) i ≤ 126
 places-start = places-set (replicate 127 0) 0 1 (omega arith) (omega arith) (λ i. rw (empty i) (omega arith))
+
+-- a walk behind which a node is put
+pub put_some : (last count : ℕ) (nodes : List ℕ) (v r : ℕ) (after : List ℕ) → last ≤ 126 → length nodes ≡ 127 → 1 ≤ v → count < last
+    → r ≡ count + 1 → after ≡ set nodes count v → NodePut last count nodes v r after
+put_some last count nodes v r after room size low less is put = record {
+  most = λ h. omega arith;
+  least = omega arith;
+  none = λ z. absurd (omega arith);
+  some = λ l h. (is, put);
+  size = rw put (length-set nodes count v);
+  kept = λ k h. rw put (node_old nodes count v k (λ e. omega arith));
+  places = λ most all k. rw put (places-set nodes count v (omega arith) most all k);
+}

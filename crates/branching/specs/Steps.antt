@@ -1,8 +1,8 @@
 -- For the proofs of the private functions alone; no public contract cites this file.
 -- How the descendants of a node are found, and how the walk over a branching grows by one node.
-use Rattle.std.specs.Prelude.{◌≡◌, List, cond, ℕ, ◌+◌, ◌≤◌, ◌<◌, eqb}
+use Rattle.std.specs.Prelude.{◌≡◌, List, cond, ℕ, ◌+◌, ◌≤◌, ◌<◌, eqb, length, set}
 use Rattle.branching.specs.declared.walk.Below.{Below}
-use Rattle.branching.specs.Walks.{below_at}
+use Rattle.branching.specs.Walks.{node_at, below_at}
 
 -- one descendant more, as far as there are two
 unfoldable pub with_descendant : Below → ℕ → Below
@@ -15,9 +15,12 @@ with_descendant below u =
 abbrev pub PlacesBelow : List Below → Type 0
 PlacesBelow below = (v : ℕ) → ((below_at below v).first ≤ 126) × ((below_at below v).second ≤ 126)
 
--- how many nodes a walk has with node v behind its `count` nodes: one more, unless v is 0 or `last` nodes stand already
-pub record OneMore (last count v r : ℕ) : Type 0 where
+-- a walk of `count` nodes with node v put behind them, which then has r nodes: none more if v is 0 or `last` nodes stand already
+pub record NodePut (last count : ℕ) (nodes : List ℕ) (v r : ℕ) (after : List ℕ) : Type 0 where
   pub most : count ≤ last → r ≤ last
   pub least : count ≤ r
-  pub none : v ≡ 0 → r ≡ count
-  pub some : 1 ≤ v → count < last → r ≡ count + 1
+  pub none : v ≡ 0 → (r ≡ count) × (after ≡ nodes)
+  pub some : 1 ≤ v → count < last → (r ≡ count + 1) × (after ≡ set nodes count v)
+  pub size : length after ≡ length nodes
+  pub kept : (k : ℕ) → k < count → node_at after k ≡ node_at nodes k
+  pub places : v ≤ 126 → ((k : ℕ) → node_at nodes k ≤ 126) → (k : ℕ) → node_at after k ≤ 126

@@ -1,11 +1,11 @@
 -- The walk over a branching: its nodes in an order in which each stands behind its immediate ancestor, so that a pass over the walk goes
 -- from node 1 down, and backwards from the tips up. And the first two descendants of each node.
 use Rattle.std.specs.Prelude.{◌≡◌, List, [], ◌∷◌, true, ℕ, ◌≤◌, ◌<◌, get_or}
+use Rattle.filled.specs.declared.Filled.{Filled}
 use Rattle.matrix.specs.Shape.{last_node}
 use Rattle.branching.specs.declared.walk.Below.{Below}
-use Rattle.branching.specs.declared.walk.Walk.{Walk}
 use Rattle.branching.specs.declared.walk.Descent.{Descent}
-use Rattle.branching.specs.Ancestors.{ancestor, descendants}
+use Rattle.branching.specs.Ancestors.{places, ancestor, descendants}
 use Rattle.branching.specs.Nodes.{other_nodes}
 use Rattle.branching.specs.Within.{branching_within}
 
@@ -23,12 +23,16 @@ pub record WalkOf (n : ℕ) (tree nodes : List ℕ) : Type 0 where
   pub behind : (i : ℕ) → 1 ≤ i → i < last_node n → (j : ℕ) × (j < i) × (node_at nodes j ≡ ancestor tree (node_at nodes i))
   pub rest : (i : ℕ) → last_node n ≤ i → node_at nodes i ≡ 0
 
+-- a walk as it is handed back
+abbrev pub Walk : Type 0
+Walk = Filled ℕ places
+
 -- what is handed back of any tree: as many nodes as it says, each with a place in a tree; of a branching its walk
 pub record Walking (n : ℕ) (tree : List ℕ) (walk : Walk) : Type 0 where
   pub at_most : walk.count ≤ 126
-  pub places : (i : ℕ) → node_at walk.nodes i ≤ 126
+  pub places : (i : ℕ) → node_at walk.items i ≤ 126
   pub count : branching_within n tree ≡ true → walk.count ≡ last_node n
-  pub walks : branching_within n tree ≡ true → WalkOf n tree walk.nodes
+  pub walks : branching_within n tree ≡ true → WalkOf n tree walk.items
 
 -- the first two of a list of descendants; 0 for none
 unfoldable pub first_two : List ℕ → Below

@@ -1,14 +1,15 @@
 // The walk over a branching, and the descendants of each of its nodes.
-ghost use Rattle.std.specs.Prelude.{◌≡◌, List, ℕ};
+ghost use Rattle.std.specs.Prelude.{◌≡◌, ◌≤◌, List, ℕ};
 ghost use Rattle.branching.specs.Ancestors.{ancestors};
 ghost use Rattle.branching.specs.Walks.{Walking, Belows, Descending};
-ghost use Rattle.branching.specs.Steps.{with_descendant, PlacesBelow, OneMore};
+ghost use Rattle.branching.specs.Steps.{with_descendant, PlacesBelow, NodePut};
 
 use crate::tree::{PLACES, Tree, last_node, place_of};
 use crate::walk::{Below, Descent, Walk};
+use filled::Filled;
 
 // The descendants of a node, with one more behind them as far as there are two.
-// Kept: no plainer, `Below` has 0 for none, which the passes of a fit read as a place.
+// Kept: no plainer, `Below` has 0 for none, which the passes of a fit read as a place; a method would stand in `walk`, for its one caller here.
 #[tactic(auto, unfolding(crate::specs::Steps::with_descendant))]
 fn with_descendant(below: Below, u: usize) -> Below
     ensures { result ≡ with_descendant below u }
@@ -35,15 +36,15 @@ fn below_of(tree: &Tree, n: usize) -> [Below; PLACES]
     below
 }
 
-// How many nodes a walk has with node v behind its `count` nodes. 0 is no node, and beyond `last` nodes none is counted.
+// Puts a node behind those of a walk. 0 is no node, and behind `last` nodes none is put.
 // Kept: no plainer, `Below` has 0 for none, which the passes of a fit read as a place.
-fn one_more(last: usize, count: usize, v: usize) -> usize
-    ensures { OneMore last count v result }
+#[tactic(auto, using(crate::proofs::Walks::put_some))]
+fn put_node(walk: &mut Walk, last: usize, v: usize)
+    requires { last ≤ 126 }
+    ensures { NodePut last walk.old.count walk.old.items v walk.new.count walk.new.items }
 {
-    if v != 0 && count < last {
-        count + 1
-    } else {
-        count
+    if v != 0 && walk.count < last {
+        walk.push(v);
     }
 }
 
@@ -53,20 +54,17 @@ fn walk_down(below: &[Below; PLACES], n: usize) -> Walk
     ensures { (tree : List ℕ) → Belows n tree below.now → Walking n tree result }
 {
     let last = last_node(n);
-    let mut nodes = [0; PLACES];
-    nodes[0] = 1;
-    let mut count = 1;
+    let mut walk = Filled::none(0);
+    walk.push(1);
     let mut i = 0;
-    // Kept: no plainer, the walk grows while it is gone through, so no range has its end
-    while i < count {
-        let pair = below[nodes[i]];
-        nodes[count] = pair.first;
-        count = one_more(last, count, pair.first);
-        nodes[count] = pair.second;
-        count = one_more(last, count, pair.second);
+    // Kept: no plainer, the walk grows while it is gone through: a `for` up to the last node would have an arm for no node, which never comes.
+    while i < walk.count {
+        let pair = below[walk.items[i]];
+        put_node(&mut walk, last, pair.first);
+        put_node(&mut walk, last, pair.second);
         i += 1;
     }
-    Walk { count, nodes }
+    walk
 }
 
 // The walk over a branching of n taxa, and the descendants of each of its nodes.

@@ -41,7 +41,7 @@ impl<'a> Candidate<'a> {
     }
 
     // Whether place v is right.
-    // Kept: no plainer, the places of a tree hold 0 for none.
+    // Kept: no plainer, a place of a tree holds 0 for no ancestor, and what is right of it goes by that: an Option would be made of the 0 for this test.
     #[tactic(auto, using(matrix::proofs::Between::nat_between, crate::proofs::Nodes::taxa_placed_le), unfolding(crate::specs::Testing::place_right, crate::specs::Nodes::has_ancestor))]
     fn place_right(&self, v: usize) -> bool
         ensures { result ≡ place_right self.now.n self.now.placed (ancestors self.now.tree.now) v }

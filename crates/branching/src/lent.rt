@@ -41,6 +41,7 @@ pub fn tree_of(records: &[Branch; BRANCHES], n: usize) -> Tree
     ensures { ancestors result ≡ places_of n records.now }
 {
     let mut places = [0; PLACES];
+    // Kept: unproved, it would be a zip of `iter_mut`, as was tried in `write_codes` of matrix_file: of the list behind it a proof knows the length alone.
     for (i, record) in records[..record_count(n)].iter().enumerate() {
         places[i + 2] = record.ancestor;
     }

@@ -21,7 +21,7 @@ fn number_at(numbers: &[usize], i: usize) -> usize
 }
 
 // The record at a place, the first at place 0; its length is not read.
-// Kept: no plainer, `chunks` would end with a list that is too short, for which each number behind its end is 0.
+// Kept: no plainer, of a list that is too short each number behind its end is read as 0, where `chunks` would end.
 #[tactic(auto, unfolding(crate::specs::LentNumbers::record_at))]
 fn record_at(numbers: &[usize], place: usize) -> Branch
     requires { place < branches_size }

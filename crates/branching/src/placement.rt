@@ -3,7 +3,7 @@ ghost use Rattle.std.specs.Prelude.{◌≡◌, ◌≤◌};
 ghost use Rattle.matrix.specs.Shape.{most_taxa, most_characters};
 ghost use Rattle.matrix.specs.NodeRows.{with_row};
 ghost use Rattle.branching.specs.Ancestors.{ancestors};
-ghost use Rattle.branching.specs.Unasked.{medians_at, linked_at, hung_at, UnaskedDone};
+ghost use Rattle.branching.specs.Unasked.{medians_at, interval_at, linked_at, hung_at, UnaskedDone};
 ghost use Rattle.branching.specs.Nearest.{NearestOf, Leaves};
 ghost use Rattle.branching.specs.Placed.{PlacementDone};
 
@@ -11,12 +11,13 @@ use crate::questions::ask_placement;
 use crate::tree::{Tree, last_node};
 use difference::nodes::Nodes;
 use difference::rows::write_medians;
+use matrix::lent::Lent;
 use matrix::refusal::Refusal;
 use matrix::rows::{row, write_row};
 use matrix::{COLUMNS, MOST_CHARACTERS, MOST_TAXA};
 
 // The taxon, the lower end of its interval (0: none), the upper end, the new HTU (0: none), the length added.
-// Kept: no plainer, a tree's number for none is 0, and the keys by closeness read these nodes as places: Option would want a test for each.
+// Kept: no plainer, a tree's numbers have 0 for none, and lines and keys read both alike: with an Option here both forms of none would stand side by side.
 #[derive(Clone, Copy, Default)]
 pub struct Placement {
     pub taxon: usize,
@@ -40,14 +41,23 @@ pub struct NotPlaced {
     pub refusal: Refusal,
 }
 
-// The lower end of the interval of least interval difference, the least node number among equals.
-fn nearest_interval(nodes: &Nodes, tree: &Tree, n: usize, b: usize) -> Option<usize>
-    ensures { NearestOf nodes.now.matrix.now nodes.now.weights.now n nodes.now.m (ancestors tree.now) b result }
+// The interval difference of taxon b from the interval between c and its immediate ancestor.
+#[tactic(auto, unfolding(crate::specs::Unasked::interval_at))]
+fn from_interval(nodes: &Nodes, tree: &Tree, b: usize, c: usize) -> u64
+    ensures { result ≡ interval_at nodes.now.lent.matrix.now nodes.now.lent.weights.now nodes.now.lent.m (ancestors tree.now) b c }
 {
-    let end = last_node(n) + 1;
+    nodes.interval_difference(b, c, tree.ancestor(c))
+}
+
+// Kept: no plainer, a struct of the three would be made in `place_unasked` for one search, and `link_first` takes the tree by value, to hand it on.
+// The lower end of the interval of least interval difference, the least node number among equals.
+fn nearest_interval(nodes: &Nodes, tree: &Tree, b: usize) -> Option<usize>
+    ensures { NearestOf nodes.now.lent.matrix.now nodes.now.lent.weights.now nodes.now.lent.n nodes.now.lent.m (ancestors tree.now) b result }
+{
+    let end = last_node(nodes.lent.n) + 1;
     (2..end)
         .filter(|c| tree.in_tree(*c))
-        .min_by_key(|c| nodes.interval_difference(b, *c, tree.ancestor(*c)))
+        .min_by_key(|c| from_interval(nodes, tree, b, *c))
 }
 
 // Writes the median codes of nodes b, c and e into the row of node y.
@@ -68,7 +78,7 @@ impl Tree {
     // Taxon b linked to row 1.
     #[tactic(auto, unfolding(crate::specs::Unasked::linked_at, difference::specs::Rows::node_difference))]
     fn link_first(self, nodes: &Nodes, b: usize) -> Placed
-        ensures { Leaves (linked_at nodes.now.matrix.now nodes.now.weights.now nodes.now.m (ancestors self) b) nodes.now.matrix.now result }
+        ensures { Leaves (linked_at nodes.now.lent.matrix.now nodes.now.lent.weights.now nodes.now.lent.m (ancestors self) b) nodes.now.lent.matrix.now result }
     {
         Placed {
             tree: self.link(b),
@@ -83,6 +93,7 @@ impl Tree {
     }
 
     // Taxon b hung on the interval between c and its immediate ancestor.
+    // Kept: no plainer, a struct lent to be written could come back with other weights, n and m: each promise would have to say that they stay.
     fn hang_on(
         self,
         matrix: &mut [i32],
@@ -97,7 +108,13 @@ impl Tree {
     {
         let upper = self.ancestor(c);
         let htu = self.next_htu(n);
-        let added = Nodes { matrix, weights, m }.interval_difference(b, c, upper);
+        let lent = Lent {
+            matrix,
+            weights,
+            n,
+            m,
+        };
+        let added = Nodes { lent }.interval_difference(b, c, upper);
         write_htu(matrix, m, b, c, upper, htu);
         Placed {
             tree: self.hang(b, c, htu),
@@ -112,7 +129,8 @@ impl Tree {
     }
 
     // Taxon b placed on its interval, without the questions of a placement; nothing is done for more than 64 taxa or 128 characters.
-    // Kept: no plainer, the matrix is written to, and `Nodes` lends it to be read: it is made anew for each reading.
+    // Kept: interface, a call that could not fail still cannot: beyond its limits it answers a placement of zeros.
+    // Kept: no plainer, a struct lent to be written could come back with other weights, n and m: each promise would have to say that they stay.
     pub fn place_unasked(
         self,
         matrix: &mut [i32],
@@ -129,15 +147,22 @@ impl Tree {
                 placement: Placement::default(),
             };
         }
-        match nearest_interval(&Nodes { matrix, weights, m }, &self, n, b) {
-            None => self.link_first(&Nodes { matrix, weights, m }, b),
+        let lent = Lent {
+            matrix,
+            weights,
+            n,
+            m,
+        };
+        let nodes = Nodes { lent };
+        match nearest_interval(&nodes, &self, b) {
+            None => self.link_first(&nodes, b),
             Some(c) => self.hang_on(matrix, weights, n, m, b, c),
         }
     }
 
     // The placement of taxon b on a tree handed in, with its questions: the tree comes out one taxon larger, and the codes of the new HTU
     // are written into its row of the matrix. A refused placement hands the tree back unchanged, and writes nothing.
-    // Kept: no plainer, a call takes the lists and numbers as they are lent, not yet known to be right; behind its questions `Nodes` has them.
+    // Kept: no plainer, a struct lent to be written could come back with other weights, n and m: each promise would have to say that they stay.
     pub fn place(
         self,
         matrix: &mut [i32],
@@ -148,13 +173,16 @@ impl Tree {
     ) -> Result<Placed, NotPlaced>
         ensures { PlacementDone matrix.old matrix.new weights.now n m (ancestors self) b result }
     {
-        // Kept: no plainer, a refusal takes the tree with it, so `?` would want a closure that captures the tree
-        match ask_placement(matrix, weights, n, m, &self, b) {
-            Ok(()) => Ok(self.place_unasked(matrix, weights, n, m, b)),
-            Err(refusal) => Err(NotPlaced {
-                tree: self,
-                refusal,
-            }),
-        }
+        let lent = Lent {
+            matrix,
+            weights,
+            n,
+            m,
+        };
+        ask_placement(&lent, &self, b).map_err(|refusal| NotPlaced {
+            tree: self,
+            refusal,
+        })?;
+        Ok(self.place_unasked(matrix, weights, n, m, b))
     }
 }

@@ -1,4 +1,5 @@
 // The questions of a placement on a tree handed in, of a lent branching, and of a finished tree.
+// Kept: no plainer, what is lent stays, and a tree goes on by value: a struct of both would be made anew for each tree; so in the crates above.
 ghost use Rattle.std.specs.Prelude.{◌≡◌, ◌≤◌};
 ghost use Rattle.matrix.specs.Shape.{most_taxa};
 ghost use Rattle.matrix.specs.Questions.{htus_in_range};
@@ -8,63 +9,48 @@ ghost use Rattle.branching.specs.Asking.{htus_of, ask_placement, ask_branching, 
 use crate::branch::{BRANCHES, Branch};
 use crate::lent::lent_branching;
 use crate::tree::Tree;
-use matrix::questions::{ask_matrix, htu_in_range, one_to};
+use matrix::lent::Lent;
+use matrix::questions::one_to;
 use matrix::refusal::Refusal;
 
 // Whether the rows of the HTUs of a growing tree of n taxa have codes from -999 to 999.
-// Kept: no plainer, the question reads no weights, which `Nodes` has beside the matrix and m.
-fn htus_right(matrix: &[i32], n: usize, m: usize, tree: &Tree) -> bool
-    requires { n ≤ most_taxa }
-    ensures { result ≡ htus_in_range matrix.now n m (htus_of n (ancestors tree.now)) }
+fn htus_right(lent: &Lent, tree: &Tree) -> bool
+    requires { lent.now.n ≤ most_taxa }
+    ensures { result ≡ htus_in_range lent.now.matrix.now lent.now.n lent.now.m (htus_of lent.now.n (ancestors tree.now)) }
 {
-    let end = n + tree.taxa_placed(n).max(2) - 1;
-    (n + 1..end).all(|v| htu_in_range(matrix, n, m, v))
+    let end = lent.n + tree.taxa_placed(lent.n).max(2) - 1;
+    (lent.n + 1..end).all(|v| lent.htu_in_range(v))
 }
 
 // The questions of a placement of taxon b on a tree handed in: those on the matrix, whether the taxon exists, whether the tree is a growing
 // tree, whether the taxon is not yet in it, and the rows of its HTUs.
-// Kept: no plainer, the questions are put to the lists and numbers as they are lent, before any of them is known to be right.
 #[tactic(auto, using(crate::proofs::Passed::growing_passed, matrix::proofs::Passing::matrix_passed), unfolding(crate::specs::Asking::ask_placement))]
-pub fn ask_placement(
-    matrix: &[i32],
-    weights: &[u8],
-    n: usize,
-    m: usize,
-    tree: &Tree,
-    b: usize,
-) -> Result<(), Refusal>
-    ensures { result ≡ ask_placement matrix.now weights.now n m (ancestors tree.now) b }
+pub fn ask_placement(lent: &Lent, tree: &Tree, b: usize) -> Result<(), Refusal>
+    ensures { result ≡ ask_placement lent.now.matrix.now lent.now.weights.now lent.now.n lent.now.m (ancestors tree.now) b }
 {
-    ask_matrix(matrix, weights, n, m)?;
-    if !one_to(n, b) {
+    lent.ask()?;
+    if !one_to(lent.n, b) {
         return Err(Refusal::NotThere);
     }
-    if !tree.is_growing(n) {
+    if !tree.is_growing(lent.n) {
         return Err(Refusal::NotBranching);
     }
     if tree.in_tree(b) {
         return Err(Refusal::NotThere);
     }
-    if !htus_right(matrix, n, m, tree) {
+    if !htus_right(lent, tree) {
         return Err(Refusal::CodeRange);
     }
     Ok(())
 }
 
 // The questions of a call on a lent branching that reads no HTU row: those on the matrix, and whether the records are a branching.
-// Kept: no plainer, the questions are put to the lists and numbers as they are lent, before any of them is known to be right.
 #[tactic(auto, unfolding(crate::specs::Asking::ask_branching))]
-pub fn ask_branching(
-    matrix: &[i32],
-    weights: &[u8],
-    n: usize,
-    m: usize,
-    records: &[Branch; BRANCHES],
-) -> Result<(), Refusal>
-    ensures { result ≡ ask_branching matrix.now weights.now n m records.now }
+pub fn ask_branching(lent: &Lent, records: &[Branch; BRANCHES]) -> Result<(), Refusal>
+    ensures { result ≡ ask_branching lent.now.matrix.now lent.now.weights.now lent.now.n lent.now.m records.now }
 {
-    ask_matrix(matrix, weights, n, m)?;
-    if !lent_branching(records, n) {
+    lent.ask()?;
+    if !lent_branching(records, lent.n) {
         return Err(Refusal::NotBranching);
     }
     Ok(())
@@ -72,26 +58,18 @@ pub fn ask_branching(
 
 // The questions of a call that hands a finished tree back as branch records, into a lent list of `room` records: the size of that list,
 // those on the matrix, whether the tree is a branching of n taxa, and the rows of its HTUs.
-// Kept: no plainer, the questions are put to the lists and numbers as they are lent, before any of them is known to be right.
 #[tactic(auto, using(crate::proofs::Passed::branching_passed, matrix::proofs::Passing::matrix_passed), unfolding(crate::specs::Asking::ask_records))]
-pub fn ask_records(
-    matrix: &[i32],
-    weights: &[u8],
-    n: usize,
-    m: usize,
-    tree: &Tree,
-    room: usize,
-) -> Result<(), Refusal>
-    ensures { result ≡ ask_records matrix.now weights.now n m (ancestors tree.now) room }
+pub fn ask_records(lent: &Lent, tree: &Tree, room: usize) -> Result<(), Refusal>
+    ensures { result ≡ ask_records lent.now.matrix.now lent.now.weights.now lent.now.n lent.now.m (ancestors tree.now) room }
 {
     if room != BRANCHES {
         return Err(Refusal::ListSize);
     }
-    ask_matrix(matrix, weights, n, m)?;
-    if !tree.is_branching(n) {
+    lent.ask()?;
+    if !tree.is_branching(lent.n) {
         return Err(Refusal::NotBranching);
     }
-    if !htus_right(matrix, n, m, tree) {
+    if !htus_right(lent, tree) {
         return Err(Refusal::CodeRange);
     }
     Ok(())

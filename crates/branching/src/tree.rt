@@ -1,4 +1,5 @@
 // Trees by value: the immediate ancestor of each node, by node number.
+// Kept: no plainer, a tree is one of n taxa only once it is asked, and then `Candidate` and the plan of a fit hold both.
 ghost use Rattle.std.specs.Prelude.{◌≡◌, min, set};
 ghost use Rattle.matrix.specs.Shape.{last_node};
 ghost use Rattle.branching.specs.Ancestors.{ancestors, ancestor, PlaceOf};
@@ -14,7 +15,8 @@ use matrix::{MOST_TAXA, questions};
 pub const PLACES: usize = 127;
 
 // A tree: place v holds the immediate ancestor of node v, and 0 where it has none.
-#[derive(Clone, Copy)]
+// Kept: interface, nodes are numbers in what C and the files lend, and the project has no heap: a tree is handed in and back by value, as its ancestors.
+#[derive(Clone, Copy, PartialEq, Eq)]
 pub struct Tree {
     pub ancestors: [usize; PLACES],
 }
@@ -32,7 +34,7 @@ impl Tree {
     }
 
     // The immediate ancestor of node v, and 0 for a number beyond the places.
-    // Kept: no plainer, the places of a tree and the records that C lends hold 0 for none, and a node's number is compared with the answer.
+    // Kept: no plainer, a place of a tree holds 0 for none, and what callers compare and look up with the answer is a node's number.
     #[tactic(auto, using(std::proofs::lemmas::Option::gets), unfolding(crate::specs::Ancestors::ancestor))]
     pub fn ancestor(&self, v: usize) -> usize
         ensures { result ≡ ancestor (ancestors self.now) v }
@@ -44,7 +46,7 @@ impl Tree {
     fn with_ancestor(mut self, v: usize, a: usize) -> Tree
         ensures { ancestors result ≡ set (ancestors self) v a }
     {
-        // Kept: unproved, after get_mut a proof knows how many places there are, and none of their numbers
+        // Kept: unproved, `if let Some(place) = self.ancestors.get_mut(v)` leaves the whole equation open, as std does not say what a list ends as behind get_mut
         if v < PLACES {
             self.ancestors[v] = a;
         }
@@ -75,6 +77,7 @@ impl Tree {
     pub fn in_tree(&self, v: usize) -> bool
         ensures { result ≡ in_tree (ancestors self.now) v }
     {
+        // Kept: no plainer, a place holds 0 for no ancestor, and most callers of `ancestor` take its answer as a node: `place_right` alone tells 0 apart as well
         v == 1 || 1 <= self.ancestor(v)
     }
 
@@ -87,7 +90,7 @@ impl Tree {
     }
 
     // The number of the next HTU, and 0 for more than 64 taxa.
-    // Kept: no plainer, its one caller has at most 64 taxa, and would have to take the number out of an Option.
+    // Kept: interface, a call that could not fail still cannot: of more than 64 taxa there is no next HTU, and it answers 0.
     #[tactic(auto, using(crate::proofs::Nodes::taxa_placed_le), unfolding(crate::specs::Within::next_htu_within, crate::specs::Hanging::next_htu))]
     pub fn next_htu(&self, n: usize) -> usize
         ensures { result ≡ next_htu_within n (ancestors self.now) }
@@ -103,6 +106,7 @@ impl Tree {
         ensures { result ≡ climbs (ancestors self.now) steps v }
     {
         let mut at = v;
+        // Kept: no plainer, a fold would go all steps behind node 1, and `successors` wants each node under a Some
         for _step in 0..steps {
             if at == 1 {
                 return true;
@@ -116,7 +120,7 @@ impl Tree {
     fn is_alone(&self) -> bool
         ensures { result ≡ row_one_alone (ancestors self.now) }
     {
-        self.ancestors.iter().all(|above| *above == 0)
+        *self == Tree::alone()
     }
 
     // Whether the tree is a growing tree of n taxa, n at most 64.

@@ -3,7 +3,7 @@ use mathlib.Core.Path.{◌≡◌, refl}
 use Prim.Native.Nat.{◌-◌, ◌≤◌}
 use native.Mathlib.Omega.{arith}
 use borrow.Author.Rules.{rules}
-use lib.ListN.{length, length-set}
+use lib.ListN.{length-set}
 use Rattle.matrix.specs.Shape.{last_node}
 use Rattle.branching.specs.Ancestors.{ancestor, ancestors}
 use Rattle.branching.proofs.Descending.{descendants-places, below-start, none_within, below_more, all-within}
@@ -35,10 +35,9 @@ pub returns : goal.returns
 returns c =
     let loop = c.loop-u in
     let tree = ancestors c.args.tree.now in
-    let size : length tree ≡ 127 = search rules in
     let last = c.last_node-end in
     let past : loop.u - 2 ≡ last.result - 1 = omega (arith, c.loop-u-test.false, loop.invariant.0) in
     record {
-      are = λ v l h. rw (descendants-places _ last.result tree size last.ensures v l) (rw past at (loop.invariant.3 v l h));
+      are = λ v l h. rw (descendants-places _ last.result tree (search rules) last.ensures v l) (rw past at (loop.invariant.3 v l h));
       within = loop.invariant.4;
     }

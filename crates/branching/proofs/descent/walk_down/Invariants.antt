@@ -9,13 +9,13 @@ use Rattle.branching.proofs.Along.{Pairs, Along}
 use Rattle.branching.proofs.descent.walk_down.Given as goal
 
 abbrev pub invariant-loop-i : goal.invariant-loop-i
-invariant-loop-i l = (1 ≤ l.count)
-    × (l.count ≤ l.last)
+invariant-loop-i l = (1 ≤ l.walk.count)
+    × (l.walk.count ≤ l.last)
     × (l.last ≤ 126)
-    × (l.i ≤ l.count)
-    × (length l.nodes ≡ 127)
-    × ((k : ℕ) → node_at l.nodes k ≤ 126)
-    × ((tree : List ℕ) → Pairs l.last tree l.below → Along l.last l.i l.count tree l.nodes)
+    × (l.i ≤ l.walk.count)
+    × (length l.walk.items ≡ 127)
+    × ((k : ℕ) → node_at l.walk.items k ≤ 126)
+    × ((tree : List ℕ) → Pairs l.last tree l.below → Along l.last l.i l.walk.count tree l.walk.items)
 
 abbrev pub decreases-loop-i : goal.decreases-loop-i
 decreases-loop-i l = 126 - l.i

@@ -4,7 +4,6 @@ use Prim.Native.Nat.{◌*◌, ◌-◌, min}
 use native.Mathlib.Omega.{arith}
 use borrow.Author.Rules.{rules}
 use borrow.Author.Tests.{tests}
-use lib.ListN.{length}
 use Rattle.std.proofs.lemmas.Iterator.{YieldsList-from_slice, YieldsList-from_take}
 use Rattle.std.proofs.lemmas.Iterator.Consumers.{YieldsList-from_enumerate}
 use Rattle.std.proofs.lemmas.Iterator.Search.{all_from_yields_List}
@@ -15,9 +14,8 @@ pub returns : goal.returns
 returns c =
     let records = c.args.records.now in
     let n = min c.args.n 64 in
-    let size : length records ≡ 125 = search rules in
     let count : c.record_count.result ≡ 2 * n - 3 = omega (arith, c.record_count.ensures) in
     all_from_yields_List names_place _ _ _ c.all.ensures.ran
     (YieldsList-from_enumerate (YieldsList-from_take (2 * n - 3) (YieldsList-from_slice records (search rules)) (search (rules, count))) (search rules))
     (λ x b q k. search (rules, tests))
-    ∙ named-all records size n (omega arith)
+    ∙ named-all records (search rules) n (omega arith)

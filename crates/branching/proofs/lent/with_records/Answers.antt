@@ -3,19 +3,17 @@ use mathlib.Core.Path.{◌≡◌, refl, ap, ◌∙◌}
 use mathlib.Core.List.{List, ◌++◌}
 use native.Mathlib.Omega.{arith}
 use borrow.Author.Rules.{rules}
-use lib.ListN.{length, length-set, length-take, take, drop}
+use lib.ListN.{length-set, length-take, take, drop}
 use Rattle.lists.specs.Over.{over}
 use Rattle.branching.specs.Branches.{lengths_by, branch_of, branch_records}
 use Rattle.branching.specs.declared.branch.Branch.{Branch}
 use Rattle.branching.specs.Ancestors.{ancestors}
-use Rattle.branching.proofs.Lending.{over_front, written_next, written_all}
+use Rattle.branching.proofs.Lending.{over_front, taken, written_next, written_all}
 use Rattle.branching.proofs.lent.with_records.Goals as goal
 
 pub loop-i-init : goal.loop-i-init
 unfolding over
-loop-i-init c =
-    let size : length c.args.records ≡ 125 = search rules in
-    (omega (arith, size, length-take c.record_count.result c.args.records, c.record_count.ensures), refl)
+loop-i-init c = (taken _ _ _ (search rules) c.record_count.ensures, refl)
 
 pub loop-i-preserved : goal.loop-i-preserved
 unfolding branch_of lengths_by
@@ -30,11 +28,11 @@ pub returns : goal.returns
 returns c =
     let loop = c.loop-i in
     let inv = loop.invariant in
-    let size : length c.args.records ≡ 125 = search rules in
     let count = c.record_count.result in
     let tree = ancestors c.args.tree.now in
     let all = branch_records (lengths_by c.args.lengths.now) c.args.n tree in
-    let same : loop.i ≡ count = omega (arith, size, length-take count c.args.records, c.loop-i-test.false, loop.auto.i-end, c.record_count.ensures) in
+    let number = taken c.args.records _ count (search rules) c.record_count.ensures in
+    let same : loop.i ≡ count = omega (arith, number, c.loop-i-test.false, loop.auto.i-end, c.record_count.ensures) in
     ap (λ (part : List Branch). part ++ drop count c.args.records) inv.1
     ∙ over_front count (take loop.i all) c.args.records (omega (arith, length-take loop.i all))
-    ∙ written_all _ _ _ _ loop.i size (same ∙ c.record_count.ensures)
+    ∙ written_all _ _ _ _ loop.i (search rules) (same ∙ c.record_count.ensures)

@@ -1,10 +1,9 @@
 -- `branching::placement::nearest_interval` meets its contract: the nodes in the tree are gone through. Assumes nothing.
-use mathlib.Core.Path.{◌≡◌, sym, ◌∙◌}
+use mathlib.Core.Path.{sym, ◌∙◌}
 use Prim.Native.Nat.{◌+◌, ◌*◌, ◌-◌, min}
 use native.Mathlib.Omega.{arith}
 use borrow.Author.Rules.{rules}
 use borrow.Author.Tests.{tests}
-use lib.ListN.{length}
 use Rattle.std.proofs.lemmas.Iterator.{YieldsList-from_range}
 use Rattle.std.proofs.lemmas.Iterator.Consumers.{YieldsList-from_filter}
 use Rattle.matrix.specs.Shape.{last_node}
@@ -18,17 +17,15 @@ use Rattle.branching.proofs.Searching.{nearest_found}
 use Rattle.branching.proofs.placement.nearest_interval.Goals as goal
 
 pub returns : goal.returns
-unfolding interval_at last_node
+unfolding last_node
 returns c =
-    let nodes = c.args.nodes.now in
+    let lent = c.args.nodes.now.lent in
     let tree = ancestors c.args.tree.now in
-    let n = c.args.n in
+    let n = lent.n in
     let count = min (2 * n - 3) 125 in
-    -- Kept: no plainer, how long an array is the check is asked where it matters.
-    let size : length tree ≡ 127 = search rules in
-    nearest_found nodes.matrix.now nodes.weights.now n nodes.m tree c.args.b _ _
-    (filter-range (in_tree tree) 2 count ∙ sym (nodes_in-places tree size n))
-    (least_from_min_by_key _ _ _ (interval_at nodes.matrix.now nodes.weights.now nodes.m tree c.args.b) _ c.min_by_key.ensures.ran
+    nearest_found lent.matrix.now lent.weights.now n lent.m tree c.args.b _ _
+    (filter-range (in_tree tree) 2 count ∙ sym (nodes_in-places tree (search rules) n))
+    (least_from_min_by_key _ _ _ (interval_at lent.matrix.now lent.weights.now lent.m tree c.args.b) _ c.min_by_key.ensures.ran
     (λ x r q k. search rules)
     (YieldsList-from_filter _ (in_tree tree)
     (YieldsList-from_range 2 (c.last_node-end.result + 1) count c.filter.ensures.source (omega (arith, c.last_node-end.ensures)))

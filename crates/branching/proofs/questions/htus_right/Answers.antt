@@ -15,15 +15,15 @@ use Rattle.branching.proofs.Ranges.{every-range}
 use Rattle.branching.proofs.questions.htus_right.Goals as goal
 
 pub overflow_add-end : goal.overflow_add-end
-overflow_add-end c = omega (arith, c.taxa_placed.ensures, c.max.ensures, taxa_placed_le (ancestors c.args.tree.now) c.args.n)
+overflow_add-end c = omega (arith, c.taxa_placed.ensures, c.max.ensures, taxa_placed_le (ancestors c.args.tree.now) c.args.lent.now.n)
 
 pub returns : goal.returns
 unfolding htus_in_range htus_of
 returns c =
-    let a = c.args in
-    let tree = ancestors a.tree.now in
-    let test = htu_in_range a.matrix.now a.n a.m in
-    let count = taxa_placed a.n tree - 2 in
+    let lent = c.args.lent.now in
+    let tree = ancestors c.args.tree.now in
+    let test = htu_in_range lent.matrix.now lent.n lent.m in
+    let count = taxa_placed lent.n tree - 2 in
     all_from_yields_List test _ _ _ c.all.ensures.ran
-    (YieldsList-from_range (a.n + 1) (a.n + max (taxa_placed a.n tree) 2 - 1) count (search rules) (omega arith)) (λ x b q k. search (rules, tests))
-    ∙ every-range test (a.n + 1) count
+    (YieldsList-from_range (lent.n + 1) (lent.n + max (taxa_placed lent.n tree) 2 - 1) count (search rules) (omega arith)) (λ x b q k. search (rules, tests))
+    ∙ every-range test (lent.n + 1) count

@@ -1,10 +1,9 @@
 -- `branching::tree::Tree::taxa_placed` meets its contract: no taxon beyond the places is placed. Assumes nothing.
-use mathlib.Core.Path.{◌≡◌, sym, ◌∙◌}
+use mathlib.Core.Path.{sym, ◌∙◌}
 use Prim.Native.Nat.{◌+◌, min}
 use native.Mathlib.Omega.{arith}
 use borrow.Author.Rules.{rules}
 use borrow.Author.Tests.{tests}
-use lib.ListN.{length}
 use Rattle.std.proofs.lemmas.Iterator.{YieldsList-from_range}
 use Rattle.std.proofs.lemmas.Iterator.Consumers.{count_from_yields_List, YieldsList-from_filter}
 use Rattle.branching.specs.Ancestors.{ancestors}
@@ -16,12 +15,10 @@ use Rattle.branching.proofs.tree.Tree.taxa_placed.Goals as goal
 pub returns : goal.returns
 returns c =
     let tree = ancestors c.args.self.now in
-    -- Kept: no plainer, how long an array is the check is asked where it matters.
-    let size : length tree ≡ 127 = search rules in
     let n = c.args.n in
     count_from_yields_List _ _ c.count.ensures.ran
     (YieldsList-from_filter _ (in_tree tree)
     (YieldsList-from_range 1 (min n 126 + 1) (min n 126) (search rules) (omega arith))
     c.filter.ensures.closure (λ x b q k. search (rules, tests)))
     ∙ kept-range (in_tree tree) 1 (min n 126)
-    ∙ sym (taxa_placed-places tree size n)
+    ∙ sym (taxa_placed-places tree (search rules) n)
