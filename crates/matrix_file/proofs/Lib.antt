@@ -1,5 +1,6 @@
 -- Laws of reading a matrix file. `Lists.ReadLists` says what the lent lists hold after a read.
 pub mod ReadAs
+pub mod Words
 pub mod Answering
 pub mod Decimal
 pub mod Rows

@@ -1,5 +1,7 @@
 -- The lent lists: what a walk over the lines writes, and what the lists then hold.
 pub mod LinesBehind
+pub mod LinesSplit
+pub mod LinesCut
 pub mod WrittenLines
 pub mod ReadLists
 pub mod ReadWalk

@@ -8,6 +8,7 @@ use matrix::refusal::Refusal;
 #[derive(Clone, Copy, PartialEq, Eq)]
 pub struct Refused {
     pub refusal: Refusal,
+    // Kept: interface, by document 01 the line is 0 where no line is at fault, and the listing prints that 0.
     pub line: usize,
 }
 

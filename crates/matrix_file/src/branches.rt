@@ -1,4 +1,5 @@
 // The branching of a file: its `C` lines.
+// Kept: no plainer, three functions ask for `C` lines of the right form: a struct with this fact would be made in two places, each for one method.
 ghost use Rattle.std.specs.Prelude.{◌≡◌, true, [], map, ◌*◌, ◌≤◌, length, get_or, take};
 ghost use Rattle.lists.specs.Filled.{filled};
 ghost use Rattle.lists.specs.Over.{over, stripes};
@@ -13,7 +14,7 @@ ghost use Rattle.file_form.specs.Formed.{BranchesFormed, record_in};
 ghost use Rattle.matrix_file.specs.Walk.{behind_rows_most, left_of, BranchAsked, BranchesAsked};
 
 use crate::answer::{Refused, on_line};
-use crate::bytes::{behind_part, field, first_line, first_part, same_text, separators};
+use crate::bytes::{field, first_line, separators};
 use crate::numbers::number;
 use branching::lent::record_count;
 use branching::numbers::RECORD;
@@ -29,7 +30,7 @@ const NODE: usize = 1;
 const ANCESTOR: usize = 2;
 
 // How many `C` lines a file has: one for each node but node 1 if it brings its own branching, else none.
-// Kept: no plainer, as a method of `Kind` it would be public in another crate for this crate alone.
+// Kept: no plainer, `file_form` holds definitions and no function, so that a wrong one is refused in seconds; a method of `Kind` would be its first.
 pub(crate) fn branch_count(kind: Kind, n: usize) -> usize
     requires { n ≤ most_taxa }
     ensures { result ≡ branch_count kind n }
@@ -47,9 +48,9 @@ fn branch_form(line: &[u8], v: usize) -> bool
     if separators(line, TAB) != ANCESTOR {
         return false;
     }
-    if !same_text(field(line, 0), b"C") {
+    let b"C" = field(line, 0) else {
         return false;
-    }
+    };
     if number(field(line, ANCESTOR)).is_none() {
         return false;
     }
@@ -71,6 +72,7 @@ fn ask_branch(text: &[u8], v: usize) -> Result<&[u8], Refusal>
 }
 
 // For each node in turn, from node 2, its question. The first line stands in line `first`. What stands behind the last.
+// Kept: no plainer, `split_inclusive` would hand out lines with their line feed, but not what stands behind the last of them.
 pub(crate) fn ask_branches(text: &[u8], count: usize, first: usize) -> Result<&[u8], Refused>
     requires { (count ≤ branches_size) × (first ≤ behind_rows_most) }
     ensures { BranchesAsked text.now count first (left_of result) }
@@ -91,22 +93,24 @@ fn number_in(line: &[u8], place: usize) -> usize
 }
 
 // The tree that `C` lines say, with which a text begins.
-// Kept: no plainer, text and count as a struct with this fact would be made in two places, each for one method.
 fn tree_said(text: &[u8], count: usize) -> Tree
     requires { (count ≤ branches_size) × BranchesFormed count text.now }
     ensures { ancestors result ≡ filled places 0 (tree_with (map ancestor_in (take count (lines_of text.now)))) }
 {
     let mut ancestors = [0; PLACES];
-    let mut rest = text;
-    for done in 0..count {
-        ancestors[done + 2] = number_in(first_part(rest, LINE_FEED), ANCESTOR);
-        rest = behind_part(rest, LINE_FEED);
+    // Kept: unproved, it would be a zip of `iter_mut`, as was tried in `write_codes`: of the list behind it a proof knows the length alone.
+    for (i, line) in text
+        .split(|byte| *byte == LINE_FEED)
+        .take(count)
+        .enumerate()
+    {
+        ancestors[i + 2] = number_in(line, ANCESTOR);
     }
     Tree { ancestors }
 }
 
 // Are the `C` lines with which a text begins a branching of n taxa? A `W` file has none.
-// Kept: no plainer, as a method of `Kind` it would be public in another crate for this crate alone.
+// Kept: no plainer, each kind has a case in the definition as here; after `==` of kinds the case would be read back by the law of the derive.
 pub(crate) fn ask_tree(text: &[u8], kind: Kind, n: usize) -> Result<(), Refusal>
     requires { (n ≤ most_taxa) × BranchesFormed (branch_count kind n) text.now }
     ensures { result ≡ ask_tree kind n (map ancestor_in (take (branch_count kind n) (lines_of text.now))) }
@@ -135,15 +139,16 @@ pub(crate) fn write_branches(branches: &mut [usize], text: &[u8], count: usize)
     requires { (count * record_size ≤ length branches.old) × BranchesFormed count text.now }
     ensures { branches.new ≡ stripes record_size 0 (map record_in (take count (lines_of text.now))) branches.old }
 {
-    let mut rest = text;
-    for done in 0..count {
-        let line = first_part(rest, LINE_FEED);
-        // Kept: unproved, after `chunks_mut` a proof knows how long the list is, and none of its elements.
+    for (i, line) in text
+        .split(|byte| *byte == LINE_FEED)
+        .take(count)
+        .enumerate()
+    {
+        // Kept: unproved, as `write_matrix` in `writing`, with `branches.chunks_mut(RECORD)`.
         write_record(
-            &mut branches[done * RECORD..],
+            &mut branches[i * RECORD..],
             number_in(line, NODE),
             number_in(line, ANCESTOR),
         );
-        rest = behind_part(rest, LINE_FEED);
     }
 }

@@ -1,6 +1,5 @@
 // Bytes of names, and parts of a text.
 ghost use Rattle.std.specs.Prelude.{◌≡◌, ◌+◌, ◌<◌, [], length, get_or, drop};
-ghost use Rattle.lists.specs.Tests.{same_numbers as same_text};
 ghost use Rattle.file_form.specs.Bytes.{parts_at, part_length, first_part, behind_part};
 ghost use Rattle.file_form.specs.Job.{in_name};
 ghost use Rattle.file_form.specs.Lines.{lines_of, fields_of};
@@ -15,15 +14,8 @@ pub(crate) fn in_name(byte: u8) -> bool
     byte.is_ascii_alphanumeric() || byte == b'_'
 }
 
-// Whether two texts are the same, byte for byte.
-// Kept: no plainer, `==` compares no slice with a literal's array: each caller would need `as_slice` and the same lemma.
-pub(crate) fn same_text(a: &[u8], b: &[u8]) -> bool
-    ensures { result ≡ same_text a.now b.now }
-{
-    a == b
-}
-
 // The length of a text's first part: the place of the first separator, or the text's length where there is none.
+// Kept: no plainer, a last part ends where the text ends, and both callers want its length; where a line has to be ended, `first_line` answers an Option.
 fn part_length(text: &[u8], separator: u8) -> usize
     ensures { result ≡ part_length separator text.now }
 {
@@ -43,17 +35,18 @@ pub(crate) fn separators(text: &[u8], separator: u8) -> usize
 fn rest_from(text: &[u8], at: usize) -> &[u8]
     ensures { result.now ≡ drop at text.now }
 {
-    // Kept: no plainer, `get` with an empty slice for none says the same in more words.
-    &text[at.min(text.len())..]
+    text.get(at..).unwrap_or(&[])
 }
 
 // The first part of a text.
+// Kept: no plainer, `part_length` is needed for what stands behind a part; `split(..).next()` would be a second way to find the same place, and end in an Option that is never none.
 pub(crate) fn first_part(text: &[u8], separator: u8) -> &[u8]
     ensures { result.now ≡ first_part separator text.now }
 {
     &text[..part_length(text, separator)]
 }
 
+// Kept: no plainer, as `first_part`: what stands behind it begins one place behind its length.
 // What stands behind the first separator of a text: nothing where there is none.
 pub(crate) fn behind_part(text: &[u8], separator: u8) -> &[u8]
     ensures { result.now ≡ behind_part separator text.now }
@@ -61,6 +54,7 @@ pub(crate) fn behind_part(text: &[u8], separator: u8) -> &[u8]
     rest_from(text, part_length(text, separator) + 1)
 }
 
+// Kept: no plainer, the length of the first part tells whether a line feed ends it; with `position(..)?` here the place would be sought beside `part_length`.
 // The first line of a text and what stands behind its line feed, if it has one.
 pub(crate) fn first_line(text: &[u8]) -> Option<(&[u8], &[u8])>
     ensures { FirstLine text.now result }
@@ -84,9 +78,7 @@ pub(crate) fn behind_lines(text: &[u8], count: usize) -> &[u8]
     requires { count < length (lines_of text.now) }
     ensures { lines_of result.now ≡ drop count (lines_of text.now) }
 {
-    let mut rest = text;
-    for _ in 0..count {
-        rest = behind_part(rest, LINE_FEED);
-    }
-    rest
+    text.splitn(count + 1, |byte| *byte == LINE_FEED)
+        .nth(count)
+        .unwrap_or(&[])
 }

@@ -1,12 +1,12 @@
 // The header of a file: line 1, and the `V` line.
 ghost use Rattle.std.specs.Prelude.{◌≡◌, true, ◌+◌};
 ghost use Rattle.file_form.specs.Lines.{lines_of, fields_of};
-ghost use Rattle.file_form.specs.Header.{is_kind, kind_said, most_fields, first_form, header_in, header_lines, ask_first_line, ask_header};
+ghost use Rattle.file_form.specs.Header.{is_kind, kind_said, order_word, most_fields, first_form, header_in, header_lines, ask_first_line, ask_header};
 ghost use Rattle.matrix_file.specs.Report.{read_says};
 ghost use Rattle.matrix_file.specs.Walk.{read_as, first_said, order_asked, with_value};
 
 use crate::answer::{Refused, on_line};
-use crate::bytes::{behind_part, field, first_line, same_text, separators};
+use crate::bytes::{behind_part, field, first_line, separators};
 use crate::numbers::number;
 use crate::optional::optional_there;
 use crate::weights::{LETTER, ask_weights};
@@ -24,21 +24,25 @@ pub(crate) fn header_lines(header: Header) -> usize
 }
 
 // The kind that a word says, if it is one of the two with which line 1 begins.
-// Kept: unproved, an arm of a `match` on byte strings tells a proof the length of the word, and under no lasting name its bytes.
+// Kept: no plainer, `file_form` holds definitions and no function, so that a wrong one is refused in seconds; a `TryFrom` for `Kind` would be its first.
 fn kind(word: &[u8]) -> Option<Kind>
     ensures { result ≡ read_as is_kind kind_said word.now }
 {
-    if same_text(word, b"F") {
-        return Some(Kind::Own);
+    match word {
+        b"F" => Some(Kind::Own),
+        b"W" => Some(Kind::Wagner),
+        _ => None,
     }
-    if same_text(word, b"W") {
-        return Some(Kind::Wagner);
-    }
-    None
 }
 
+// The field of line 1 that has the word for the order, if there is one.
+const ORDER: usize = 3;
+
+// How many tabs line 1 has at least.
+const LEAST_TABS: usize = 2;
+
 // How many tabs line 1 of a kind has at most.
-// Kept: no plainer, as a method of `Kind` it would be public in another crate for this crate alone.
+// Kept: no plainer, `file_form` holds definitions and no function, so that a wrong one is refused in seconds; a method of `Kind` would be its first.
 fn most_tabs(kind: Kind) -> usize
     ensures { result + 1 ≡ most_fields kind }
 {
@@ -53,11 +57,7 @@ fn first_said(line: &[u8]) -> Option<(Kind, usize, usize)>
     ensures { result ≡ read_as first_form first_said (fields_of line.now) }
 {
     let kind = kind(field(line, 0))?;
-    let tabs = separators(line, TAB);
-    if tabs < 2 {
-        return None;
-    }
-    if most_tabs(kind) < tabs {
+    if !(LEAST_TABS..=most_tabs(kind)).contains(&separators(line, TAB)) {
         return None;
     }
     let n = number(field(line, 1))?;
@@ -65,23 +65,30 @@ fn first_said(line: &[u8]) -> Option<(Kind, usize, usize)>
     Some((kind, n, m))
 }
 
+// The order of placing that a word says, if it is one of the two for it.
+// Kept: no plainer, as `TryFrom` of bytes it would stand in branching, beside `Order`, which knows no words of a file.
+fn order(word: &[u8]) -> Option<Order>
+    ensures { result ≡ order_word word.now }
+{
+    match word {
+        b"advance" => Some(Order::Advance),
+        b"closest" => Some(Order::Closest),
+        _ => None,
+    }
+}
+
 // The word for the order that a line 1 of the right form carries in a fourth field, if it has one: is it such a word?
-// Kept: unproved, an arm of a `match` on byte strings tells a proof the length of the word, and under no lasting name its bytes.
 fn order_in(line: &[u8]) -> Result<Option<Order>, Refusal>
     requires { first_form (fields_of line.now) ≡ true }
     ensures { result ≡ order_asked (fields_of line.now) }
 {
-    if separators(line, TAB) < 3 {
+    if separators(line, TAB) < ORDER {
         return Ok(None);
     }
-    let word = field(line, 3);
-    if same_text(word, b"advance") {
-        return Ok(Some(Order::Advance));
-    }
-    if same_text(word, b"closest") {
-        return Ok(Some(Order::Closest));
-    }
-    Err(Refusal::UnknownOrder)
+    let Some(order) = order(field(line, ORDER)) else {
+        return Err(Refusal::UnknownOrder);
+    };
+    Ok(Some(order))
 }
 
 // The questions put to line 1 of a file: is it ended by a line feed, and has it the right form? Is a fourth field a word for the order?

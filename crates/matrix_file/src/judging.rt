@@ -1,4 +1,6 @@
 // The questions put to a file, in order.
+// Kept: no plainer, five functions of the crate ask for at most 64 taxa: as a ghost field of `Header` the definition `header_in`, which makes one of any lines, would owe it.
+// Kept: no plainer, a rest of the text goes on from call to call, and the number of its first line is wanted by those that refuse a line.
 ghost use Rattle.std.specs.Prelude.{◌≡◌, ◌≤◌, ◌<◌, length, [], ◌∷◌, not, drop};
 ghost use Rattle.matrix.specs.Shape.{most_taxa};
 ghost use Rattle.matrix.specs.Outcomes.{ask};
@@ -17,6 +19,7 @@ use crate::header::{ask_header, header_lines};
 use crate::numbers::code;
 use file_form::header::Header;
 use file_form::{MOST_BYTES, NAME_SIZE, TAB};
+use filled::Filled;
 use matrix::MOST_TAXA;
 use matrix::questions::in_range;
 use matrix::refusal::Refusal;
@@ -82,13 +85,12 @@ fn ask_row(line: &[u8], header: Header, earlier: &[&[u8]]) -> Result<(), Refusal
 
 // For each row in turn: is there another line, ended by a line feed? Its own questions. Row 1 stands in line `first`. What stands behind
 // the last row.
-// Kept: no plainer, the definitions read a header without a question, so a ghost field of `Header` would be owed where it does not hold.
+// Kept: no plainer, `split_inclusive` would hand out lines with their line feed, but not what stands behind the last of them.
 fn ask_rows(rows: &[u8], header: Header, first: usize) -> Result<&[u8], Refused>
     requires { (header.n ≤ most_taxa) × (first ≤ most_taxa) }
     ensures { RowsAsked rows.now header first (left_of result) }
 {
-    // Kept: interface, a list that grows needs a heap, and the project has none: room for every name, of which `done` are set.
-    let mut names: [&[u8]; MOST_TAXA] = [&[]; MOST_TAXA];
+    let mut names = Filled::<&[u8], MOST_TAXA>::none(&[]);
     let mut rest = rows;
     for done in 0..header.n {
         let Some((line, behind)) = first_line(rest) else {
@@ -97,8 +99,8 @@ fn ask_rows(rows: &[u8], header: Header, first: usize) -> Result<&[u8], Refused>
                 line: first + done,
             });
         };
-        on_line(first + done, ask_row(line, header, &names[..done]))?;
-        names[done] = first_part(line, TAB);
+        on_line(first + done, ask_row(line, header, names.as_slice()))?;
+        names.push(first_part(line, TAB));
         rest = behind;
     }
     Ok(rest)

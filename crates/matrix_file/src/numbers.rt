@@ -6,7 +6,10 @@ ghost use Rattle.matrix_file.specs.Walk.{read_as};
 // A number has at most six digits.
 const MOST_DIGITS: usize = 6;
 
-// Whether a text has the form of the numbers n and m.
+// Each digit stands for ten times as much as the one behind it.
+const BASE: usize = 10;
+
+// Whether a text has the form of a number: of n and m, of the nodes of a `C` line, and of the size of a code.
 fn number_form(text: &[u8]) -> bool
     ensures { result ≡ number_form text.now }
 {
@@ -20,15 +23,15 @@ fn number_form(text: &[u8]) -> bool
 }
 
 // The number that digits say.
+// Kept: no plainer, std's `parse` takes a text of UTF-8 and also `+7` and `007`, so the form is asked apart in any case, and nothing of its error is wanted.
 fn number_of(digits: &[u8]) -> usize
     requires { number_form digits.now ≡ true }
     ensures { NumberSaid digits.now result }
 {
-    let mut number = 0;
-    for digit in digits {
-        number = number * 10 + (*digit - b'0') as usize;
-    }
-    number
+    digits.iter().fold(0, |number: usize, digit| {
+        let last = usize::from(digit.saturating_sub(b'0'));
+        number.saturating_mul(BASE).saturating_add(last)
+    })
 }
 
 // The number that a text says, if it has the form of one.

@@ -16,17 +16,13 @@ use branching::numbers::LENT_NUMBERS;
 use file_form::header::Header;
 use file_form::{LINE_FEED, NAMES_SIZE};
 use matrix::refusal::Refusal;
-use matrix::{COLUMNS, ROWS};
+use matrix::{COLUMNS, MATRIX_SIZE};
 
-// Whether four lists have their full size, by their lengths.
-fn full_size(matrix: usize, weights: usize, names: usize, branches: usize) -> bool
-    ensures { result ≡ full_size matrix weights names branches }
-{
-    (matrix, weights, names, branches) == (ROWS * COLUMNS, COLUMNS, NAMES_SIZE, LENT_NUMBERS)
-}
+// The lengths of the matrix, the weights, the names and the branches that are lent.
+const FULL_SIZES: [usize; 4] = [MATRIX_SIZE, COLUMNS, NAMES_SIZE, LENT_NUMBERS];
 
 // Writes what an accepted file says, which has this header, into lists of full size.
-// Kept: no plainer, each of the four lists is written by a call of its own.
+// Kept: no plainer, each promise of a struct of lists to be written would have to say that it lends the same ones still, as `Puts` does of a listing.
 fn write_job(
     file: &[u8],
     header: Header,
@@ -52,7 +48,7 @@ fn write_job(
 
 // Reads a file: an accepted one is written into the matrix, the weights, the names and the branches; a refused one leaves the four as they
 // were.
-// Kept: interface, the call that is handed on to C takes the four lists one by one.
+// Kept: no plainer, each promise of a struct of lists to be written would have to say that it lends the same ones still, as `Puts` does of a listing.
 pub fn read(
     file: &[u8],
     matrix: &mut [i32],
@@ -64,7 +60,7 @@ pub fn read(
         (lent matrix.old weights.old names.old branches.old)
         (lent matrix.new weights.new names.new branches.new) result }
 {
-    if !full_size(matrix.len(), weights.len(), names.len(), branches.len()) {
+    if [matrix.len(), weights.len(), names.len(), branches.len()] != FULL_SIZES {
         return Err(Refused {
             refusal: Refusal::ListSize,
             line: 0,

@@ -68,7 +68,7 @@ pub(crate) fn write_weights(weights: &mut [u8], text: &[u8], header: Header)
         return;
     }
     let line = first_part(text, LINE_FEED);
-    // Kept: unproved, after `iter_mut` a proof knows how long the list is, and none of its elements.
+    // Kept: unproved, as `write_codes` in `writing`, with `weights.iter_mut()`.
     for (j, field) in line.split(|byte| *byte == TAB).skip(1).enumerate() {
         weights[j] = weight(field).unwrap_or(LIGHTEST);
     }

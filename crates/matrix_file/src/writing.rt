@@ -11,7 +11,7 @@ ghost use Rattle.file_form.specs.Formed.{RowsFormed};
 ghost use Rattle.matrix_file.specs.Walk.{padded_in};
 ghost use Rattle.file_form.specs.Written.{padded};
 
-use crate::bytes::{behind_part, first_part};
+use crate::bytes::first_part;
 use crate::numbers::code;
 use file_form::{LINE_FEED, NAME_SIZE, TAB};
 use matrix::COLUMNS;
@@ -22,7 +22,7 @@ fn write_codes(out: &mut [i32], line: &[u8])
     requires room { length (drop 1 (fields_of line.now)) ≤ length out.old }
     ensures { out.new ≡ over 0 (codes_in line.now) out.old }
 {
-    // Kept: unproved, after `iter_mut` a proof knows how long the list is, and none of its elements.
+    // Kept: unproved, tried was `out.iter_mut().zip(..)`: behind it the check knows the list's length, and its elements stayed open; `enumerate` would look up each field anew.
     for (j, field) in line.split(|byte| *byte == TAB).skip(1).enumerate() {
         out[j] = code(field).unwrap_or(0);
     }
@@ -43,11 +43,9 @@ pub(crate) fn write_matrix(matrix: &mut [i32], rows: &[u8], n: usize)
     requires { (n * columns ≤ length matrix.old) × RowsFormed n rows.now }
     ensures { matrix.new ≡ stripes columns 0 (map codes_in (take n (lines_of rows.now))) matrix.old }
 {
-    let mut rest = rows;
-    for row in 0..n {
-        // Kept: unproved, after `chunks_mut` a proof knows how long the list is, and none of its elements.
-        write_codes(&mut matrix[row * COLUMNS..], first_part(rest, LINE_FEED));
-        rest = behind_part(rest, LINE_FEED);
+    for (i, line) in rows.split(|byte| *byte == LINE_FEED).take(n).enumerate() {
+        // Kept: unproved, tried was `matrix.chunks_mut(COLUMNS).zip(..)`: behind it the check knows the list's length, and its elements stayed open.
+        write_codes(&mut matrix[i * COLUMNS..], line);
     }
 }
 
@@ -56,11 +54,8 @@ pub(crate) fn write_names(names: &mut [u8], rows: &[u8], n: usize)
     requires { (n * name_size ≤ length names.old) × RowsFormed n rows.now }
     ensures { names.new ≡ stripes name_size 0 (map padded_in (take n (lines_of rows.now))) names.old }
 {
-    let mut rest = rows;
-    for row in 0..n {
-        let name = first_part(first_part(rest, LINE_FEED), TAB);
-        // Kept: unproved, after `chunks_mut` a proof knows how long the list is, and none of its elements.
-        write_name(&mut names[row * NAME_SIZE..], name);
-        rest = behind_part(rest, LINE_FEED);
+    for (i, line) in rows.split(|byte| *byte == LINE_FEED).take(n).enumerate() {
+        // Kept: unproved, as `write_matrix`, with `names.chunks_mut(NAME_SIZE)`.
+        write_name(&mut names[i * NAME_SIZE..], first_part(line, TAB));
     }
 }

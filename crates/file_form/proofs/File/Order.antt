@@ -1,13 +1,13 @@
 -- The word for the order of placing: a field that passes its question is what is written for the word that it says; the field of each word
 -- passes and says it; and the tests that find the word.
 use mathlib.Core.Path.{◌≡◌, refl, sym, ap, ◌∙◌, subst⁻¹}
-use mathlib.Core.Bool.{true, false, ◌||◌, and-true}
+use mathlib.Core.Bool.{Bool, true, false, cond, ◌||◌, and-true}
 use mathlib.Core.List.{List, [], ◌∷◌}
 use Prim.Native.Nat.{ℕ, ◌+◌, ◌≤◌, ◌<◌}
 use native.Mathlib.Omega.{arith}
 use lib.ListN.{length, get_or, drop, drop_of_length-le}
 use lib.Seq.{drop-cons}
-use Rattle.std.specs.Prelude.{Option, None, Some}
+use Rattle.std.specs.Prelude.{Option, None, Some, is_some}
 use Rattle.lists.specs.Tests.{every, same_numbers as same_text}
 use Rattle.lists.proofs.Both.{or_cases}
 use Rattle.lists.proofs.Every.{every-head, same_numbers_iff}
@@ -15,7 +15,7 @@ use Rattle.branching.specs.declared.order.Order.{Order}
 use Rattle.branching.specs.declared.order.Order.TheVariants.{Advance, Closest}
 use Rattle.file_form.specs.Bytes.{word_advance, word_closest}
 use Rattle.file_form.specs.Job.{order_fields}
-use Rattle.file_form.specs.Header.{order_said, order_in, is_order, order_known}
+use Rattle.file_form.specs.Header.{order_word, order_said, order_in, is_order, order_known}
 use Rattle.file_form.proofs.Text.Plain.{plain}
 
 -- a word that passes is what is written for the order that it says
@@ -85,17 +85,20 @@ module _ (fields : List (List ℕ)) (count : ℕ) (e : count + 1 ≡ length fiel
     fourth : drop 3 fields ≡ word ∷ drop 4 fields
     fourth = drop-cons fields 3 [] (omega arith) ∙ ap (λ x. x ∷ drop 4 fields) (sym w)
 
-    -- where no fifth follows, the two words decide
-    pub fourth_known : length fields ≤ 4 → order_known fields ≡ same_text word word_advance || same_text word word_closest
+    -- what it says is what is said
+    pub fourth_said : order_word word ≡ order_in fields
+    unfolding order_in
+    fourth_said = sym (ap order_said fourth)
+
+    -- and where no fifth follows, it decides whether a word is known
+    pub fourth_known : length fields ≤ 4 → order_known fields ≡ is_some (order_word word)
     unfolding order_known is_order every
-    fourth_known few = ap (every is_order) (fourth ∙ ap (◌∷◌ word) (drop_of_length-le fields few)) ∙ and-true (is_order word)
-
-    -- it is `advance`
-    pub advance_said : same_text word word_advance ≡ true → Some Advance ≡ order_in fields
-    unfolding order_in
-    advance_said a = sym (ap order_said fourth ∙ rw a)
-
-    -- it is `closest`
-    pub closest_said : same_text word word_advance ≡ false → same_text word word_closest ≡ true → Some Closest ≡ order_in fields
-    unfolding order_in
-    closest_said a c = sym (ap order_said fourth ∙ rw (a, c))
+    fourth_known few =
+        ap (every is_order) (fourth ∙ ap (◌∷◌ word) (drop_of_length-le fields few))
+        ∙ and-true (is_order word)
+        ∙ by (same_text word word_advance) (same_text word word_closest)
+      where
+        by : (a c : Bool) → a || c ≡ is_some (cond a (Some Advance) (cond c (Some Closest) None))
+        by true c = refl
+        by false true = refl
+        by false false = refl

@@ -1,19 +1,20 @@
--- The form of a number, test by test, and what a loop over its digits knows.
-use mathlib.Core.Path.{◌≡◌, sym, ap, ap₂, ◌∙◌}
+-- The form of a number, test by test, and the number that a fold over its digits says.
+use mathlib.Core.Path.{◌≡◌, refl, sym, ap, ap₂, ◌∙◌}
 use mathlib.Core.Bool.{Bool, true, false, not, ◌&&◌}
-use mathlib.Core.List.{List}
-use Prim.Native.Nat.{ℕ, ◌+◌, ◌-◌, ◌*◌, ◌^◌, ◌≤◌, ◌<◌}
+use mathlib.Core.List.{List, [], ◌∷◌}
+use Prim.Native.Nat.{ℕ, ◌+◌, ◌-◌, ◌*◌, ◌^◌, ◌≤◌, ◌<◌, min}
 use native.Mathlib.Omega.{arith}
 use borrow.Author.Tests.{eq-eqb, leb-true}
 use lib.Dec.{leb, eqb}
-use lib.ListN.{length, get_or, drop, drop_of_length-le}
+use lib.ListN.{length, get_or}
 use Rattle.std.specs.Char.{is_ascii_digit}
-use Rattle.std.specs.List.{list_all}
+use Rattle.std.specs.List.{list_all, fold}
 use Rattle.file_form.specs.Decimal.{number_form, number_of, number_from, no_leading_zero, zero_digit, NumberSaid}
-use Rattle.file_form.proofs.Decimal.Digits.{form_short, form_digits, digit_low, leading_one, leading_more}
-use Rattle.file_form.proofs.Decimal.Digits.{digit_high, number_more_small, number_small, number_at}
+use Rattle.file_form.proofs.Decimal.Digits.{form_short, form_digits, leading_one, leading_more}
+use Rattle.file_form.proofs.Decimal.Digits.{digit_high, number_more_small, number_small}
 use Rattle.lists.proofs.Both.{and_left}
-use Rattle.lists.proofs.Every.{every_at}
+use Rattle.lists.specs.Tests.{every}
+use Rattle.lists.proofs.Every.{every-head, every-tail}
 use Rattle.file_form.specs.Bytes.{is_digit}
 use Rattle.file_form.proofs.Text.Slices.{every_all}
 
@@ -53,37 +54,26 @@ module _ (text : List ℕ) (some : Bool) (s : some ≡ leb 1 (length text) && le
           let long : 1 ≤ length text = leb-true 1 (length text) (and_left (leb 1 (length text)) (leb (length text) 6) (sym s ∙ yes)) in
           sym (first_decides ∙ leading_more text long e)
 
--- what a loop over digits knows at place i: the digits passed say `number`
-abbrev pub DigitsPassed : List ℕ → ℕ → ℕ → Type 0
-DigitsPassed text number i = (i ≤ length text) × (number < 10 ^ i) × (number_from 0 text ≡ number_from number (drop i text))
+-- a digit behind a number, as a fold takes it: no number of a file comes near the bound
+abbrev pub with_digit : ℕ → ℕ → ℕ
+with_digit number digit = min (min (number * 10) (2 ^ 64 - 1) + (digit - zero_digit)) (2 ^ 64 - 1)
 
--- the byte at i is a digit
-pub digit_at : (text : List ℕ) (i : ℕ) → number_form text ≡ true → i < length text → (zero_digit ≤ get_or text i 0) × (get_or text i 0 ≤ 57)
-digit_at text i form h =
-    let digit = every_at is_digit text (form_digits text form) i 0 h in
-    (digit_low (get_or text i 0) digit, digit_high (get_or text i 0) digit)
+-- digits behind a number of i digits, six together at most
+digits_folded : (digits : List ℕ) (number i : ℕ) → every is_digit digits ≡ true → number < 10 ^ i → i + length digits ≤ 6
+    → (fold with_digit number digits ≡ number_from number digits) × (number_from number digits < 1000000)
+unfolding number_from
+digits_folded [] number i form h few = (refl, number_small number i h (omega arith))
+digits_folded (digit ∷ digits) number i form h few =
+    let small : number < 1000000 = number_small number i h (omega arith) in
+    let high : digit ≤ 57 = digit_high digit (every-head is_digit digit digits form) in
+    let same : with_digit number digit ≡ number * 10 + (digit - zero_digit) = omega arith in
+    let behind = digits_folded digits (number * 10 + (digit - zero_digit)) (i + 1) (every-tail is_digit digit digits form)
+    (number_more_small number digit i h high) (omega arith) in
+    (ap (λ k. fold with_digit k digits) same ∙ behind.0, behind.1)
 
--- the number so far is below a million
-pub still_small : (text : List ℕ) (number i : ℕ) → number_form text ≡ true → DigitsPassed text number i → i < length text → number < 1000000
-still_small text number i form inv h = number_small number i inv.1 (omega (arith, form_short text form))
-
--- one digit more
-pub one_more : (text : List ℕ) (number i digit : ℕ) → number_form text ≡ true → DigitsPassed text number i → i < length text
-    → digit ≡ get_or text i 0
-    → DigitsPassed text (number * 10 + (digit - zero_digit)) (i + 1)
-one_more text number i digit form inv h e =
-    let high = (digit_at text i form h).1 in (
-      omega arith,
-      number_more_small number digit i inv.1 (omega arith),
-      inv.2 ∙ number_at number text i h ∙ ap (λ d. number_from (number * 10 + (d - zero_digit)) (drop (i + 1) text)) (sym e),
-    )
-
--- all digits passed
-pub all_said : (text : List ℕ) (number i : ℕ) → number_form text ≡ true → DigitsPassed text number i → length text ≤ i
-    → NumberSaid text number
-unfolding number_of number_from
-all_said text number i form inv h =
-    record {
-      is = sym (inv.2 ∙ ap (number_from number) (drop_of_length-le text h));
-      small = number_small number i inv.1 (omega (arith, form_short text form));
-    }
+-- the digits of a text of the form of a number
+pub all_said : (text : List ℕ) (number : ℕ) → number_form text ≡ true → number ≡ fold with_digit 0 text → NumberSaid text number
+unfolding number_of
+all_said text number form e =
+    let told = digits_folded text 0 0 (form_digits text form) (omega arith) (omega (arith, form_short text form)) in
+    record { is = e ∙ told.0; small = omega (arith, e, told.0, told.1) }

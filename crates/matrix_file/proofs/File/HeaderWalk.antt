@@ -1,13 +1,17 @@
 -- The header of a file, as it is read and asked.
 use mathlib.Core.Path.{◌≡◌, refl, sym, ap, ap₂, ◌∙◌}
 use mathlib.Core.List.{List, [], ◌∷◌}
-use mathlib.Core.Bool.{Bool, true, false, ◌||◌, cond}
-use Prim.Native.Nat.{ℕ, ◌+◌, ◌≤◌, ◌<◌}
+use mathlib.Core.Bool.{Bool, true, false, false≢true, ◌&&◌, ◌||◌}
+use mathlib.Core.Logic.{by_cases}
+use native.Mathlib.Decide.{dec_le}
+use Prim.Native.Nat.{ℕ, ◌+◌, ◌≤◌}
 use native.Mathlib.Omega.{arith}
+use borrow.Author.Tests.{le-leb, leb-true}
+use lib.Dec.{leb}
 use lib.ListN.{length, get_or}
 use Rattle.std.specs.Prelude.{Option, None, Some, Result, Ok, Err}
 use Rattle.lists.specs.Tests.{same_numbers as same_text}
-use Rattle.lists.proofs.Both.{or_right}
+use Rattle.lists.proofs.Both.{and_left, and_right, and_both}
 use Rattle.matrix.specs.Outcomes.{ask}
 use Rattle.matrix.specs.Questions.{within_limits}
 use Rattle.matrix.specs.declared.refusal.Refusal.{Refusal}
@@ -16,36 +20,50 @@ use Rattle.file_form.specs.declared.header.Header.{Header}
 use Rattle.file_form.specs.declared.header.Kind.{Kind}
 use Rattle.file_form.specs.declared.header.Kind.TheVariants.{Wagner, Own}
 use Rattle.branching.specs.declared.order.Order.{Order}
-use Rattle.file_form.specs.Bytes.{line_feed, word_w, word_f}
+use Rattle.branching.specs.declared.order.Order.TheVariants.{Advance, Closest}
+use Rattle.file_form.specs.Bytes.{line_feed, word_w, word_f, word_advance, word_closest}
 use Rattle.file_form.specs.Decimal.{number_form, number_of}
 use Rattle.file_form.specs.Lines.{lines_of, fields_of}
-use Rattle.file_form.specs.Header.{is_kind, kind_said, most_fields, first_form, first_line_form, order_known, order_in, header_from, header_in}
+use Rattle.file_form.specs.Header.{is_kind, kind_said, order_word, most_fields, first_form, first_line_form, order_known, order_in, header_from, header_in}
 use Rattle.file_form.specs.Header.{ask_first_line}
 use Rattle.file_form.specs.Optional.{optional_there}
 use Rattle.file_form.specs.Weights.{letter_v}
 use Rattle.file_form.proofs.File.FirstForm.{too_few, too_many, no_kind, no_taxa, no_characters, all_right}
 use Rattle.file_form.proofs.Text.Parts.{parts_some}
 use Rattle.matrix_file.specs.Walk.{read_as, first_said, with_value, order_asked}
+use Rattle.matrix_file.proofs.Words.{other_text}
 use Rattle.matrix_file.proofs.ReadAs.{read_formed, read_formless, formed_read, formless_read}
 
--- the kind that a word says, by two tests
+-- a word, and what it says
 module _ (word : List ℕ) where
   -- `F`
-  pub own_said : same_text word word_f ≡ true → Some Own ≡ read_as is_kind kind_said word
-  unfolding is_kind kind_said
-  own_said e =
-      read_formed is_kind kind_said word Own (or_right (same_text word word_w) (same_text word word_f) e) (sym (ap (λ b. cond b Own Wagner) e))
+  pub own_said : word ≡ word_f → Some Own ≡ read_as is_kind kind_said word
+  unfolding is_kind kind_said same_text
+  own_said e = sym (ap (read_as is_kind kind_said) e)
 
   -- `W`
-  pub wagner_said : same_text word word_f ≡ false → same_text word word_w ≡ true → Some Wagner ≡ read_as is_kind kind_said word
-  unfolding is_kind kind_said
-  wagner_said f w =
-      read_formed is_kind kind_said word Wagner (ap (λ b. b || same_text word word_f) w) (sym (ap (λ b. cond b Own Wagner) f))
+  pub wagner_said : word ≡ word_w → Some Wagner ≡ read_as is_kind kind_said word
+  unfolding is_kind kind_said same_text
+  wagner_said e = sym (ap (read_as is_kind kind_said) e)
 
-  -- another word
-  pub neither_said : same_text word word_f ≡ false → same_text word word_w ≡ false → None ≡ read_as is_kind kind_said word
+  -- another word says no kind
+  pub no_kind_said : (word ≡ word_f → ⊥) → (word ≡ word_w → ⊥) → None ≡ read_as is_kind kind_said word
   unfolding is_kind
-  neither_said f w = read_formless is_kind kind_said word (ap₂ ◌||◌ w f)
+  no_kind_said f w = read_formless is_kind kind_said word (ap₂ ◌||◌ (other_text word word_w w) (other_text word word_f f))
+
+  -- `advance`
+  pub advance_said : word ≡ word_advance → Some Advance ≡ order_word word
+  unfolding same_text
+  advance_said e = sym (ap order_word e)
+
+  -- `closest`
+  pub closest_said : word ≡ word_closest → Some Closest ≡ order_word word
+  unfolding same_text
+  closest_said e = sym (ap order_word e)
+
+  -- another word says no order
+  pub no_order_said : (word ≡ word_advance → ⊥) → (word ≡ word_closest → ⊥) → None ≡ order_word word
+  no_order_said a c = sym (rw (other_text word word_advance a, other_text word word_closest c))
 
 -- the fields of line 1, and the first of them
 module _ (fields : List (List ℕ)) (word : List ℕ) (w : word ≡ get_or fields 0 []) where
@@ -60,15 +78,17 @@ module _ (fields : List (List ℕ)) (word : List ℕ) (w : word ≡ get_or field
     kind_is : kind ≡ kind_said (get_or fields 0 [])
     kind_is = (formed_read is_kind kind_said word kind k).1 ∙ ap kind_said w
 
-    -- too few fields
-    pub few : (count : ℕ) → count + 1 ≡ length fields → count < 2 → None ≡ read_as first_form first_said fields
-    few count e h = read_formless first_form first_said fields (too_few fields (omega arith))
-
-    -- too many
-    pub many : (count most : ℕ) → count + 1 ≡ length fields → most + 1 ≡ most_fields kind → most < count
-        → None ≡ read_as first_form first_said fields
-    many count most e m h =
-        read_formless first_form first_said fields (too_many fields (omega (arith, e, m, ap most_fields kind_is)))
+    -- too few fields, or too many
+    pub no_count : (count most : ℕ) → count + 1 ≡ length fields → most + 1 ≡ most_fields kind → (within : Bool)
+        → within ≡ leb 2 count && leb count most → within ≡ false → None ≡ read_as first_form first_said fields
+    no_count count most e m within d h =
+        read_formless first_form first_said fields
+        (by_cases (dec_le 2 count)
+        (λ some.
+        by_cases (dec_le count most)
+        (λ low. absurd (false≢true (sym h ∙ d ∙ and_both (le-leb 2 count some) (le-leb count most low))))
+        (λ high. too_many fields (omega (arith, e, m, high, ap most_fields kind_is))))
+        (λ few. too_few fields (omega (arith, e, few))))
 
     -- the second is no number
     pub taxa_none : (field : List ℕ) → field ≡ get_or fields 1 [] → None ≡ read_as number_form number_of field
@@ -85,11 +105,13 @@ module _ (fields : List (List ℕ)) (word : List ℕ) (w : word ≡ get_or field
         (no_characters fields (ap number_form (sym f) ∙ formless_read number_form number_of field e))
 
     -- all are right
-    pub all_said : (count most : ℕ) → count + 1 ≡ length fields → most + 1 ≡ most_fields kind → 2 ≤ count → count ≤ most
-        → (second third : List ℕ) → second ≡ get_or fields 1 [] → third ≡ get_or fields 2 [] → (n m : ℕ)
+    pub all_said : (count most : ℕ) → count + 1 ≡ length fields → most + 1 ≡ most_fields kind → (within : Bool)
+        → within ≡ leb 2 count && leb count most → within ≡ true → (second third : List ℕ) → second ≡ get_or fields 1 [] → third ≡ get_or fields 2 [] → (n m : ℕ)
         → Some n ≡ read_as number_form number_of second → Some m ≡ read_as number_form number_of third
         → Some (kind, n, m) ≡ read_as first_form first_said fields
-    all_said count most e q low high second third s t n m a b =
+    all_said count most e q within d h second third s t n m a b =
+        let low : 2 ≤ count = leb-true 2 count (and_left (leb 2 count) (leb count most) (sym d ∙ h)) in
+        let high : count ≤ most = leb-true count most (and_right (leb 2 count) (leb count most) (sym d ∙ h)) in
         let taxa = formed_read number_form number_of second n a in
         let characters = formed_read number_form number_of third m b in
         read_formed first_form first_said fields (kind, n, m)

@@ -1,9 +1,8 @@
 -- The codes of a row, written field by field.
 use mathlib.Core.Path.{◌≡◌, refl, sym, ap, ap₂, ◌∙◌}
 use mathlib.Core.Bool.{true}
-use mathlib.Core.List.{List, [], ◌∷◌, map}
-use Prim.Native.Nat.{ℕ, zero, suc, ◌+◌, ◌<◌}
-use native.Mathlib.Nat.{zero-add}
+use mathlib.Core.List.{List, [], map}
+use Prim.Native.Nat.{ℕ, ◌+◌, ◌<◌}
 use native.Mathlib.Omega.{arith}
 use lib.IntN.{ℤ}
 use lib.ListN.{length, get_or, take, drop, set, length-map, get_or-map}
@@ -14,7 +13,8 @@ use lib.Dec.{eqb}
 use Rattle.file_form.specs.Bytes.{tab}
 use Rattle.file_form.proofs.Text.Slices.{parts_split}
 use Rattle.std.specs.List.{enumerate_from, slice_split}
-use Rattle.std.proofs.lemmas.List.FromFn.{length-enumerate_from, get_or-enumerate_from}
+use Rattle.std.proofs.lemmas.List.FromFn.{length-enumerate_from}
+use Rattle.matrix_file.proofs.Lists.LinesSplit.{part_turn}
 use Rattle.file_form.specs.Decimal.{code_form, code_of}
 use Rattle.file_form.specs.Lines.{fields_of}
 use Rattle.file_form.specs.Rows.{codes_in}
@@ -24,12 +24,6 @@ use Rattle.lists.proofs.Every.{every_at}
 use Rattle.matrix_file.specs.Walk.{read_as}
 use Rattle.matrix_file.proofs.ReadAs.{read_formed}
 use Rattle.matrix_file.proofs.Lists.WrittenLines.{over-next, over-all}
-
--- what stands at a place of a list does not depend on what stands behind its end
-get_or_any : {A : Type 0} (xs : List A) (i : ℕ) (d e : A) → i < length xs → get_or xs i d ≡ get_or xs i e
-get_or_any [] i d e h = absurd (omega arith)
-get_or_any (x ∷ xs) zero d e h = refl
-get_or_any (x ∷ xs) (suc i) d e h = get_or_any xs i d e (omega arith)
 
 -- the parts of a line behind the first one, as a loop goes over them
 abbrev parts : List ℕ → List (List ℕ)
@@ -45,11 +39,10 @@ pub field_turn : (line : List ℕ) (count : ℕ) (p : ℕ × List ℕ)
     → (count < length (enumerate_from 0 (parts line))) × (p ≡ get_or (enumerate_from 0 (parts line)) count p)
     → (p.0 ≡ count) × (count < length (drop 1 (fields_of line))) × (p.1 ≡ get_or (drop 1 (fields_of line)) count [])
 field_turn line count p turn =
-    let below : count < length (parts line) = omega (arith, turn.0, length-enumerate_from 0 (parts line)) in
-    let same : p ≡ (0 + count, get_or (parts line) count p.1) = turn.1 ∙ get_or-enumerate_from 0 (parts line) count p below in (
-      ap (λ q. q.0) same ∙ zero-add count,
-      omega (arith, below, ap length (parts_fields line)),
-      ap (λ q. q.1) same ∙ get_or_any (parts line) count p.1 [] below ∙ ap (λ all. get_or all count []) (parts_fields line),
+    let told = part_turn (parts line) count p turn in (
+      told.0,
+      omega (arith, told.1, ap length (parts_fields line)),
+      told.2 ∙ ap (λ all. get_or all count []) (parts_fields line),
     )
 
 -- and when it ends, all of them have been passed

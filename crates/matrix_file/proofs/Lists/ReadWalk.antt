@@ -1,7 +1,7 @@
 -- A read into lent lists, step by step: lists of wrong size, a refused file, and an accepted one that is written.
 use mathlib.Core.Path.{◌≡◌, refl, sym, ap, ap₂, ◌∙◌}
 use mathlib.Core.Logic.Iff
-use mathlib.Core.Bool.{Bool, true, false, ◌&&◌, ◌||◌, not}
+use mathlib.Core.Bool.{Bool, true, false, ◌&&◌, ◌||◌, not, and-true}
 use mathlib.Core.List.{List, map, map-map}
 use Prim.Native.Nat.{ℕ, ◌≤◌, ◌<◌}
 use native.Mathlib.Omega.{arith}
@@ -38,16 +38,18 @@ use Rattle.file_form.proofs.File.FileLength.{count_most}
 
 -- lent lists of full size, by their lengths
 module _ (matrix weights names branches : ℕ) where
-  -- the tests together are those one after another
-  pub in_turn : ((eqb matrix matrix_size && eqb weights columns) && eqb names names_size) && eqb branches lent_numbers
-      ≡ full_size matrix weights names branches
+  -- whether one has another length, as the lengths are compared together
+  pub sizes_told : (other : Bool)
+      → other ≡ not (eqb matrix matrix_size && (eqb weights columns && (eqb names names_size && (eqb branches lent_numbers && true))))
+      → full_size matrix weights names branches ≡ not other
   unfolding full_size
-  in_turn = by (eqb matrix matrix_size) (eqb weights columns) (eqb names names_size) (eqb branches lent_numbers)
+  sizes_told other e =
+      ap (λ last. eqb matrix matrix_size && (eqb weights columns && (eqb names names_size && last))) (sym (and-true (eqb branches lent_numbers)))
+      ∙ sym (ap not e ∙ twice _)
     where
-      by : (a b c d : Bool) → ((a && b) && c) && d ≡ a && (b && (c && d))
-      by true true c d = refl
-      by true false c d = refl
-      by false b c d = refl
+      twice : (b : Bool) → not (not b) ≡ b
+      twice true = refl
+      twice false = refl
 
   -- lists that have their sizes pass them
   pub full-lists : (matrix ≡ matrix_size) × (weights ≡ columns) × (names ≡ names_size) × (branches ≡ lent_numbers)

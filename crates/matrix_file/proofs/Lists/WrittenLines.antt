@@ -1,7 +1,7 @@
--- A walk over lines that writes an item for each, each at a fixed width behind the one before: the codes of a row, a name, or a branch
+-- A loop over lines that writes an item for each, each at a fixed width behind the one before: the codes of a row, a name, or a branch
 -- record. One law for all.
 use mathlib.Core.Path.{◌≡◌, refl, sym, ap, ap₂, ◌∙◌}
-use mathlib.Core.List.{List, map}
+use mathlib.Core.List.{List, [], map}
 use Prim.Native.Nat.{ℕ, ◌+◌, ◌-◌, ◌*◌, ◌≤◌, ◌<◌}
 use native.Mathlib.Nat.{zero-add, mul-le-mul_right}
 use native.Mathlib.Omega.{arith}
@@ -12,13 +12,14 @@ use Rattle.lists.specs.Over.{over, stripes}
 use Rattle.lists.proofs.Over.{over-lent, over-more}
 use Rattle.lists.proofs.Stripes.{length-stripes, stripes-snoc}
 use Rattle.matrix.specs.Shape.{columns}
-use Rattle.file_form.specs.Bytes.{tab, line_feed, first_part, behind_part}
+use Rattle.file_form.specs.Bytes.{tab, first_part}
 use Rattle.file_form.specs.Lines.{lines_of, fields_of}
 use Rattle.file_form.specs.Rows.{name_in}
 use Rattle.file_form.specs.Job.{name_size}
 use Rattle.file_form.proofs.File.FileLength.{name_length}
 use Rattle.file_form.proofs.Text.Fields.{name_first}
-use Rattle.matrix_file.proofs.Lists.LinesBehind.{RowFormed, line-more, walk_on}
+use Rattle.matrix_file.proofs.Lists.LinesBehind.{RowFormed}
+use Rattle.matrix_file.proofs.Lists.LinesSplit.{says_count, says_more}
 
 -- a list that is written over from its front, element by element
 module _ {A : Type 0} where
@@ -50,73 +51,63 @@ pub part_room : {A : Type 0} (start size : ℕ) (xs : List A) → start + size �
     → size ≤ length (take (length xs - start) (drop start xs))
 part_room start size xs h = omega (arith, length-take (length xs - start) (drop start xs), length-drop start xs)
 
--- what a walk that writes an item for each line knows when it has passed `done` lines and keeps the rest
+-- what a loop that writes an item for each line knows when it has passed `done` lines
 pub record ItemsWritten
     {A : Type 0}
     (width : ℕ)
     (says : List ℕ → List A)
-    (rows : List ℕ)
+    (text : List ℕ)
     (n : ℕ)
     (old new : List A)
-    (rest : List ℕ)
     (done : ℕ) : Type 0 where
-  pub walk : lines_of rest ≡ drop done (lines_of rows)
   pub full : length new ≡ length old
-  pub written : new ≡ stripes width 0 (take done (map says (take n (lines_of rows)))) old
+  pub written : new ≡ stripes width 0 (take done (map says (take n (lines_of text)))) old
 
-module _ {A : Type 0} (width : ℕ) (says : List ℕ → List A) (rows : List ℕ) (n : ℕ) (old : List A) where
+module _ {A : Type 0} (width : ℕ) (says : List ℕ → List A) (text : List ℕ) (n : ℕ) (old : List A) where
   -- at the start
-  pub items_start : ItemsWritten width says rows n old old rows 0
+  pub items_start : ItemsWritten width says text n old old 0
   unfolding stripes
-  items_start = record { walk = refl; full = refl; written = refl }
+  items_start = record { full = refl; written = refl }
 
-  -- the items passed are as many as the lines
-  items_count : n < length (lines_of rows) → (done : ℕ) → done ≤ n → length (take done (map says (take n (lines_of rows)))) ≡ done
+  -- the items of the lines passed
+  abbrev before : ℕ → List (List A)
+  before done = take done (map says (take n (lines_of text)))
+
+  -- they are as many as the lines
+  items_count : n < length (lines_of text) → (done : ℕ) → done ≤ n → length (before done) ≡ done
   items_count more done h =
-      omega (
-        arith,
-        length-take done (map says (take n (lines_of rows))),
-        length-map (take n (lines_of rows)) says,
-        length-take n (lines_of rows),
-        more,
-      )
+      omega (arith, length-take done (map says (take n (lines_of text))), says_count says text n more)
 
   -- one line more: its item is written over what stands behind the items before it
-  pub items_next : (new last : List A) (rest behind : List ℕ) (done : ℕ) → n < length (lines_of rows) → n * width ≤ length old
-      → ItemsWritten width says rows n old new rest done → done < n → behind ≡ behind_part line_feed rest
-      → (item : List A) → item ≡ says (first_part line_feed rest) → last ≡ over 0 item (take (length new - done * width) (drop (done * width) new))
-      → ItemsWritten width says rows n old (put_mid (done * width) (length new - done * width) new last) behind (done + 1)
-  items_next new last rest behind done more room inv h b item i e =
-      record {
-        walk = ap lines_of b ∙ walk_on rows rest done inv.walk another;
-        full = ap length one_more ∙ length-stripes width 0 (take (done + 1) (map says (take n (lines_of rows)))) old;
-        written = one_more;
-      }
-    where
-      before : List (List A)
-      before = take done (map says (take n (lines_of rows)))
+  module _ (more : n < length (lines_of text)) (room : n * width ≤ length old) (done : ℕ) (new : List A)
+      (inv : ItemsWritten width says text n old new done) (i : ℕ) (line : List ℕ)
+      (turn : (i ≡ done) × (done < n) × (line ≡ get_or (lines_of text) done [])) where
+    -- there is room for it
+    pub item_room : i * width + width ≤ length new
+    item_room =
+        let next : i + 1 ≤ n = omega (arith, turn.0, turn.1) in
+        omega (arith, inv.full, room, mul-le-mul_right width next)
 
-      another : done + 1 < length (lines_of rows)
-      another = omega arith
-
-      inside : done * width ≤ length new
-      inside = let few : done ≤ n = omega arith in omega (arith, inv.full, mul-le-mul_right width few)
-
-      one_more : put_mid (done * width) (length new - done * width) new last
-          ≡ stripes width 0 (take (done + 1) (map says (take n (lines_of rows)))) old
-      one_more =
-          ap (put_mid (done * width) (length new - done * width) new) e
-          ∙ over-lent (done * width) item new inside
-          ∙ ap₂ (over (done * width)) i inv.written
-          ∙ ap (λ k. over (k * width) (says (first_part line_feed rest)) (stripes width 0 before old)) (sym (items_count more done (omega arith)))
-          ∙ ap (λ k. over k (says (first_part line_feed rest)) (stripes width 0 before old)) (omega arith)
-          ∙ sym (stripes-snoc width 0 before (says (first_part line_feed rest)) old)
-          ∙ ap (λ items. stripes width 0 items old) (sym (line-more rows rest done inv.walk another says n h))
+    -- and it is written
+    pub items_next : (item last : List A) → item ≡ says line → last ≡ over 0 item (take (length new - i * width) (drop (i * width) new))
+        → ItemsWritten width says text n old (put_mid (i * width) (length new - i * width) new last) (done + 1)
+    items_next item last w e =
+        record { full = ap length one_more ∙ length-stripes width 0 (before (done + 1)) old; written = one_more }
+      where
+        one_more : put_mid (i * width) (length new - i * width) new last ≡ stripes width 0 (before (done + 1)) old
+        one_more =
+            ap (put_mid (i * width) (length new - i * width) new) e
+            ∙ over-lent (i * width) item new (omega (arith, item_room))
+            ∙ ap₂ (over (i * width)) w inv.written
+            ∙ ap (λ k. over (k * width) (says line) (stripes width 0 (before done) old)) (turn.0 ∙ sym (items_count more done (omega (arith, turn.1))))
+            ∙ ap (λ k. over k (says line) (stripes width 0 (before done) old)) (sym (zero-add (length (before done) * width)))
+            ∙ sym (stripes-snoc width 0 (before done) (says line) old)
+            ∙ ap (λ items. stripes width 0 items old) (sym (says_more says text n more done line turn.1 turn.2))
 
   -- all lines
-  pub items_all : (new : List A) (rest : List ℕ) (done : ℕ) → ItemsWritten width says rows n old new rest done → n ≤ done
-      → new ≡ stripes width 0 (map says (take n (lines_of rows))) old
-  items_all new rest done inv h =
-      let count : length (map says (take n (lines_of rows))) ≤ done =
-      omega (arith, length-map (take n (lines_of rows)) says, length-take n (lines_of rows)) in
-      inv.written ∙ ap (λ items. stripes width 0 items old) (take_all done (map says (take n (lines_of rows))) count)
+  pub items_all : (new : List A) (done : ℕ) → ItemsWritten width says text n old new done → done ≡ n
+      → new ≡ stripes width 0 (map says (take n (lines_of text))) old
+  items_all new done inv e =
+      let count : length (map says (take n (lines_of text))) ≤ done =
+      omega (arith, e, length-map (take n (lines_of text)) says, length-take n (lines_of text)) in
+      inv.written ∙ ap (λ items. stripes width 0 items old) (take_all done (map says (take n (lines_of text))) count)

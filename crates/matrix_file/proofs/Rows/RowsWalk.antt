@@ -5,7 +5,9 @@ use denote.Ref.{Bor}
 use Prim.Native.Nat.{ℕ, suc, ◌+◌, ◌-◌, ◌≤◌, ◌<◌}
 use native.Mathlib.Nat.{add-zero, sub-zero}
 use native.Mathlib.Omega.{arith}
-use lib.ListN.{length, take, drop, set, length-set}
+use lib.ListN.{length, take, drop, set, length-set, length-replicate}
+use Rattle.filled.specs.declared.Filled.{Filled}
+use Rattle.filled.specs.Filling.{NoneFilled, Pushed}
 use Rattle.std.specs.Prelude.{Ok, Err}
 use Rattle.std.proofs.lemmas.Grind.{take-set_at}
 use Rattle.matrix.specs.declared.refusal.Refusal.TheVariants.{LineMissing}
@@ -22,22 +24,28 @@ use Rattle.matrix_file.proofs.Answering.{asked_refused, asked_passed}
 use Rattle.matrix_file.proofs.BranchLines.Walk.{lines_some}
 use Rattle.matrix_file.proofs.Lists.LinesBehind.{rest-next}
 
+-- the names of the rows passed
+abbrev Names : Type 0
+Names = Filled (Bor (List ℕ)) 64
+
 -- what a walk knows when it has passed `done` rows and keeps the rest: the lines that are left decide, whatever follows the rows
-pub record RowsLeft (rows : List ℕ) (header : Header) (first : ℕ) (names : List (Bor (List ℕ))) (rest : List ℕ) (done : ℕ) : Type 0 where
-  pub places : length names ≡ 64
+pub record RowsLeft (rows : List ℕ) (header : Header) (first : ℕ) (names : Names) (rest : List ℕ) (done : ℕ) : Type 0 where
+  pub places : length names.items ≡ 64
+  pub counted : names.count ≡ done
   pub some : done ≤ header.n
   pub walk : lines_of rest ≡ drop done (lines_of rows)
   pub decide :
       (follow : ℕ → List (List ℕ) → Outcome Job)
       → ask_rows header [] first header.n (lines_of rows) follow
-      ≡ ask_rows header (names_passed (take done names)) (first + done) (header.n - done) (lines_of rest) follow
+      ≡ ask_rows header (names_passed (take done names.items)) (first + done) (header.n - done) (lines_of rest) follow
 
 -- at the start
-pub rows-start : (rows : List ℕ) (header : Header) (first : ℕ) (names : List (Bor (List ℕ))) → length names ≡ 64
+pub rows-start : (rows : List ℕ) (header : Header) (first : ℕ) (none : Bor (List ℕ)) (names : Names) → NoneFilled none names
     → RowsLeft rows header first names rows 0
-rows-start rows header first names e =
+rows-start rows header first none names e =
     record {
-      places = e;
+      places = ap length e.items ∙ length-replicate 64 none;
+      counted = e.count;
       some = omega arith;
       walk = refl;
       decide =
@@ -54,11 +62,15 @@ name_more names done name h =
     ∙ reverse-append (map (λ x. x.now) (take done names)) (name.now ∷ [])
 
 -- one row of the walk
-module _ (rows : List ℕ) (header : Header) (first : ℕ) (names : List (Bor (List ℕ))) (rest : List ℕ) (done : ℕ)
+module _ (rows : List ℕ) (header : Header) (first : ℕ) (names : Names) (rest : List ℕ) (done : ℕ)
     (left : RowsLeft rows header first names rest done) (h : done < header.n) where
   -- the names of the rows passed
   abbrev earlier : List (List ℕ)
-  earlier = names_passed (take done names)
+  earlier = names_passed (take done names.items)
+
+  -- as they are lent
+  pub lent-earlier : (lent : List (Bor (List ℕ))) → lent ≡ take names.count names.items → names_passed lent ≡ names_passed (take done names.items)
+  lent-earlier lent e = ap names_passed (e ∙ ap (λ k. take k names.items) left.counted)
 
   -- how many rows are left behind it
   abbrev fewer : ℕ
@@ -80,7 +92,12 @@ module _ (rows : List ℕ) (header : Header) (first : ℕ) (names : List (Bor (L
       }
 
   -- a line, and the lines behind it
-  module _ (line behind : List ℕ) (l : lines_of rest ≡ line ∷ lines_of behind) (answer : Asked) (a : answer ≡ ask_row header earlier line) where
+  module _ (line behind : List ℕ) (l : lines_of rest ≡ line ∷ lines_of behind) (answer : Asked)
+      (lent : List (Bor (List ℕ))) (w : lent ≡ take names.count names.items) (q : answer ≡ ask_row header (names_passed lent) line) where
+    -- the question was put of the names of the rows passed
+    a : answer ≡ ask_row header earlier line
+    a = q ∙ ap (λ names. ask_row header names line) (lent-earlier lent w)
+
     -- its own questions decide, and then those on the lines behind it
     asked : (follow : ℕ → List (List ℕ) → Outcome Job)
         → ask_rows header [] first header.n (lines_of rows) follow
@@ -100,25 +117,27 @@ module _ (rows : List ℕ) (header : Header) (first : ℕ) (names : List (Bor (L
 
     -- it passes: the walk goes on behind it
     pub row_passed : {yes : Unit {0}} → at_line (first + done) answer ≡ Ok yes → header.n ≤ 64 → (name : Bor (List ℕ))
-        → name.now ≡ first_part tab line → RowsLeft rows header first (set names done name) behind (done + 1)
-    row_passed {yes} e most name n =
+        → name.now ≡ first_part tab line → (new : Names) → Pushed names name new → RowsLeft rows header first new behind (done + 1)
+    row_passed {yes} e most name n new p =
+        let more : new.items ≡ set names.items done name = p.items ∙ ap (λ k. set names.items k name) left.counted in
         record {
-          places = length-set names done name ∙ left.places;
+          places = ap length more ∙ length-set names.items done name ∙ left.places;
+          counted = let here = left.counted in omega (arith, p.count);
           some = omega arith;
           walk = sym (rest-next (lines_of rows) done line (lines_of behind) (sym left.walk ∙ l));
           decide =
               λ follow.
-              let room : done < length names = let full = left.places in omega arith in
+              let room : done < length names.items = let full = left.places in omega arith in
               let number : suc (first + done) ≡ first + (done + 1) = omega arith in
               asked follow
               ∙ ap (λ x. on_line (first + done) x (ask_rows header (name_in line ∷ earlier) (suc (first + done)) fewer (lines_of behind) follow))
               (asked_passed (first + done) answer {yes = yes} e)
               ∙ ap₂ (λ x k. ask_rows header (x ∷ earlier) k fewer (lines_of behind) follow) (name_first line ∙ sym n) number
-              ∙ ap (λ xs. ask_rows header xs (first + (done + 1)) fewer (lines_of behind) follow) (sym (name_more names done name room));
+              ∙ ap (λ xs. ask_rows header xs (first + (done + 1)) fewer (lines_of behind) follow) (sym (ap (λ items. names_passed (take (done + 1) items)) more ∙ name_more names.items done name room));
         }
 
 -- all rows passed: what follows them decides
-pub rows-ended : (rows : List ℕ) (header : Header) (first : ℕ) (names : List (Bor (List ℕ))) (rest : List ℕ) (done : ℕ)
+pub rows-ended : (rows : List ℕ) (header : Header) (first : ℕ) (names : Names) (rest : List ℕ) (done : ℕ)
     → RowsLeft rows header first names rest done → header.n ≤ done → RowsAsked rows header first (Ok rest)
 unfolding ask_rows
 rows-ended rows header first names rest done left h =
@@ -128,7 +147,7 @@ rows-ended rows header first names rest done left h =
       says =
           λ follow.
           sym (left.decide follow
-          ∙ ap (λ k. ask_rows header (names_passed (take done names)) (first + done) k (lines_of rest) follow) none
+          ∙ ap (λ k. ask_rows header (names_passed (take done names.items)) (first + done) k (lines_of rest) follow) none
           ∙ ap (λ k. follow (first + k) (lines_of rest)) all);
       ends =
           λ place e.

@@ -6,6 +6,9 @@ use Rattle.file_form.specs.Bytes.{word_c}
 use Rattle.file_form.specs.Decimal.{number_form, number_of}
 use Rattle.file_form.proofs.File.FirstForm.{fields_count}
 use Rattle.file_form.proofs.BranchLines.Form.{other-count, bad_word, bad_third}
+use Rattle.std.proofs.Common.{rules}
+use Rattle.std.proofs.lemmas.Slice.Eq.{text_from_reads}
+use Rattle.matrix_file.proofs.Words.{other_text, text_is, bytes_read}
 use Rattle.matrix_file.proofs.ReadAs.{read_none, read_some}
 use Rattle.matrix_file.proofs.BranchLines.Walk.{node_told}
 use Rattle.matrix_file.proofs.branches.branch_form.Goals as goal
@@ -14,9 +17,17 @@ pub returns-then-separators-ne-ANCESTOR : goal.returns-then-separators-ne-ANCEST
 returns-then-separators-ne-ANCESTOR c =
     sym (other-count _ _ (λ three. c.if-separators-ne-ANCESTOR.true (omega (arith, fields_count _ _ c.separators.ensures, three))))
 
-pub returns-then-not-same_text : goal.returns-then-not-same_text
-returns-then-not-same_text c =
-    sym (bad_word _ _ (ap (λ word. same_text word word_c) (sym c.field.ensures) ∙ sym c.same_text.ensures ∙ c.if-not-same_text.true))
+pub returns-in_default : goal.returns-in_default
+returns-in_default c =
+    sym (bad_word _ _ (ap (λ word. same_text word word_c) (sym c.field.ensures) ∙ other_text _ _ (λ e. omega (arith, bytes_read e))))
+
+pub returns-in_default-2 : goal.returns-in_default-2
+returns-in_default-2 c =
+    sym (bad_word _ _ (ap (λ word. same_text word word_c) (sym c.field.ensures) ∙ other_text _ _ (λ e. omega (arith, bytes_read e))))
+
+pub returns-in_default-3 : goal.returns-in_default-3
+returns-in_default-3 c =
+    sym (bad_word _ _ (ap (λ word. same_text word word_c) (sym c.field.ensures) ∙ other_text _ _ (λ e. omega (arith, bytes_read e))))
 
 pub returns-then-is_none : goal.returns-then-is_none
 returns-then-is_none c =
@@ -26,6 +37,6 @@ pub returns : goal.returns
 returns c =
     c.eq.ensures
     ∙ node_told _ _ (omega (arith, fields_count _ _ c.separators.ensures, c.if-separators-ne-ANCESTOR.false))
-    (ap (λ word. same_text word word_c) (sym c.field.ensures) ∙ sym c.same_text.ensures ∙ c.if-not-same_text.false)
+    (ap (λ word. same_text word word_c) (sym c.field.ensures) ∙ text_is _ _ (text_from_reads _ _ (omega arith) (search rules)))
     (ap number_form (sym c.field-2.ensures) ∙ read_some number_form number_of c.field-2.result.now _ c.number.ensures.said _ c.is_none.ensures c.if-is_none.false)
     _ _ c.field-3.ensures c.number-2.ensures.said

@@ -1,28 +1,59 @@
 -- What the check leaves of `matrix_file::branches::tree_said`.
-use mathlib.Core.Path.{ap, ◌∙◌}
-use lib.ListN.{get_or}
-use mathlib.Core.List.{[]}
+use mathlib.Core.Path.{◌≡◌, sym, subst}
+use mathlib.Core.List.{[], ◌∷◌}
+use Prim.Native.Nat.{◌<◌}
+use native.Mathlib.Omega.{arith}
+use lib.ListN.{length, length-append, get_or}
+use Rattle.std.proofs.Common.{rules, tests, of_calls}
+use Rattle.std.proofs.lemmas.Iterator.Consumers.{YieldsList-at, YieldsList-turn, YieldsList-end}
+use Rattle.file_form.specs.Lines.{lines_of}
+use Rattle.matrix_file.proofs.Lists.LinesSplit.{lines_yielded, line_turn, lines_passed}
 use Rattle.lists.specs.Filled.{filled}
 use Rattle.file_form.specs.Branches.{ancestor_in}
-use Rattle.file_form.specs.Decimal.{number_form, number_of}
-use Rattle.file_form.specs.Lines.{fields_of}
-use Rattle.matrix_file.proofs.BranchLines.Said.{places-start, line_told, places-more, places-all}
+use Rattle.matrix_file.proofs.BranchLines.Said.{PlacesFilled, places-start, line_told, place_room, places-more, places-all}
 use Rattle.matrix_file.proofs.branches.tree_said.Goals as goal
+use Rattle.matrix_file.proofs.branches.tree_said.Goals.{In-Some}
 
-pub loop-done-init : goal.loop-done-init
+-- the line of a turn and its place
+turn : (c : In-Some) → (c.in-Some.i ≡ length c.loop-i.yielded) × (length c.loop-i.yielded < c.args.count) × (c.in-Some.line.now ≡ get_or (lines_of c.args.text.now) (length c.loop-i.yielded) [])
+turn c =
+    line_turn c.args.text.now c.args.count (length c.loop-i.yielded) (c.in-Some.i, c.in-Some.line.now)
+    (YieldsList-turn
+    (YieldsList-at c.into_iter-i-iterator.ensures.into_iter_gives
+    (lines_yielded c.args.text.now c.args.count c.enumerate-i-items.ensures.source c.enumerate-i-items.ensures.count c.take.ensures.source c.take.ensures.count
+    c.split.ensures.rest c.split.ensures.done c.split.ensures.closure (λ x b q k. search (rules, tests))))
+    c.loop-i.yielded c.loop-i.i-iterator c.loop-i.yielded_by c.next.result c.next.new.self (c.in-Some.i, c.in-Some.line) c.in-Some.is
+    c.next.ensures.steps)
+
+pub loop-i-init : goal.loop-i-init
 unfolding filled
-loop-done-init c = places-start _ _
+loop-i-init c = (search (rules, of_calls), search (rules, of_calls), places-start _ _)
 
 pub number_in-requires : goal.number_in-requires
-number_in-requires c =
-    ap (λ line. number_form (get_or (fields_of line) 2 [])) c.first_part.ensures
-    ∙ (line_told _ _ _ _ c.requires.1 c.loop-done.invariant.walk c.loop-done-test.true).above
+number_in-requires c = (line_told _ _ c.requires.1 _ _ _ (turn (goal.at.number_in-requires c).In-Some)).above
 
-pub loop-done-preserved : goal.loop-done-preserved
+pub overflow_add-ancestors : goal.overflow_add-ancestors
+overflow_add-ancestors c = let room = place_room _ _ c.requires.1 _ _ _ (turn (goal.at.overflow_add-ancestors c).In-Some) c.requires.0 in omega arith
+
+pub bounds-ancestors-i : goal.bounds-ancestors-i
+bounds-ancestors-i c = let room = place_room _ _ c.requires.1 _ _ _ (turn (goal.at.bounds-ancestors-i c).In-Some) c.requires.0 in omega (arith, c.loop-i.invariant.2.size)
+
+pub loop-i-preserved : goal.loop-i-preserved
 unfolding ancestor_in
-loop-done-preserved c =
-    places-more _ _ _ _ _ _ c.requires.1 c.requires.0 c.loop-done.invariant c.loop-done-test.true c.behind_part-rest.ensures _
-    (c.number_in.ensures ∙ ap (λ line. number_of (get_or (fields_of line) 2 [])) c.first_part.ensures)
+loop-i-preserved c = (
+  search (rules, of_calls),
+  search (rules, of_calls),
+  subst (PlacesFilled c.args.text.now c.args.count _)
+      (sym (length-append c.loop-i.yielded ((c.in-Some.i, c.in-Some.line) ∷ [])))
+      (places-more _ _ c.requires.1 _ _ _ (turn (goal.at.loop-i-preserved c).In-Some) _ c.requires.0 c.loop-i.invariant.2 _ c.number_in.ensures),
+)
 
 pub returns : goal.returns
-returns c = places-all _ _ _ _ _ c.loop-done.invariant c.loop-done-test.false
+returns c =
+    places-all _ _ _ _ c.loop-i.invariant.2
+    (lines_passed c.args.text.now c.args.count (length c.loop-i.yielded) c.requires.1.more
+    (YieldsList-end
+    (YieldsList-at c.into_iter-i-iterator.ensures.into_iter_gives
+    (lines_yielded c.args.text.now c.args.count c.enumerate-i-items.ensures.source c.enumerate-i-items.ensures.count c.take.ensures.source c.take.ensures.count
+    c.split.ensures.rest c.split.ensures.done c.split.ensures.closure (λ x b q k. search (rules, tests))))
+    c.loop-i.yielded c.loop-i.i-iterator c.loop-i.yielded_by c.next.result c.next.new.self c.in-None.is c.next.ensures.steps).1)

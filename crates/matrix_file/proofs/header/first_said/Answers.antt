@@ -1,20 +1,17 @@
 -- `matrix_file::header::first_said` meets its contract: each answer follows from the tests that led to it.
 use mathlib.Core.Path.{sym, ◌∙◌}
+use Rattle.matrix.proofs.Between.{nat_between}
 use Rattle.file_form.proofs.File.FirstForm.{fields_count}
-use Rattle.matrix_file.proofs.File.HeaderWalk.{kind_none, few, many, taxa_none, characters_none, all_said}
+use Rattle.matrix_file.proofs.File.HeaderWalk.{kind_none, no_count, taxa_none, characters_none, all_said}
 use Rattle.matrix_file.proofs.header.first_said.Goals as goal
 
 pub returns-in_err-kind : goal.returns-in_err-kind
 returns-in_err-kind c = c.from_residual.ensures ∙ kind_none _ _ c.field.ensures (sym c.in_err-kind.was ∙ c.kind.ensures)
 
-pub returns-then-tabs-lt2 : goal.returns-then-tabs-lt2
-returns-then-tabs-lt2 c =
-    few _ _ c.field.ensures _ (sym c.in_ok-kind.was ∙ c.kind.ensures) _ (fields_count _ _ c.separators-tabs.ensures) c.if-tabs-lt2.true
-
-pub returns-then-most_tabs-tabs : goal.returns-then-most_tabs-tabs
-returns-then-most_tabs-tabs c =
-    many _ _ c.field.ensures _ (sym c.in_ok-kind.was ∙ c.kind.ensures) _ _ (fields_count _ _ c.separators-tabs.ensures) c.most_tabs.ensures
-    c.if-most_tabs-tabs.true
+pub returns-then-not-contains : goal.returns-then-not-contains
+returns-then-not-contains c =
+    no_count _ _ c.field.ensures _ (sym c.in_ok-kind.was ∙ c.kind.ensures) _ _ (fields_count _ _ c.separators.ensures) c.most_tabs.ensures
+    _ (nat_between _ _ _ _ c.new.ensures.start c.new.ensures.end c.new.ensures.exhausted c.contains.ensures.value) c.if-not-contains.true
 
 pub returns-in_err-n : goal.returns-in_err-n
 returns-in_err-n c =
@@ -29,7 +26,7 @@ returns-in_err-m c =
 
 pub returns : goal.returns
 returns c =
-    all_said _ _ c.field.ensures _ (sym c.in_ok-kind.was ∙ c.kind.ensures) _ _ (fields_count _ _ c.separators-tabs.ensures) c.most_tabs.ensures
-    c.if-tabs-lt2.false c.if-most_tabs-tabs.false _ _ c.field-2.ensures c.field-3.ensures _ _
+    all_said _ _ c.field.ensures _ (sym c.in_ok-kind.was ∙ c.kind.ensures) _ _ (fields_count _ _ c.separators.ensures) c.most_tabs.ensures
+    _ (nat_between _ _ _ _ c.new.ensures.start c.new.ensures.end c.new.ensures.exhausted c.contains.ensures.value) c.if-not-contains.false _ _ c.field-2.ensures c.field-3.ensures _ _
     (sym c.in_ok-n.was ∙ c.number.ensures.said)
     (sym c.in_ok-m.was ∙ c.number-2.ensures.said)

@@ -1,13 +1,22 @@
--- `matrix_file::header::kind` meets its contract: two words, one after the other.
-use mathlib.Core.Path.{sym, ◌∙◌}
-use Rattle.matrix_file.proofs.File.HeaderWalk.{own_said, wagner_said, neither_said}
+-- `matrix_file::header::kind` meets its contract: a word of one byte, which is one of two or another, or a word of another length.
+use native.Mathlib.Omega.{arith}
+use Rattle.std.proofs.Common.{rules}
+use Rattle.std.proofs.lemmas.Slice.Eq.{text_from_reads}
+use Rattle.matrix_file.proofs.File.HeaderWalk.{own_said, wagner_said, no_kind_said}
+use Rattle.matrix_file.proofs.Words.{bytes_read}
 use Rattle.matrix_file.proofs.header.kind.Goals as goal
 
-pub returns-then-same_text : goal.returns-then-same_text
-returns-then-same_text c = own_said _ (sym c.same_text.ensures ∙ c.if-same_text.true)
+pub returns-in-F : goal.returns-in-F
+returns-in-F c = own_said _ (text_from_reads _ _ (omega arith) (search rules))
 
-pub returns-then-same_text-2 : goal.returns-then-same_text-2
-returns-then-same_text-2 c = wagner_said _ (sym c.same_text.ensures ∙ c.if-same_text.false) (sym c.same_text-2.ensures ∙ c.if-same_text-2.true)
+pub returns-in-W : goal.returns-in-W
+returns-in-W c = wagner_said _ (text_from_reads _ _ (omega arith) (search rules))
 
-pub returns : goal.returns
-returns c = neither_said _ (sym c.same_text.ensures ∙ c.if-same_text.false) (sym c.same_text-2.ensures ∙ c.if-same_text-2.false)
+pub returns-in_default : goal.returns-in_default
+returns-in_default c = no_kind_said _ (λ e. omega (arith, bytes_read e)) (λ e. omega (arith, bytes_read e))
+
+pub returns-in_default-2 : goal.returns-in_default-2
+returns-in_default-2 c = no_kind_said _ (λ e. omega (arith, bytes_read e)) (λ e. omega (arith, bytes_read e))
+
+pub returns-in_default-3 : goal.returns-in_default-3
+returns-in_default-3 c = no_kind_said _ (λ e. omega (arith, bytes_read e)) (λ e. omega (arith, bytes_read e))

@@ -1,16 +1,13 @@
 -- What the check leaves of `matrix_file::judging::ask_codes`.
 use mathlib.Core.Path.{refl, sym, ap, ◌∙◌}
 use mathlib.Core.List.{[], ◌∷◌}
-use lib.Dec.{eqb}
 use lib.ListN.{drop, length-append}
 use Rattle.std.proofs.Common.{rules, tests, of_calls}
 use Rattle.std.proofs.lemmas.Result.{err_from_is_err_and}
-use Rattle.std.proofs.lemmas.Iterator.Adapters.{YieldsList-from_skip}
 use Rattle.std.proofs.lemmas.Iterator.Consumers.{YieldsList-at, YieldsList-turn, YieldsList-end}
-use Rattle.std.proofs.lemmas.Iterator.Splits.{YieldsList-from_slice_split}
-use Rattle.file_form.specs.Bytes.{tab}
 use Rattle.file_form.specs.Lines.{fields_of}
 use Rattle.file_form.specs.Rows.{ask_codes}
+use Rattle.matrix_file.proofs.Lists.LinesSplit.{fields_yielded}
 use Rattle.matrix_file.proofs.Rows.CodesWalk.{walk-refused, walk_passed, walk_ended}
 use Rattle.matrix_file.proofs.judging.ask_codes.Goals as goal
 
@@ -22,11 +19,7 @@ returns-in_err-ask_code c =
     let told = err_from_is_err_and c.from_residual.result c.from_residual.ensures.1 in
     let turn = YieldsList-turn
     (YieldsList-at c.into_iter-field-iterator.ensures.into_iter_gives
-    (YieldsList-from_skip 1
-    (YieldsList-at c.skip-field-items.ensures.source
-    (YieldsList-from_slice_split _ (λ byte. eqb byte tab) c.args.line.now c.split.ensures.rest c.split.ensures.done c.split.ensures.closure
-    (λ x b q k. search (rules, tests))))
-    c.skip-field-items.ensures.count))
+    (fields_yielded c.args.line.now c.skip-field-items.ensures.source c.skip-field-items.ensures.count c.split.ensures.rest c.split.ensures.done c.split.ensures.closure (λ x b q k. search (rules, tests))))
     c.loop-field.yielded c.loop-field.field-iterator c.loop-field.yielded_by c.next.result c.next.new.self c.in-Some.field c.in-Some.is
     c.next.ensures.steps in
     rw (told.1, told.2) (walk-refused _ _ c.loop-field.invariant.2 _ turn _ (sym c.ask_code.ensures ∙ c.in_err-ask_code.was))
@@ -35,11 +28,7 @@ pub loop-field-preserved : goal.loop-field-preserved
 loop-field-preserved c =
     let turn = YieldsList-turn
     (YieldsList-at c.into_iter-field-iterator.ensures.into_iter_gives
-    (YieldsList-from_skip 1
-    (YieldsList-at c.skip-field-items.ensures.source
-    (YieldsList-from_slice_split _ (λ byte. eqb byte tab) c.args.line.now c.split.ensures.rest c.split.ensures.done c.split.ensures.closure
-    (λ x b q k. search (rules, tests))))
-    c.skip-field-items.ensures.count))
+    (fields_yielded c.args.line.now c.skip-field-items.ensures.source c.skip-field-items.ensures.count c.split.ensures.rest c.split.ensures.done c.split.ensures.closure (λ x b q k. search (rules, tests))))
     c.loop-field.yielded c.loop-field.field-iterator c.loop-field.yielded_by c.next.result c.next.new.self c.in-Some.field c.in-Some.is
     c.next.ensures.steps in (
       search (rules, of_calls),
@@ -53,9 +42,5 @@ returns c =
     walk_ended _ _ c.loop-field.invariant.2
     (YieldsList-end
     (YieldsList-at c.into_iter-field-iterator.ensures.into_iter_gives
-    (YieldsList-from_skip 1
-    (YieldsList-at c.skip-field-items.ensures.source
-    (YieldsList-from_slice_split _ (λ byte. eqb byte tab) c.args.line.now c.split.ensures.rest c.split.ensures.done c.split.ensures.closure
-    (λ x b q k. search (rules, tests))))
-    c.skip-field-items.ensures.count))
+    (fields_yielded c.args.line.now c.skip-field-items.ensures.source c.skip-field-items.ensures.count c.split.ensures.rest c.split.ensures.done c.split.ensures.closure (λ x b q k. search (rules, tests))))
     c.loop-field.yielded c.loop-field.field-iterator c.loop-field.yielded_by c.next.result c.next.new.self c.in-None.is c.next.ensures.steps).1

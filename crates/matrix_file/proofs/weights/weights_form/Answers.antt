@@ -5,16 +5,15 @@ use lib.ListN.{drop}
 use borrow.Author.Tests.{ne_eqb}
 use Rattle.std.proofs.Common.{rules, tests}
 use Rattle.std.specs.Prelude.{is_some}
-use Rattle.std.proofs.lemmas.Iterator.Adapters.{YieldsList-from_skip}
 use Rattle.std.proofs.lemmas.Iterator.Consumers.{YieldsList-at}
 use Rattle.std.proofs.lemmas.Iterator.Search.{all_from_yields_List}
-use Rattle.std.proofs.lemmas.Iterator.Splits.{YieldsList-from_slice_split}
 use Rattle.std.specs.List.{list_all}
 use Rattle.file_form.specs.Bytes.{tab}
 use Rattle.file_form.specs.Lines.{fields_of}
 use Rattle.file_form.specs.Weights.{weight_form, weight_in}
 use Rattle.file_form.proofs.Text.Slices.{parts_split}
 use Rattle.matrix_file.specs.Walk.{read_as}
+use Rattle.matrix_file.proofs.Lists.LinesSplit.{fields_yielded}
 use Rattle.matrix_file.proofs.Lists.WeightsWritten.{all_read, other-count, fields_decide}
 use Rattle.matrix_file.proofs.weights.weights_form.Goals as goal
 
@@ -22,11 +21,7 @@ pub returns-then-separators-m : goal.returns-then-separators-m
 unfolding fields_of
 returns-then-separators-m c =
     all_from_yields_List (λ field. is_some (read_as weight_form weight_in field)) _ _ c.all.result c.all.ensures.ran
-    (YieldsList-from_skip 1
-    (YieldsList-at c.skip.ensures.source
-    (YieldsList-from_slice_split _ (λ byte. eqb byte tab) c.args.line.now c.split.ensures.rest c.split.ensures.done c.split.ensures.closure
-    (λ x b q k. search (rules, tests))))
-    c.skip.ensures.count)
+    (fields_yielded c.args.line.now c.skip.ensures.source c.skip.ensures.count c.split.ensures.rest c.split.ensures.done c.split.ensures.closure (λ x b q k. search (rules, tests)))
     (λ x b q k. search (rules, tests))
     ∙ ap (λ parts. list_all (λ field. is_some (read_as weight_form weight_in field)) (drop 1 parts)) (sym (parts_split tab c.args.line.now))
     ∙ all_read (drop 1 (fields_of c.args.line.now))

@@ -1,20 +1,34 @@
 -- What the check leaves of `matrix_file::weights::write_weights`.
-use mathlib.Core.Path.{refl, sym, ap, subst, ◌∙◌}
+use mathlib.Core.Path.{◌≡◌, refl, sym, ap, subst, ◌∙◌}
 use mathlib.Core.List.{[], ◌∷◌}
 use borrow.Author.Tests.{not-true, not-false}
+use Prim.Native.Nat.{◌<◌}
 use native.Mathlib.Omega.{arith}
-use lib.Dec.{eqb}
-use lib.ListN.{length, replicate, set, length-append}
+use lib.ListN.{length, get_or, drop, replicate, set, length-append}
 use lib.Seq.{length-take-le}
 use Rattle.std.proofs.Common.{rules, tests, of_calls}
-use Rattle.std.proofs.lemmas.Iterator.Adapters.{YieldsList-from_skip}
 use Rattle.std.proofs.lemmas.Iterator.Consumers.{YieldsList-at, YieldsList-from_enumerate, YieldsList-turn, YieldsList-end}
-use Rattle.std.proofs.lemmas.Iterator.Splits.{YieldsList-from_slice_split}
 use Rattle.lists.proofs.Over.{over_nothing}
-use Rattle.file_form.specs.Bytes.{tab}
+use Rattle.file_form.specs.Lines.{fields_of}
+use Rattle.matrix_file.proofs.Lists.LinesSplit.{fields_yielded}
 use Rattle.matrix_file.proofs.Lists.CodesWritten.{field_turn, fields_passed}
 use Rattle.matrix_file.proofs.Lists.WeightsWritten.{Weighted, ones_written, weight_room, weight_next, weights-done}
 use Rattle.matrix_file.proofs.weights.write_weights.Goals as goal
+use Rattle.matrix_file.proofs.weights.write_weights.Goals.{In-Some}
+
+-- the field of a turn and its place
+turn : (c : In-Some) → (c.in-Some.j ≡ length c.loop-j.yielded) × (length c.loop-j.yielded < length (drop 1 (fields_of c.first_part-line.result.now)))
+    × (c.in-Some.field.now ≡ get_or (drop 1 (fields_of c.first_part-line.result.now)) (length c.loop-j.yielded) [])
+turn c =
+    field_turn c.first_part-line.result.now (length c.loop-j.yielded) (c.in-Some.j, c.in-Some.field.now)
+    (YieldsList-turn
+    (YieldsList-at c.into_iter-j-iterator.ensures.into_iter_gives
+    (YieldsList-from_enumerate
+    (YieldsList-at c.enumerate-j-items.ensures.source
+    (fields_yielded c.first_part-line.result.now c.skip.ensures.source c.skip.ensures.count c.split.ensures.rest c.split.ensures.done c.split.ensures.closure (λ x b q k. search (rules, tests))))
+    c.enumerate-j-items.ensures.count))
+    c.loop-j.yielded c.loop-j.j-iterator c.loop-j.yielded_by c.next.result c.next.new.self (c.in-Some.j, c.in-Some.field) c.in-Some.is
+    c.next.ensures.steps)
 
 pub returns-then-not-header : goal.returns-then-not-header
 returns-then-not-header c =
@@ -28,42 +42,18 @@ loop-j-init c = (search (rules, of_calls), search (rules, of_calls), (refl, sym 
 
 pub bounds-weights-j : goal.bounds-weights-j
 bounds-weights-j c =
-    let turn = field_turn c.first_part-line.result.now (length c.loop-j.yielded) (c.in-Some.j, c.in-Some.field.now)
-    (YieldsList-turn
-    (YieldsList-at c.into_iter-j-iterator.ensures.into_iter_gives
-    (YieldsList-from_enumerate
-    (YieldsList-at c.enumerate-j-items.ensures.source
-    (YieldsList-from_skip 1
-    (YieldsList-at c.skip.ensures.source
-    (YieldsList-from_slice_split _ (λ byte. eqb byte tab) c.first_part-line.result.now c.split.ensures.rest c.split.ensures.done c.split.ensures.closure
-    (λ x b q k. search (rules, tests))))
-    c.skip.ensures.count))
-    c.enumerate-j-items.ensures.count))
-    c.loop-j.yielded c.loop-j.j-iterator c.loop-j.yielded_by c.next.result c.next.new.self (c.in-Some.j, c.in-Some.field) c.in-Some.is
-    c.next.ensures.steps) in
-    weight_room _ _ _ c.requires.weights_formed _ c.first_part-line.ensures (not-false _ c.if-not-header.false) (turn.0, turn.1)
+    let this = turn (goal.at.bounds-weights-j c).In-Some in
+    weight_room _ _ _ c.requires.weights_formed _ c.first_part-line.ensures (not-false _ c.if-not-header.false) (this.0, this.1)
     (omega (arith, c.requires.room, c.loop-j.invariant.2.0))
 
 pub loop-j-preserved : goal.loop-j-preserved
 loop-j-preserved c =
-    let turn = field_turn c.first_part-line.result.now (length c.loop-j.yielded) (c.in-Some.j, c.in-Some.field.now)
-    (YieldsList-turn
-    (YieldsList-at c.into_iter-j-iterator.ensures.into_iter_gives
-    (YieldsList-from_enumerate
-    (YieldsList-at c.enumerate-j-items.ensures.source
-    (YieldsList-from_skip 1
-    (YieldsList-at c.skip.ensures.source
-    (YieldsList-from_slice_split _ (λ byte. eqb byte tab) c.first_part-line.result.now c.split.ensures.rest c.split.ensures.done c.split.ensures.closure
-    (λ x b q k. search (rules, tests))))
-    c.skip.ensures.count))
-    c.enumerate-j-items.ensures.count))
-    c.loop-j.yielded c.loop-j.j-iterator c.loop-j.yielded_by c.next.result c.next.new.self (c.in-Some.j, c.in-Some.field) c.in-Some.is
-    c.next.ensures.steps) in (
+    let this = turn (goal.at.loop-j-preserved c).In-Some in (
       search (rules, of_calls),
       search (rules, of_calls),
       subst (Weighted c.args.weights.now c.args.text.now (set c.loop-j.weights c.in-Some.j c.unwrap_or.result))
           (sym (length-append c.loop-j.yielded ((c.in-Some.j, c.in-Some.field) ∷ [])))
-          (weight_next _ _ _ c.requires.weights_formed _ c.first_part-line.ensures (not-false _ c.if-not-header.false) _ _ _ _ _ _ _ turn
+          (weight_next _ _ _ c.requires.weights_formed _ c.first_part-line.ensures (not-false _ c.if-not-header.false) _ _ _ _ _ _ _ this
           c.loop-j.invariant.2 c.weight.ensures c.unwrap_or.ensures),
     )
 
@@ -75,10 +65,6 @@ returns c =
     (YieldsList-at c.into_iter-j-iterator.ensures.into_iter_gives
     (YieldsList-from_enumerate
     (YieldsList-at c.enumerate-j-items.ensures.source
-    (YieldsList-from_skip 1
-    (YieldsList-at c.skip.ensures.source
-    (YieldsList-from_slice_split _ (λ byte. eqb byte tab) c.first_part-line.result.now c.split.ensures.rest c.split.ensures.done c.split.ensures.closure
-    (λ x b q k. search (rules, tests))))
-    c.skip.ensures.count))
+    (fields_yielded c.first_part-line.result.now c.skip.ensures.source c.skip.ensures.count c.split.ensures.rest c.split.ensures.done c.split.ensures.closure (λ x b q k. search (rules, tests))))
     c.enumerate-j-items.ensures.count))
     c.loop-j.yielded c.loop-j.j-iterator c.loop-j.yielded_by c.next.result c.next.new.self c.in-None.is c.next.ensures.steps).1)

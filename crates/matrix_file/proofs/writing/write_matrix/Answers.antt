@@ -1,42 +1,64 @@
 -- What the check leaves of `matrix_file::writing::write_matrix`.
-use Prim.Native.Nat.{◌+◌, ◌*◌, ◌≤◌}
+use mathlib.Core.Path.{◌≡◌, refl, sym, subst}
+use mathlib.Core.List.{[], ◌∷◌}
+use Prim.Native.Nat.{◌*◌, ◌<◌}
 use native.Mathlib.Omega.{arith}
-use lib.ListN.{length, drop}
-use Rattle.matrix_file.proofs.Lists.LinesBehind.{line-formed}
-use Rattle.matrix_file.proofs.Lists.WrittenLines.{codes_few, part_room}
-use Rattle.matrix_file.proofs.Lists.WrittenLines.{items_start, items_next, items_all}
-use Rattle.file_form.specs.Decimal.{code_form}
-use Rattle.file_form.specs.Lines.{fields_of}
-use Rattle.file_form.specs.Rows.{codes_in}
-use Rattle.lists.specs.Tests.{every}
+use lib.ListN.{length, length-append, get_or}
+use Rattle.std.proofs.Common.{rules, tests, of_calls}
+use Rattle.std.proofs.lemmas.Iterator.Consumers.{YieldsList-at, YieldsList-turn, YieldsList-end}
+use Rattle.file_form.specs.Lines.{lines_of}
+use Rattle.matrix_file.proofs.Lists.LinesSplit.{lines_yielded, line_turn, lines_passed}
 use Rattle.matrix.specs.Shape.{columns}
-use mathlib.Core.Path.{ap, ◌∙◌}
+use Rattle.file_form.specs.Rows.{codes_in}
+use Rattle.matrix_file.proofs.Lists.LinesBehind.{line-formed}
+use Rattle.matrix_file.proofs.Lists.WrittenLines.{ItemsWritten, codes_few, part_room, items_start, item_room, items_next, items_all}
 use Rattle.matrix_file.proofs.writing.write_matrix.Goals as goal
+use Rattle.matrix_file.proofs.writing.write_matrix.Goals.{In-Some}
 
-pub loop-row-init : goal.loop-row-init
-loop-row-init c = items_start columns codes_in _ _ _
+-- the line of a turn and its place
+turn : (c : In-Some) → (c.in-Some.i ≡ length c.loop-i.yielded) × (length c.loop-i.yielded < c.args.n) × (c.in-Some.line.now ≡ get_or (lines_of c.args.rows.now) (length c.loop-i.yielded) [])
+turn c =
+    line_turn c.args.rows.now c.args.n (length c.loop-i.yielded) (c.in-Some.i, c.in-Some.line.now)
+    (YieldsList-turn
+    (YieldsList-at c.into_iter-i-iterator.ensures.into_iter_gives
+    (lines_yielded c.args.rows.now c.args.n c.enumerate-i-items.ensures.source c.enumerate-i-items.ensures.count c.take.ensures.source c.take.ensures.count
+    c.split.ensures.rest c.split.ensures.done c.split.ensures.closure (λ x b q k. search (rules, tests))))
+    c.loop-i.yielded c.loop-i.i-iterator c.loop-i.yielded_by c.next.result c.next.new.self (c.in-Some.i, c.in-Some.line) c.in-Some.is
+    c.next.ensures.steps)
+
+pub loop-i-init : goal.loop-i-init
+loop-i-init c = (search (rules, of_calls), search (rules, of_calls), items_start columns codes_in _ _ _)
 
 pub write_codes-requires-clause-codes_formed : goal.write_codes-requires-clause-codes_formed
 write_codes-requires-clause-codes_formed c =
-    ap (λ line. every code_form (drop 1 (fields_of line))) c.first_part.ensures
-    ∙ (line-formed _ _ _ _ c.requires.1 c.loop-row.invariant.walk c.loop-row-test.true).coded
+    let this = turn (goal.at.write_codes-requires-clause-codes_formed c).In-Some in
+    (line-formed _ _ _ _ c.requires.1 this.1 this.2).coded
 
 pub write_codes-requires-clause-room : goal.write_codes-requires-clause-room
 write_codes-requires-clause-room c =
-    let fits : c.loop-row.row * columns + columns ≤ length c.loop-row.matrix =
-    omega (arith, c.requires.0, c.loop-row.invariant.full, c.loop-row-test.true) in
+    let this = turn (goal.at.write_codes-requires-clause-room c).In-Some in
     omega (
       arith,
-      codes_few _ (line-formed _ _ _ _ c.requires.1 c.loop-row.invariant.walk c.loop-row-test.true),
-      ap (λ line. length (drop 1 (fields_of line))) c.first_part.ensures,
-      part_room (c.loop-row.row * columns) columns c.loop-row.matrix fits,
+      codes_few _ (line-formed _ _ _ _ c.requires.1 this.1 this.2),
+      part_room (c.in-Some.i * columns) columns c.loop-i.matrix (item_room columns codes_in _ _ _ c.requires.1.count c.requires.0 _ _ c.loop-i.invariant.2 _ _ this),
     )
 
-pub loop-row-preserved : goal.loop-row-preserved
-loop-row-preserved c =
-    let known = c.requires in
-    items_next columns codes_in _ _ _ _ _ _ _ _ known.1.count known.0 c.loop-row.invariant c.loop-row-test.true c.behind_part-rest.ensures _
-    (ap codes_in c.first_part.ensures) c.write_codes.ensures
+pub loop-i-preserved : goal.loop-i-preserved
+loop-i-preserved c = (
+  search (rules, of_calls),
+  search (rules, of_calls),
+  subst (ItemsWritten columns codes_in c.args.rows.now c.args.n c.args.matrix.now _)
+      (sym (length-append c.loop-i.yielded ((c.in-Some.i, c.in-Some.line) ∷ [])))
+      (items_next columns codes_in _ _ _ c.requires.1.count c.requires.0 _ _ c.loop-i.invariant.2 _ _ (turn (goal.at.loop-i-preserved c).In-Some) _ _
+      refl c.write_codes.ensures),
+)
 
 pub returns : goal.returns
-returns c = items_all columns codes_in _ _ _ _ _ _ c.loop-row.invariant c.loop-row-test.false
+returns c =
+    items_all columns codes_in _ _ _ _ _ c.loop-i.invariant.2
+    (lines_passed c.args.rows.now c.args.n (length c.loop-i.yielded) c.requires.1.count
+    (YieldsList-end
+    (YieldsList-at c.into_iter-i-iterator.ensures.into_iter_gives
+    (lines_yielded c.args.rows.now c.args.n c.enumerate-i-items.ensures.source c.enumerate-i-items.ensures.count c.take.ensures.source c.take.ensures.count
+    c.split.ensures.rest c.split.ensures.done c.split.ensures.closure (λ x b q k. search (rules, tests))))
+    c.loop-i.yielded c.loop-i.i-iterator c.loop-i.yielded_by c.next.result c.next.new.self c.in-None.is c.next.ensures.steps).1)
