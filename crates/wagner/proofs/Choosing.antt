@@ -6,7 +6,6 @@ use mathlib.Core.List.{List, [], ◌∷◌, Memᴰ}
 use Prim.Native.Nat.{ℕ, ◌≤◌}
 use native.Mathlib.Omega.{arith}
 use lib.IntN.{ℤ}
-use Rattle.std.specs.Option.{unwrap_or}
 use Rattle.lists.specs.Least.{first_least, least_item, least_of}
 use Rattle.lists.specs.Numbers.{numbers}
 use Rattle.lists.proofs.Least.{least_of_congr, least_of-none, first_least-mem}
@@ -43,7 +42,7 @@ chosen-none key [] e u mem = Memᴰ.not-nil mem
 chosen-none key (v ∷ vs) e u mem = cc
 
 -- the least key is that of the item chosen
-pub least_key-of : (key : ℕ → ℕ) (vs : List ℕ) (u : ℕ) → Memᴰ u vs → unwrap_or (least_key key vs) 0 ≡ key (least_of key vs)
+pub least_key-of : (key : ℕ → ℕ) (vs : List ℕ) (u : ℕ) → Memᴰ u vs → least_key key vs ≡ Some (key (least_of key vs))
 unfolding least_key least_of
 least_key-of key [] u mem = absurd (Memᴰ.not-nil mem)
 least_key-of key (v ∷ vs) u mem = refl

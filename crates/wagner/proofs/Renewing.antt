@@ -10,6 +10,7 @@ use native.Mathlib.Decide.{ℕ_discrete}
 use lib.IntN.{ℤ}
 use lib.ListN.{length, get_or, set}
 use lib.Seq.{get_or-set_same, get_or-set_other}
+use Rattle.std.specs.Prelude.{Option, Some}
 use Rattle.std.specs.Option.{unwrap_or}
 use Rattle.lists.proofs.Least.{least_of-mem, least_of_congr}
 use Rattle.branching.specs.declared.placement.Placement.{Placement}
@@ -18,14 +19,14 @@ use Rattle.branching.specs.Unasked.{interval_at, nearest_at, hung_at, placed_at}
 use Rattle.branching.proofs.Nodes.{false-in_tree, node_nodes_in}
 use Rattle.branching.specs.declared.order.Order.TheVariants.{Advance, Closest}
 use Rattle.wagner.specs.Order.{least_key, key_of, key_by}
-use Rattle.wagner.specs.Closeness.{kept_size, kept, kept_of, intervals, RowRight, KeptThree, Changed, AllChanged}
+use Rattle.wagner.specs.Closeness.{places, kept, kept_of, intervals, RowRight, KeptThree, Changed, AllChanged}
 use Rattle.wagner.specs.Closeness.{RowRenewed, Table, KeysNext}
 use Rattle.wagner.proofs.Choosing.{least_key-of}
 
 -- of the first i of some nodes, the places among what is kept of taxon v are written
 module _ (codes : List ℤ) (weights : List ℕ) (m : ℕ) (tree : List ℕ) (v : ℕ) (nodes : List ℕ) where
   pub record Written (i : ℕ) (old new : List ℕ) : Type 0 where
-    pub here : (e : ℕ) → e < kept_size → (k : ℕ) → k < i → e ≡ get_or nodes k 0 → kept new e ≡ interval_at codes weights m tree v e
+    pub here : (e : ℕ) → e < places → (k : ℕ) → k < i → e ≡ get_or nodes k 0 → kept new e ≡ interval_at codes weights m tree v e
     pub else : (e : ℕ) → ((k : ℕ) → k < i → e ≢ get_or nodes k 0) → kept new e ≡ kept old e
 
   -- of none
@@ -53,7 +54,7 @@ module _ (codes : List ℤ) (weights : List ℕ) (m : ℕ) (tree : List ℕ) (v 
           (λ before. omega arith)
 
   -- or has none
-  pub written_past : (i : ℕ) (old new : List ℕ) (c : ℕ) → c ≡ get_or nodes i 0 → Written i old new → kept_size ≤ c
+  pub written_past : (i : ℕ) (old new : List ℕ) (c : ℕ) → c ≡ get_or nodes i 0 → Written i old new → places ≤ c
       → Written (i + 1) old new
   written_past i old new c at w high = record {
     here = λ e low k less one.
@@ -89,26 +90,27 @@ unfolding placed_at hung_at
 added_on codes weights n m tree v zero some = absurd (some refl)
 added_on codes weights n m tree v (suc c) some = refl
 
--- where there is an interval, the least key of the intervals by what is kept is the key of the taxon, if that is right
-key-kept : (codes : List ℤ) (weights : List ℕ) (n m : ℕ) (tree : List ℕ) (v e : ℕ) (places : List ℕ) → Memᴰ e (intervals n tree)
-    → RowRight codes weights n m tree v places
-    → unwrap_or (least_key (kept places) (intervals n tree)) 0 ≡ key_by Closest codes weights n m tree v
+-- where there is an interval, there is a least key of the intervals by what is kept, the key of the taxon if that is right
+key-kept : (codes : List ℤ) (weights : List ℕ) (n m : ℕ) (tree : List ℕ) (v e : ℕ) (own : List ℕ) → Memᴰ e (intervals n tree)
+    → RowRight codes weights n m tree v own
+    → least_key (kept own) (intervals n tree) ≡ Some (key_by Closest codes weights n m tree v)
 unfolding key_by nearest_at
-key-kept codes weights n m tree v e places some right =
+key-kept codes weights n m tree v e own some right =
     let mem : Memᴰ (nearest_at codes weights m n tree v) (intervals n tree) =
     least_of-mem (interval_at codes weights m tree v) (intervals n tree) e some in
     let low = (node_nodes_in tree n (nearest_at codes weights m n tree v) mem).0 in
-    least_key-of (kept places) (intervals n tree) e some
-    ∙ ap (kept places) (least_of_congr (kept places) (interval_at codes weights m tree v) (intervals n tree) (λ c mem. right c mem))
+    least_key-of (kept own) (intervals n tree) e some
+    ∙ ap Some
+    (ap (kept own) (least_of_congr (kept own) (interval_at codes weights m tree v) (intervals n tree) (λ c mem. right c mem))
     ∙ right (nearest_at codes weights m n tree v) mem
-    ∙ sym (added_on codes weights n m tree v (nearest_at codes weights m n tree v) (λ z. omega (arith, low)))
+    ∙ sym (added_on codes weights n m tree v (nearest_at codes weights m n tree v) (λ z. omega (arith, low))))
 
 -- what is kept of a taxon after a placement
-module _ (now : List ℤ) (weights : List ℕ) (n m : ℕ) (few : n ≤ 64) (new : List ℕ) (v : ℕ) (done : Placement) (old places : List ℕ)
-    (three : KeptThree now weights m new v done old places) where
+module _ (now : List ℤ) (weights : List ℕ) (n m : ℕ) (few : n ≤ 64) (new : List ℕ) (v : ℕ) (done : Placement) (old own : List ℕ)
+    (three : KeptThree now weights m new v done old own) where
   -- is right again
   row-again : (codes : List ℤ) (before : List ℕ) → Changed codes now weights n m before new v done → RowRight codes weights n m before v old
-      → RowRight now weights n m new v places
+      → RowRight now weights n m new v own
   row-again codes before changed right c mem =
       by_cases (ℕ_discrete c done.taxon) (λ is. three.here c small (inl is)) (λ nb.
       by_cases (ℕ_discrete c done.htu) (λ is. three.here c small (inr (inl is))) (λ ny.
@@ -119,15 +121,15 @@ module _ (now : List ℤ) (weights : List ℕ) (n m : ℕ) (few : n ≤ 64) (new
       (λ earlier. right c earlier.0 ∙ sym earlier.1)
       (changed.each c mem))))
     where
-      small : c < kept_size
+      small : c < places
       small = omega (arith, (node_nodes_in new n c mem).1)
 
-  -- so is the key
-  pub row_renewed : (r : ℕ) → r ≡ unwrap_or (least_key (kept places) (intervals n new)) 0 → RowRenewed now weights n m new v done old places r
+  -- and there is a key, which is right
+  pub row_renewed : (r : Option ℕ) → r ≡ least_key (kept own) (intervals n new) → RowRenewed now weights n m new v done old own r
   row_renewed r least = record {
-    row = row-again;
+    again = row-again;
     key = λ codes before changed right.
-        least ∙ key-kept now weights n m new v done.taxon places changed.some_interval (row-again codes before changed right);
+        least ∙ key-kept now weights n m new v done.taxon own changed.some_interval (row-again codes before changed right);
   }
 
 -- a placement after which keys and what is kept of the taxa before v are right again
@@ -159,30 +161,34 @@ module _ (now : List ℤ) (weights : List ℕ) (n m : ℕ) (new : List ℕ) (don
         (λ ne. up_to.each codes before changed right u unplaced (omega arith));
   }
 
-  -- what is kept of one taxon more, and its key
-  pub renewed_next : (v : ℕ) (table : List (List ℕ)) (all places : List ℕ) (r : ℕ) → v < length all → v < length table
+  -- what is kept of one taxon more, and its key, which stays where there is no other
+  pub renewed_next : (v : ℕ) (table : List (List ℕ)) (all own : List ℕ) (r : Option ℕ) → v < length all → v < length table
       → RenewedUpTo v table all
-      → RowRenewed now weights n m new v done (kept_of table v) places r → RenewedUpTo (v + 1) (set table v places) (set all v r)
+      → RowRenewed now weights n m new v done (kept_of table v) own r
+      → RenewedUpTo (v + 1) (set table v own) (set all v (unwrap_or r (get_or all v 0)))
   unfolding key_of kept_of
-  renewed_next v table all places r room long up_to row = record {
-    rest = λ w high. get_or-set_other table v w places [] (λ is. omega arith) ∙ up_to.rest w (omega arith);
+  renewed_next v table all own r room long up_to row = record {
+    rest = λ w high. get_or-set_other table v w own [] (λ is. omega arith) ∙ up_to.rest w (omega arith);
     each = λ codes before changed right u unplaced low.
         by_cases
         (ℕ_discrete u v)
-        (λ e. rw (e, get_or-set_same all v r 0 room, get_or-set_same table v places [] long)
-        (own codes before changed right (rw e at unplaced)))
-        (λ ne. rw (get_or-set_other all v u r 0 ne, get_or-set_other table v u places [] ne)
+        (λ e. rw (e, get_or-set_same all v key 0 room, get_or-set_same table v own [] long)
+        (here codes before changed right (rw e at unplaced)))
+        (λ ne. rw (get_or-set_other all v u key 0 ne, get_or-set_other table v u own [] ne)
         (up_to.each codes before changed right u unplaced (omega arith)));
   }
     where
-      own : (codes : List ℤ) (before : List ℕ) → AllChanged codes now weights n m before new done
+      key : ℕ
+      key = unwrap_or r (get_or all v 0)
+
+      here : (codes : List ℤ) (before : List ℕ) → AllChanged codes now weights n m before new done
           → Table Closest codes weights n m before old
-          → Unplaced n new v → (r ≡ key_by Closest now weights n m new v) × RowRight now weights n m new v places
-      own codes before changed right unplaced =
+          → Unplaced n new v → (key ≡ key_by Closest now weights n m new v) × RowRight now weights n m new v own
+      here codes before changed right unplaced =
           let change = changed v unplaced in
           let same : kept_of table v ≡ kept_of old v = up_to.rest v (omega arith) in
-          let here : RowRight codes weights n m before v (kept_of table v) = rw same (right refl v change.before) in
-          (row.key codes before change here, row.row codes before change here)
+          let known : RowRight codes weights n m before v (kept_of table v) = rw same (right refl v change.before) in
+          (ap (λ (r : Option ℕ). unwrap_or r (get_or all v 0)) (row.key codes before change known), row.again codes before change known)
 
   -- all taxa
   pub renewed_all : (keys : List ℕ) (v : ℕ) (table : List (List ℕ)) (all : List ℕ) → v ≡ n + 1 → RenewedUpTo v table all

@@ -73,8 +73,8 @@ pub record UnderWay
     (done : List Placement) : Type 0 where
   pub standing : Standing now weights n m (suc (length done)) (ancestors built.tree)
   pub written : now ≡ with_rows codes (suc n) (drop n (rows_now now n m (ancestors built.tree)))
-  pub list : built.placements ≡ filled most_placements no_placement done
-  pub count : built.count ≡ length done
+  pub list : built.placements.items ≡ filled most_placements no_placement done
+  pub count : built.placements.count ≡ length done
   pub whole : built.length ≡ added_length done
   pub most : built.length ≤ length done * most_difference
   pub known : KeysRight order now weights n m (ancestors built.tree) keys
@@ -123,13 +123,13 @@ module _ (order : Order) (codes : List ℤ) (weights : List ℕ) (n m : ℕ) (le
 
   pub begun_under_way : (keys : List ℕ) → Advancements codes weights m keys → (table : List (List ℕ)) (built : WagnerTree) → RowOne built
       → UnderWay order codes codes weights n m built keys table []
-  unfolding added_length sum_over
+  unfolding added_length sum_over filled
   begun_under_way keys known table built begun =
       record {
         standing = rw begun.tree alone_standing;
         written = rw begun.tree alone_written;
-        list = begun.placements;
-        count = begun.count;
+        list = begun.placements.items;
+        count = begun.placements.count;
         whole = begun.none;
         most = omega (arith, begun.none);
         known = rw begun.tree (alone-keys keys known);
@@ -271,11 +271,11 @@ module _ (order : Order) (codes now : List ℤ) (weights : List ℕ) (n m : ℕ)
           written = rw (tree-is, held)
               (written_next ∙ ap (λ (all : List (List ℤ)). with_rows codes (suc n) (drop n all)) (sym rows_next));
           list =
-              more.placements
-              ∙ ap (λ (p : Placement). set before.placements before.count p) is-ours
-              ∙ ap (λ (all : List Placement). set all before.count ours.placement) w.list
-              ∙ filled-snoc no_placement 63 before.count done ours.placement w.count (omega (arith, w.count));
-          count = omega (arith, more.count, w.count);
+              more.placements.items
+              ∙ ap (λ (p : Placement). set before.placements.items before.placements.count p) is-ours
+              ∙ ap (λ (all : List Placement). set all before.placements.count ours.placement) w.list
+              ∙ filled-snoc no_placement 63 before.placements.count done ours.placement w.count (omega (arith, w.count));
+          count = omega (arith, more.placements.count, w.count);
           whole =
               added ∙ ap (λ (k : ℕ). k + ours.placement.added) w.whole
               ∙ sym (sum_snoc (λ (p : Placement). p.added) done ours.placement);

@@ -26,8 +26,8 @@ wagner_in order codes weights n m = wagner (difference weights) order n (rows_of
 pub record BuiltFrom (order : Order) (codes new : List ℤ) (weights : List ℕ) (n m : ℕ) (r : WagnerTree) : Type 0 where
   pub passed : ask_matrix codes weights n m ≡ Ok tt
   pub tree : ancestors r.tree ≡ (wagner_in order codes weights n m).tree
-  pub placements : r.placements ≡ filled most_placements no_placement (wagner_in order codes weights n m).placements
-  pub count : r.count ≡ length (wagner_in order codes weights n m).placements
+  pub placements : r.placements.items ≡ filled most_placements no_placement (wagner_in order codes weights n m).placements
+  pub count : r.placements.count ≡ length (wagner_in order codes weights n m).placements
   pub matrix : new ≡ matrix_after codes n (wagner_in order codes weights n m)
   pub whole : r.length ≡ wagner_length (difference weights) n (wagner_in order codes weights n m)
 

@@ -1,23 +1,22 @@
 -- For the proofs of the private functions alone; no public contract cites this file.
 -- The interval differences that are kept of each taxon and each interval, and what a placement changes of them.
-use Rattle.std.specs.Prelude.{◌≡◌, ◌≢◌, ◌⊎◌, ℕ, ◌<◌, ℤ, get_or}
+use Rattle.std.specs.Prelude.{◌≡◌, ◌≢◌, ◌⊎◌, ℕ, ◌<◌, ℤ, get_or, Option, Some}
 use mathlib.Core.List.{List, [], Memᴰ}
 use Rattle.matrix.specs.Shape.{row}
 use Rattle.difference.specs.Rows.{difference, node_difference}
 use Rattle.branching.specs.declared.placement.Placement.{Placement}
+pub use Rattle.branching.specs.Ancestors.{places}
+use Rattle.branching.specs.Ancestors.{ancestors}
 use Rattle.branching.specs.Nodes.{nodes_in, other_nodes, Unplaced}
 use Rattle.branching.specs.Unasked.{interval_at}
 use Rattle.branching.specs.declared.order.Order.{Order}
 use Rattle.branching.specs.declared.order.Order.TheVariants.{Closest}
 use Rattle.wagner.specs.Order.{key_by, KeysRight}
-
--- so many places are kept for a taxon, one for each node
-abbrev pub kept_size : ℕ
-kept_size = 128
+use Rattle.wagner.specs.declared.closeness.Made.{Made}
 
 -- what is kept of a taxon and the interval with lower end c
 unfoldable pub kept : List ℕ → ℕ → ℕ
-kept places c = get_or places c 0
+kept own c = get_or own c 0
 
 -- what is kept of taxon v; of row 0 it is of no taxon
 unfoldable pub kept_of : List (List ℕ) → ℕ → List ℕ
@@ -29,12 +28,12 @@ intervals n tree = nodes_in tree (other_nodes n)
 
 -- what is kept of taxon v are its interval differences from the intervals of a tree
 abbrev pub RowRight : List ℤ → List ℕ → ℕ → ℕ → List ℕ → ℕ → List ℕ → Type 0
-RowRight codes weights n m tree v places = (c : ℕ) → Memᴰ c (intervals n tree) → kept places c ≡ interval_at codes weights m tree v c
+RowRight codes weights n m tree v own = (c : ℕ) → Memᴰ c (intervals n tree) → kept own c ≡ interval_at codes weights m tree v c
 
 -- the places of the three nodes of a placement are written, of what is kept of taxon v
 pub record KeptThree (codes : List ℤ) (weights : List ℕ) (m : ℕ) (tree : List ℕ) (v : ℕ) (done : Placement)
     (old new : List ℕ) : Type 0 where
-  pub here : (e : ℕ) → e < kept_size → (e ≡ done.taxon) ⊎ ((e ≡ done.htu) ⊎ (e ≡ done.lower))
+  pub here : (e : ℕ) → e < places → (e ≡ done.taxon) ⊎ ((e ≡ done.htu) ⊎ (e ≡ done.lower))
       → kept new e ≡ interval_at codes weights m tree v e
   pub else : (e : ℕ) → e ≢ done.taxon → e ≢ done.htu → e ≢ done.lower → kept new e ≡ kept old e
 
@@ -53,13 +52,13 @@ pub record Changed (codes now : List ℤ) (weights : List ℕ) (n m : ℕ) (old 
 abbrev pub AllChanged : List ℤ → List ℤ → List ℕ → ℕ → ℕ → List ℕ → List ℕ → Placement → Type 0
 AllChanged codes now weights n m old new done = (v : ℕ) → Unplaced n new v → Changed codes now weights n m old new v done
 
--- after a placement: what is kept of taxon v, and its key, are right again
-pub record RowRenewed (now : List ℤ) (weights : List ℕ) (n m : ℕ) (new : List ℕ) (v : ℕ) (done : Placement) (old places : List ℕ)
-    (r : ℕ) : Type 0 where
-  pub row : (codes : List ℤ) (before : List ℕ) → Changed codes now weights n m before new v done → RowRight codes weights n m before v old
-      → RowRight now weights n m new v places
+-- after a placement: what is kept of taxon v is right again, and there is a key, which is right
+pub record RowRenewed (now : List ℤ) (weights : List ℕ) (n m : ℕ) (new : List ℕ) (v : ℕ) (done : Placement) (old own : List ℕ)
+    (r : Option ℕ) : Type 0 where
+  pub again : (codes : List ℤ) (before : List ℕ) → Changed codes now weights n m before new v done
+      → RowRight codes weights n m before v old → RowRight now weights n m new v own
   pub key : (codes : List ℤ) (before : List ℕ) → Changed codes now weights n m before new v done → RowRight codes weights n m before v old
-      → r ≡ key_by Closest now weights n m new v
+      → r ≡ Some (key_by Closest now weights n m new v)
 
 -- by closeness all that is kept of the taxa that are not placed is right
 abbrev pub Table : Order → List ℤ → List ℕ → ℕ → ℕ → List ℕ → List (List ℕ) → Type 0
@@ -81,3 +80,18 @@ pub record KeysNext
   pub each : (codes : List ℤ) (before : List ℕ) → AllChanged codes now weights n m before new done
       → KeysRight order codes weights n m before keys
       → Table order codes weights n m before old → KeysRight order now weights n m new r × Table order now weights n m new table
+
+-- the same of a placement that was made in a lent matrix: the three places that are written of what is kept of taxon v
+abbrev pub ThreeKept : Made → ℕ → List ℕ → List ℕ → Type 0
+ThreeKept made v old new = KeptThree made.nodes.lent.matrix.now made.nodes.lent.weights.now made.nodes.lent.m
+    (ancestors made.placed.now.tree) v made.placed.now.placement old new
+
+-- what is kept of taxon v made right, with its key
+abbrev pub RowMade : Made → ℕ → List ℕ → List ℕ → Option ℕ → Type 0
+RowMade made v old own r = RowRenewed made.nodes.lent.matrix.now made.nodes.lent.weights.now made.nodes.lent.n made.nodes.lent.m
+    (ancestors made.placed.now.tree) v made.placed.now.placement old own r
+
+-- the keys, and what is kept, made right
+abbrev pub KeysMade : Order → Made → List ℕ → List (List ℕ) → List ℕ → List (List ℕ) → Type 0
+KeysMade order made keys old r table = KeysNext order made.nodes.lent.matrix.now made.nodes.lent.weights.now made.nodes.lent.n
+    made.nodes.lent.m (ancestors made.placed.now.tree) made.placed.now.placement keys old r table

@@ -2,53 +2,60 @@
 // from each interval is kept, and a placement changes it for three intervals alone.
 ghost use Rattle.std.specs.Prelude.{◌≡◌, ◌≤◌};
 ghost use Rattle.matrix.specs.Shape.{most_taxa};
-ghost use Rattle.branching.specs.Ancestors.{ancestors};
-ghost use Rattle.wagner.specs.Order.{least_key};
-ghost use Rattle.wagner.specs.Closeness.{kept, intervals, KeptThree, RowRenewed};
 
-use branching::placement::Placement;
-use branching::tree::Tree;
+use branching::placement::{Placed, Placement};
+use branching::tree::PLACES;
 use difference::nodes::Nodes;
 
-// For each taxon so many places are kept, one for each node.
-pub(crate) const KEPT: usize = 128;
+// A placement that was made on a tree of a lent matrix: the nodes after it, and the tree and the placement.
+#[derive(Clone, Copy)]
+pub(crate) struct Made<'a, 'b> {
+    pub(crate) nodes: Nodes<'a>,
+    pub(crate) placed: &'b Placed,
+    ghost taxon: { 1 ≤ nodes.lent.n },
+    ghost taxa: { nodes.lent.n ≤ most_taxa },
+}
 
-// Keeps the interval differences of taxon v from the three intervals that belong to a placement.
-fn keep_three(places: &mut [u64; KEPT], nodes: &Nodes, tree: &Tree, v: usize, done: Placement)
-    ensures { KeptThree nodes.now.matrix.now nodes.now.weights.now nodes.now.m (ancestors tree.now) v done places.old places.new }
-{
-    for c in [done.lower, done.htu, done.taxon] {
-        if c < KEPT {
-            places[c] = nodes.interval_difference(v, c, tree.ancestor(c));
+impl<'a, 'b> Made<'a, 'b> {
+    ghost use Rattle.branching.specs.Ancestors.{ancestors};
+    ghost use Rattle.wagner.specs.Order.{least_key};
+    ghost use Rattle.wagner.specs.Closeness.{kept, intervals, ThreeKept, RowMade};
+
+    // Kept: no plainer, an interval is a node and its ancestor here as in a placement's own search, which is one line.
+    // Keeps the interval differences of taxon v from the three intervals that belong to the placement, each at the place of its lower end.
+    fn keep_three(&self, v: usize, places: &mut [u64; PLACES])
+        ensures { ThreeKept self.now v places.old places.new }
+    {
+        let tree = &self.placed.tree;
+        let Placement {
+            taxon,
+            lower,
+            htu,
+            ..
+        } = self.placed.placement;
+        for c in [lower, htu, taxon] {
+            if c < PLACES {
+                places[c] = self.nodes.interval_difference(v, c, tree.ancestor(c));
+            }
         }
     }
-}
 
-// The least of what is kept of a taxon and the intervals of a tree, if it has one.
-// Kept: no plainer, one row of `Keys` is lent, with n; a method that writes a row would have to say of all the others that they stay.
-fn least_kept(places: &[u64; KEPT], n: usize, tree: &Tree) -> Option<u64>
-    requires { (1 ≤ n) × (n ≤ most_taxa) }
-    ensures { result ≡ least_key (kept places.now) (intervals n (ancestors tree.now)) }
-{
-    (2..2 * n - 1)
-        .filter(|c| tree.in_tree(*c))
-        .map(|c| places[c])
-        .min()
-}
+    // The least of what is kept of a taxon and the intervals of the tree, if it has one.
+    fn least_kept(&self, places: &[u64; PLACES]) -> Option<u64>
+        ensures { result ≡ least_key (kept places.now) (intervals self.now.nodes.lent.n (ancestors self.now.placed.now.tree)) }
+    {
+        let tree = &self.placed.tree;
+        (2..2 * self.nodes.lent.n - 1)
+            .filter(|c| tree.in_tree(*c))
+            .map(|c| places[c])
+            .min()
+    }
 
-// The key of taxon v after a placement, from what was kept of it before.
-// Kept: no plainer, one row of `Keys` is lent, with n; a method that writes a row would have to say of all the others that they stay.
-pub(crate) fn renewed(
-    places: &mut [u64; KEPT],
-    nodes: &Nodes,
-    n: usize,
-    tree: &Tree,
-    v: usize,
-    done: Placement,
-) -> u64
-    requires { (1 ≤ n) × (n ≤ most_taxa) }
-    ensures { RowRenewed nodes.now.matrix.now nodes.now.weights.now n nodes.now.m (ancestors tree.now) v done places.old places.new result }
-{
-    keep_three(places, nodes, tree, v, done);
-    least_kept(places, n, tree).unwrap_or(0)
+    // Makes right what was kept of taxon v before the placement: its key, if the tree has an interval.
+    pub(crate) fn renew(&self, v: usize, places: &mut [u64; PLACES]) -> Option<u64>
+        ensures { RowMade self.now v places.old places.new result }
+    {
+        self.keep_three(v, places);
+        self.least_kept(places)
+    }
 }

@@ -2,22 +2,19 @@
 ghost use Rattle.std.specs.Prelude.{◌≤◌};
 ghost use Rattle.matrix.specs.Shape.{most_taxa};
 
-use crate::closeness::{KEPT, renewed};
+use crate::closeness::Made;
 use crate::order::{KEYS, advancements};
 use branching::order::Order;
-use branching::placement::Placement;
-use branching::tree::Tree;
+use branching::tree::{PLACES, Tree};
 use difference::nodes::Nodes;
 
-// The order of placing and the number of taxa; the key of each taxon; and by closeness the interval differences that are kept of it.
-// Kept: no plainer, the claims speak of the keys as one list and of the kept differences as one table; an array of structs would be mapped.
+// The order of placing; the key of each taxon; and by closeness the interval differences that are kept of it, by the lower end.
+// Kept: no plainer, the keys of both orders are one list, as `advancements` makes it; the table is read and written by closeness alone.
 #[derive(Drop)]
 pub(crate) struct Keys {
     pub(crate) order: Order,
-    pub(crate) n: usize,
     pub(crate) keys: [u64; KEYS],
-    pub(crate) table: [[u64; KEPT]; KEYS],
-    ghost few: { n ≤ most_taxa },
+    pub(crate) table: [[u64; PLACES]; KEYS],
 }
 
 impl Keys {
@@ -27,59 +24,54 @@ impl Keys {
     ghost use Rattle.branching.specs.Ancestors.{ancestors};
     ghost use Rattle.branching.specs.Nodes.{nodes_out};
     ghost use Rattle.wagner.specs.Order.{key_of, Advancements};
-    ghost use Rattle.wagner.specs.Closeness.{KeysNext};
+    ghost use Rattle.wagner.specs.Closeness.{KeysMade};
     ghost use Rattle.branching.specs.declared.order.Order.TheVariants.{Closest};
 
     // The keys before the first placement: in both orders those of the advancements.
-    // Kept: no plainer, the ghost invariant of `Keys` begins here, so that n has to be known to be at most 64.
-    pub(crate) fn first(order: Order, n: usize, nodes: &Nodes) -> Keys
-        requires { n ≤ most_taxa }
+    pub(crate) fn first(order: Order, nodes: &Nodes) -> Keys
         ensures order { result.order ≡ order }
-        ensures taxa { result.n ≡ n }
-        ensures keys { Advancements nodes.now.matrix.now nodes.now.weights.now nodes.now.m result.keys }
+        ensures keys { Advancements nodes.now.lent.matrix.now nodes.now.lent.weights.now nodes.now.lent.m result.keys }
     {
         Keys {
             order,
-            n,
             keys: advancements(nodes),
-            table: [[0; KEPT]; KEYS],
+            table: [[0; PLACES]; KEYS],
         }
     }
 
-    // The taxon to place next: of those that are not placed the first of least key, if there is one.
-    pub(crate) fn next(&self, tree: &Tree) -> Option<usize>
-        ensures { result ≡ least_item (key_of self.now.keys) (nodes_out (ancestors tree.now) (numbers 1 self.now.n)) }
+    // The taxon to place next: of those of n taxa that are not placed the first of least key, if there is one.
+    pub(crate) fn next(&self, n: usize, tree: &Tree) -> Option<usize>
+        requires { n ≤ most_taxa }
+        ensures { result ≡ least_item (key_of self.now.keys) (nodes_out (ancestors tree.now) (numbers 1 n)) }
     {
-        (1..self.n + 1)
+        (1..n + 1)
             .filter(|v| !tree.in_tree(*v))
             .min_by_key(|v| self.keys[*v])
     }
 
     // Makes the keys by closeness, and what is kept, right after a placement, for each taxon that is not placed.
-    fn renew_closest(&mut self, nodes: &Nodes, tree: &Tree, done: Placement)
+    fn renew_closest(&mut self, made: &Made)
         ensures order { self.new.order ≡ self.old.order }
-        ensures taxa { self.new.n ≡ self.old.n }
-        ensures keys { KeysNext Closest nodes.now.matrix.now nodes.now.weights.now self.old.n nodes.now.m (ancestors tree.now) done
-            self.old.keys self.old.table self.new.keys self.new.table }
+        ensures keys { KeysMade Closest made.now self.old.keys self.old.table self.new.keys self.new.table }
     {
-        for v in 1..self.n + 1 {
-            if !tree.in_tree(v) {
-                self.keys[v] = renewed(&mut self.table[v], nodes, self.n, tree, v, done);
+        for v in 1..made.nodes.lent.n + 1 {
+            if !made.placed.tree.in_tree(v) {
+                let key = made.renew(v, &mut self.table[v]);
+                // Kept: no plainer, `renew` says that there is a key behind each placement: with an `if let` the proof would have a branch more, in which nothing is written.
+                self.keys[v] = key.unwrap_or(self.keys[v]);
             }
         }
     }
 
     // Makes the keys right after a placement: by advancement they stay.
-    // Kept: no plainer, the order is an enum and this its method; one of the two steps does nothing.
-    pub(crate) fn renew(&mut self, nodes: &Nodes, tree: &Tree, done: Placement)
+    // Kept: no plainer, the one place of a build where the orders differ; the match names what each of the two does.
+    pub(crate) fn renew(&mut self, made: &Made)
         ensures order { self.new.order ≡ self.old.order }
-        ensures taxa { self.new.n ≡ self.old.n }
-        ensures keys { KeysNext self.old.order nodes.now.matrix.now nodes.now.weights.now self.old.n nodes.now.m (ancestors tree.now) done
-            self.old.keys self.old.table self.new.keys self.new.table }
+        ensures keys { KeysMade self.old.order made.now self.old.keys self.old.table self.new.keys self.new.table }
     {
         match self.order {
             Order::Advance => {}
-            Order::Closest => self.renew_closest(nodes, tree, done),
+            Order::Closest => self.renew_closest(made),
         }
     }
 }

@@ -3,7 +3,7 @@
 
 pub mod answer;
 pub mod build;
-pub mod closeness;
-pub mod keys;
+mod closeness;
+mod keys;
 pub mod order;
 pub mod records;

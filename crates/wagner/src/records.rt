@@ -9,29 +9,24 @@ use branching::lent::with_records;
 use branching::tree::{PLACES, Tree};
 use difference::nodes::Nodes;
 use matrix::MOST_CHARACTERS;
+use matrix::lent::Lent;
 use std::array;
 
 // The lengths of the branches, by node number: the difference of each row from that of its immediate ancestor, over the first 128 characters.
-fn lengths(matrix: &[i32], weights: &[u8], m: usize, tree: &Tree) -> [u64; PLACES]
-    ensures { LengthsOf matrix.now weights.now m (ancestors tree.now) result }
+fn lengths(lent: &Lent, tree: &Tree) -> [u64; PLACES]
+    ensures { LengthsOf lent.now.matrix.now lent.now.weights.now lent.now.m (ancestors tree.now) result }
 {
-    let m = m.min(MOST_CHARACTERS);
-    let nodes = Nodes { matrix, weights, m };
+    let m = lent.m.min(MOST_CHARACTERS);
+    let nodes = Nodes {
+        lent: Lent { m, ..*lent },
+    };
     array::from_fn(|v| nodes.difference(v, tree.ancestor(v)))
 }
 
 // The records with those of a tree of n taxa written over the first 2n-3: node, immediate ancestor, and length under the codes of the
 // matrix.
-// Kept: no plainer, it is a call for any m, and makes `Nodes` of the first 128 characters itself.
-pub fn branches(
-    matrix: &[i32],
-    weights: &[u8],
-    n: usize,
-    m: usize,
-    tree: Tree,
-    records: [Branch; BRANCHES],
-) -> [Branch; BRANCHES]
-    ensures { result ≡ with_records (length_in matrix.now weights.now m) n (ancestors tree) records }
+pub fn branches(lent: &Lent, tree: Tree, records: [Branch; BRANCHES]) -> [Branch; BRANCHES]
+    ensures { result ≡ with_records (length_in lent.now.matrix.now lent.now.weights.now lent.now.m) lent.now.n (ancestors tree) records }
 {
-    with_records(&tree, n, &lengths(matrix, weights, m, &tree), records)
+    with_records(&tree, lent.n, &lengths(lent, &tree), records)
 }

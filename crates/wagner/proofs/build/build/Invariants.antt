@@ -7,11 +7,10 @@ use Rattle.wagner.proofs.build.build.Given as goal
 abbrev pub invariant-loop-b : goal.invariant-loop-b
 invariant-loop-b l = record {
   order : l.keys.order ≡ l.initial.keys.order;
-  taxa : l.keys.n ≡ l.n;
   size : length l.matrix ≡ length l.initial.matrix;
   way : (done : List Placement) × UnderWay l.initial.keys.order l.initial.matrix l.matrix l.weights l.n l.m l.built
       l.keys.keys l.keys.table done;
 }
 
 abbrev pub decreases-loop-b : goal.decreases-loop-b
-decreases-loop-b l = l.n - l.built.count
+decreases-loop-b l = l.n - l.built.placements.count

@@ -10,8 +10,8 @@ use Rattle.wagner.proofs.order.advancements.Goals as goal
 pub returns : goal.returns
 unfolding key_of
 returns c =
-    let nodes = c.args.nodes.now in
-    let advancement = λ (v : ℕ). node_difference (difference nodes.weights.now) (row nodes.matrix.now nodes.m) v 1 in
+    let lent = c.args.nodes.now.lent in
+    let advancement = λ (v : ℕ). node_difference (difference lent.weights.now) (row lent.matrix.now lent.m) v 1 in
     record {
       each = λ v h.
           ap (λ (keys : List ℕ). get_or keys v 0) (made-map _ advancement _ _ 65 0 c.from_fn.ensures.items (λ v y q k. search rules))

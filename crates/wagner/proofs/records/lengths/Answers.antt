@@ -10,8 +10,8 @@ use Rattle.wagner.proofs.records.lengths.Goals as goal
 
 pub returns : goal.returns
 returns c =
-    let a = c.args in
-    let tree = ancestors a.tree.now in
+    let a = c.args.lent.now in
+    let tree = ancestors c.args.tree.now in
     let length = λ (v : ℕ). node_difference (difference a.weights.now) (row a.matrix.now (min a.m 128)) v (ancestor tree v) in
     record {
       size = c.from_fn.ensures.items.long;

@@ -13,7 +13,7 @@ use Rattle.wagner.proofs.keys.Keys.next.Goals as goal
 pub returns : goal.returns
 unfolding key_of nodes_out
 returns c =
-    let n = c.args.self.now.n in
+    let n = c.args.n in
     let out = λ (v : ℕ). not (in_tree (ancestors c.args.tree.now) v) in
     let key = key_of c.args.self.now.keys in
     min_by_key_is key _ _ (λ x r q k. search rules) _ c.min_by_key.ensures.ran

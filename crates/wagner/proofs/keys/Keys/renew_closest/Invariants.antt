@@ -6,10 +6,11 @@ use Rattle.wagner.proofs.Renewing.{RenewedUpTo}
 use Rattle.wagner.proofs.keys.Keys.renew_closest.Given as goal
 
 abbrev pub invariant-loop-v : goal.invariant-loop-v
-invariant-loop-v l = record {
-  order : l.self.order ≡ l.initial.self.order;
-  taxa : l.self.n ≡ l.initial.self.n;
-  long : length l.self.table ≡ 65;
-  up_to : RenewedUpTo l.nodes.matrix.now l.nodes.weights.now l.initial.self.n l.nodes.m (ancestors l.tree) l.done l.initial.self.table
-      l.v l.self.table l.self.keys;
-}
+invariant-loop-v l =
+    let lent = l.made.nodes.lent in
+    record {
+      order : l.self.order ≡ l.initial.self.order;
+      long : length l.self.table ≡ 65;
+      up_to : RenewedUpTo lent.matrix.now lent.weights.now lent.n lent.m (ancestors l.made.placed.now.tree) l.made.placed.now.placement
+          l.initial.self.table l.v l.self.table l.self.keys;
+    }

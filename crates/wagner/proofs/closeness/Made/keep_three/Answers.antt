@@ -1,20 +1,20 @@
--- `wagner::closeness::keep_three` meets its contract: each of the three places is written, where there is one.
+-- `wagner::closeness::Made::keep_three` meets its contract: each of the three places is written, where there is one.
 use Rattle.std.proofs.Common.{rules, arith, ◌≡◌, refl}
 use Rattle.branching.specs.Unasked.{interval_at}
 use Rattle.wagner.proofs.Renewing.{three_kept, written_more, written_past}
-use Rattle.wagner.proofs.closeness.keep_three.Goals.{then-c-lt-KEPT, else-c-lt-KEPT}
-use Rattle.wagner.proofs.closeness.keep_three.Goals as goal
+use Rattle.wagner.proofs.closeness.Made.keep_three.Goals.{then-c-lt-PLACES, else-c-lt-PLACES}
+use Rattle.wagner.proofs.closeness.Made.keep_three.Goals as goal
 
 pub loop-c-preserved : goal.loop-c-preserved
 unfolding interval_at
 loop-c-preserved c = record {
   nodes = refl;
-  written = elim c.if-c-lt-KEPT.branch [
-    | then-c-lt-KEPT w ↦
+  written = elim c.if-c-lt-PLACES.branch [
+    | then-c-lt-PLACES w ↦
         rw w.places-is
         (written_more _ _ _ _ _ _ _ _ _ _ _ refl c.loop-c.invariant.written (search rules)
         (rw w.ancestor.ensures at w.interval_difference.ensures))
-    | else-c-lt-KEPT w ↦ rw w.places-is (written_past _ _ _ _ _ _ _ _ _ _ refl c.loop-c.invariant.written (omega (arith, w.if-c-lt-KEPT.false)))
+    | else-c-lt-PLACES w ↦ rw w.places-is (written_past _ _ _ _ _ _ _ _ _ _ refl c.loop-c.invariant.written (omega (arith, w.if-c-lt-PLACES.false)))
   ];
 }
 

@@ -1,4 +1,4 @@
--- `wagner::closeness::least_kept` meets its contract.
+-- `wagner::closeness::Made::least_kept` meets its contract.
 use Rattle.std.proofs.Common.{rules, arith, sym, ◌∙◌, ap, ◌-◌, ◌*◌, ℕ}
 use Rattle.std.proofs.lemmas.Iterator.{YieldsList-from_range, YieldsList-from_map}
 use Rattle.std.proofs.lemmas.Iterator.Adapters.{option_map_id}
@@ -9,13 +9,13 @@ use Rattle.wagner.specs.Order.{least_key}
 use Rattle.wagner.specs.Closeness.{kept}
 use Rattle.branching.proofs.Ranges.{filter-range}
 use Rattle.wagner.proofs.LeastKey.{least_from_min}
-use Rattle.wagner.proofs.closeness.least_kept.Goals as goal
+use Rattle.wagner.proofs.closeness.Made.least_kept.Goals as goal
 
 pub returns : goal.returns
 unfolding kept nodes_in other_nodes
 returns c =
-    let n = c.args.n in
-    let tree = ancestors c.args.tree.now in
+    let n = c.args.self.now.nodes.lent.n in
+    let tree = ancestors c.args.self.now.placed.now.tree in
     let key = kept c.args.places.now in
     sym (option_map_id c.min.result)
     ∙ min_from_yields_List {v = λ (x : ℕ). x} _ _ c.min.ensures.ran
