@@ -11,10 +11,9 @@ use Rattle.branching.specs.Asking.{ask_branching}
 use Rattle.branching.proofs.Lending.{places-ancestors}
 use Rattle.branching.proofs.Test.{branching_iff}
 use Rattle.branching.proofs.Walks.{branching-rooted}
-use Rattle.fitting.specs.Calls.{ask_fit, TreeFitted}
+use Rattle.fitting.specs.Calls.{Low, High, Chosen, ask_fit, TreeFitted}
 use Rattle.fitting.specs.Handing.{FitHanded, NotFitted}
 use Rattle.fitting.specs.declared.whole.Fit.{Fit}
-use Rattle.fitting.specs.declared.whole.Which.TheVariants.{Low, High, Chosen}
 use Rattle.fitting.proofs.Passed.{branching_passed, records_passed, lent_test}
 use Rattle.fitting.proofs.SameTree.{fit_same, written_same}
 use Rattle.fitting.proofs.Handed.{handed_back_lem}

@@ -1,6 +1,8 @@
 -- The columns of a lent matrix are its characters, and their lengths under the chosen states stay small.
-use Rattle.std.proofs.Common.{◌≡◌, ℕ, suc, ◌+◌, ◌-◌, ◌*◌, ◌<◌, ◌≤◌, true, List, length, get_or, ℤ, pos, sym, ap, ◌∙◌, mul-le-mul, arith}
+use Rattle.std.specs.Bool.{then_some}
+use Rattle.std.proofs.Common.{Option, Some, ◌≡◌, ℕ, suc, ◌+◌, ◌-◌, ◌*◌, ◌<◌, ◌≤◌, true, List, length, get_or, ℤ, pos, sym, ap, ◌∙◌, mul-le-mul, arith, le-leb}
 use mathlib.Core.Logic.{by_cases}
+use borrow.Author.Tests.{lt-leb}
 use native.Mathlib.Decide.{dec_le}
 use Rattle.lists.specs.Numbers.{numbers}
 use Rattle.lists.specs.Sums.{sum_over}
@@ -51,10 +53,15 @@ module _ (codes : List ℤ) (n m : ℕ) (lent : LentMatrix codes n m) where
       (every_at in_range (row codes m v) (lent.known v l h) (j - 1) (pos 0) below)
 
   -- so a column has the codes of a character
-  pub column-codes : (j : ℕ) → 1 ≤ j → j ≤ m → (column : List ℤ) → Column codes n j column → Codes rows n j column
+  pub column-codes : (j : ℕ) → 1 ≤ j → j ≤ m → (column : List (Option ℤ)) → Column codes n j column → Codes rows n j column
   column-codes j first last column is = record {
     taxon = lent.taxon;
-    are = λ v l h. let few = lent.taxa in is.are v (omega arith) h ∙ sym (character-code v j l h first last);
+    are = λ v l h.
+        let few = lent.taxa in
+        is.are v (omega arith)
+        ∙ ap (λ t. then_some t (get_or codes (row_start v + (j - 1)) (pos 0))) (le-leb v n h)
+        ∙ ap (λ (z : ℤ). Some z) (sym (character-code v j l h first last));
+    none = λ v l h. is.are v h ∙ ap (λ t. then_some t (get_or codes (row_start v + (j - 1)) (pos 0))) (lt-leb v n l);
     known = λ v l h. character-known v j l h first last;
   }
 

@@ -1,5 +1,5 @@
 -- A matrix fitted character after character: what is written and summed with one character more.
-use Rattle.std.proofs.Common.{◌≡◌, ℕ, ◌+◌, ◌-◌, ◌*◌, ◌<◌, ◌≤◌, Bool, true, false, ◌||◌, ltb, List, [], ◌∷◌, replicate, ℤ, sym, refl, ap, ◌∙◌, ap₂, mul-pos, mul-zero, arith, ltb-false, ltb-true, lt-ltb}
+use Rattle.std.proofs.Common.{Option, ◌≡◌, ℕ, ◌+◌, ◌-◌, ◌*◌, ◌<◌, ◌≤◌, Bool, true, false, ◌||◌, ltb, List, [], ◌∷◌, replicate, ℤ, sym, refl, ap, ◌∙◌, ap₂, mul-pos, mul-zero, arith, ltb-false, ltb-true, lt-ltb}
 use Rattle.lists.specs.Numbers.{numbers}
 use Rattle.lists.specs.Over.{stripes}
 use Rattle.lists.specs.Sums.{sum_over}
@@ -18,12 +18,10 @@ use Rattle.branching.proofs.Walks.{branching-rooted}
 use Rattle.fitting.specs.Assignments.{character, branch_length}
 use Rattle.fitting.specs.Fit.{chosen_state, states_in, fitted_length, marked}
 use Rattle.fitting.specs.Steps.{Column, Fits, states_at}
-use Rattle.fitting.specs.Calls.{no_branch, branch_at, state_in, states_written}
+use Rattle.fitting.specs.Calls.{Which, Low, High, Chosen, no_branch, branch_at, state_in, states_written}
 use Rattle.fitting.specs.Lists.{with_column, fitted_branch, marks_in, Lengthened, Written}
 use Rattle.fitting.specs.declared.characters.States.{States}
 use Rattle.fitting.specs.declared.whole.BranchFit.{BranchFit}
-use Rattle.fitting.specs.declared.whole.Which.{Which}
-use Rattle.fitting.specs.declared.whole.Which.TheVariants.{Low, High, Chosen}
 use Rattle.lists.proofs.Filling.{sum_next}
 use Rattle.fitting.proofs.Columns.{column-codes, character-known}
 use Rattle.fitting.proofs.Rewriting.{written_none, written_next}
@@ -135,7 +133,7 @@ module _ (matrix : List ℤ) (weights : List ℕ) (n m : ℕ) (tree : List ℕ) 
         rw (length-numbers 1 k) at most
 
 -- one character more
-module _ (matrix : List ℤ) (weights : List ℕ) (n m j : ℕ) (first : 1 ≤ j) (last : j ≤ m) (tree : List ℕ) (codes : List ℤ)
+module _ (matrix : List ℤ) (weights : List ℕ) (n m j : ℕ) (first : 1 ≤ j) (last : j ≤ m) (tree : List ℕ) (codes : List (Option ℤ))
     (column : Column matrix n j codes) (states : List States) (fits : Fits n tree codes states) where
   -- the states found
   states-are : branching_within n tree ≡ true → LentMatrix matrix n m → (v : ℕ) → 1 ≤ v → v ≤ last_node n

@@ -14,10 +14,8 @@ use Rattle.fitting.specs.Sets.{In}
 use Rattle.fitting.specs.Assignments.{branch_length, total}
 use Rattle.fitting.specs.Fit.{chosen_state, range, states_in, fitted_length, fitted_total}
 use Rattle.fitting.specs.Rival.{FitIsLeast}
-use Rattle.fitting.specs.Calls.{branch_at, state_in, states_written, FitOf}
+use Rattle.fitting.specs.Calls.{Which, Low, High, Chosen, branch_at, state_in, states_written, FitOf}
 use Rattle.fitting.specs.Handing.{state_at, handed_states, HandedBack}
-use Rattle.fitting.specs.declared.whole.Which.{Which}
-use Rattle.fitting.specs.declared.whole.Which.TheVariants.{Low, High, Chosen}
 use Rattle.fitting.specs.declared.whole.Fit.{Fit}
 use Rattle.fitting.proofs.Cases.{either}
 use Rattle.fitting.proofs.Gathering.{chosen_is}

@@ -12,6 +12,7 @@ pub mod Rewriting
 pub mod Gathering
 pub mod Shapes
 pub mod Handed
+pub mod Adding
 pub mod Answered
 pub mod NodeRange
 pub mod Passed

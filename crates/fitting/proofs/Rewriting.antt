@@ -10,9 +10,8 @@ use Rattle.lists.proofs.Over.{over_nothing}
 use Rattle.matrix.specs.Shape.{columns, row_start}
 use Rattle.matrix.specs.NodeRows.{with_rows}
 use Rattle.fitting.specs.Fit.{states_in}
-use Rattle.fitting.specs.Calls.{state_in, states_written}
+use Rattle.fitting.specs.Calls.{Which, state_in, states_written}
 use Rattle.fitting.specs.Lists.{with_column}
-use Rattle.fitting.specs.declared.whole.Which.{Which}
 
 -- stripes without items
 empty_stripes : (vs : List ℕ) (place : ℕ) (old : List ℤ) → stripes columns place (map (λ (v : ℕ). []) vs) old ≡ old

@@ -12,10 +12,9 @@ use Rattle.fitting.specs.Clades.{Clade, above, clade_at, clades_below}
 use Rattle.fitting.specs.Character.{value_at, chosen, ranges}
 use Rattle.fitting.specs.Assignments.{character, branch_length, total}
 use Rattle.fitting.specs.Fit.{chosen_state, range, states_in, fitted_length, fitted_total, marked}
-use Rattle.fitting.specs.Calls.{state_in, states_written, FitOf}
+use Rattle.fitting.specs.Calls.{Which, state_in, states_written, FitOf}
 use Rattle.matrix.specs.NodeRows.{with_rows}
 use Rattle.fitting.specs.declared.whole.Fit.{Fit}
-use Rattle.fitting.specs.declared.whole.Which.{Which}
 use Rattle.fitting.specs.declared.spans.Span.{Span}
 use Rattle.fitting.specs.declared.characters.States.{States}
 

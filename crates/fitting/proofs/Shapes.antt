@@ -1,5 +1,5 @@
--- The fit of a tree put together from what is written and from its branches; and when its lists have the matrix's shape.
-use Rattle.std.proofs.Common.{◌≡◌, ℕ, ◌-◌, ◌*◌, ◌^◌, ◌<◌, ◌≤◌, true, false, eqb, List, length, ℤ, sym, refl, ap, ◌∙◌, true≢false, arith, eq-eqb, eqb-true}
+-- The fit of a tree put together from what is written and from its branches; and when the matrix and its lists have their shape.
+use Rattle.std.proofs.Common.{◌≡◌, ℕ, ◌-◌, ◌*◌, ◌^◌, ◌<◌, ◌≤◌, true, false, eqb, List, length, ℤ, sym, ap, ◌∙◌, true≢false, arith, eq-eqb, eqb-true}
 use mathlib.Core.Bool.{and-eq-true_iff}
 use Rattle.lists.specs.Sums.{sum_over}
 use Rattle.lists.specs.Numbers.{numbers}
@@ -14,73 +14,64 @@ use Rattle.branching.specs.Nodes.{other_nodes}
 use Rattle.branching.specs.Within.{branching_within}
 use Rattle.fitting.specs.Fit.{fitted_length, fitted_total}
 use Rattle.fitting.specs.Calls.{branch_at, lists_full, FitOf, TreeFitted}
-use Rattle.fitting.specs.Lists.{Written, SumOf, fit_shapes}
+use Rattle.fitting.specs.Lists.{Written, SumOf, matrix_shaped}
 use Rattle.fitting.specs.declared.whole.BranchFit.{BranchFit}
 use Rattle.fitting.specs.declared.whole.Fit.{Fit}
 use Rattle.fitting.proofs.Matrix.EachFitted.{lengths-total}
 use Rattle.fitting.proofs.Pass.Standing.{taxa-most}
 use Rattle.fitting.proofs.Gathering.{length_most}
 
--- what lists of the right shape are
-pub record Shaped (matrix n m low high chosen : ℕ) : Type 0 where
+-- what a matrix of the right shape tells
+pub record Shaped (matrix n m : ℕ) : Type 0 where
   pub some : 1 ≤ n
   pub taxa : n ≤ 64
   pub characters : m ≤ 128
   pub is_matrix : matrix ≡ matrix_size
-  pub is_low : low ≡ matrix_size
-  pub is_high : high ≡ matrix_size
-  pub is_chosen : chosen ≡ matrix_size
 
 -- the test tells so
-pub shapes_true : (matrix n m low high chosen : ℕ) → fit_shapes matrix n m low high chosen ≡ true → Shaped matrix n m low high chosen
-unfolding fit_shapes within_limits lists_full
-shapes_true matrix n m low high chosen e =
-    let a = (and-eq-true_iff (within_limits n m) _).0 e in
-    let b = (and-eq-true_iff (eqb matrix matrix_size) _).0 a.1 in
-    let c = (and-eq-true_iff (eqb low matrix_size) _).0 b.1 in
-    let d = (and-eq-true_iff (eqb high matrix_size) (eqb chosen matrix_size)).0 c.1 in
-    let limits = (and-eq-true_iff (one_to 64 n) (one_to 128 m)).0 a.0 in
+pub shaped : (matrix n m : ℕ) → matrix_shaped matrix n m ≡ true → Shaped matrix n m
+unfolding matrix_shaped within_limits
+shaped matrix n m e =
+    let both = (and-eq-true_iff (within_limits n m) _).0 e in
+    let limits = (and-eq-true_iff (one_to 64 n) (one_to 128 m)).0 both.0 in
     record {
       some = (one_to-true 64 n limits.0).0;
       taxa = (one_to-true 64 n limits.0).1;
       characters = (one_to-true 128 m limits.1).1;
-      is_matrix = eqb-true matrix matrix_size b.0;
-      is_low = eqb-true low matrix_size c.0;
-      is_high = eqb-true high matrix_size d.0;
-      is_chosen = eqb-true chosen matrix_size d.1;
+      is_matrix = eqb-true matrix matrix_size both.1;
     }
 
--- lists of the right shape beside a lent matrix pass the test
-pub true_shapes : (matrix low high chosen : List ℤ) (n m : ℕ) → LentMatrix matrix n m → length low ≡ matrix_size → length high ≡ matrix_size
-    → length chosen ≡ matrix_size → fit_shapes (length matrix) n m (length low) (length high) (length chosen) ≡ true
-unfolding fit_shapes within_limits lists_full
-true_shapes matrix low high chosen n m lent l h c =
-    rw (
-      true-one_to 64 n lent.taxon lent.taxa,
-      true-one_to 128 m lent.character lent.characters,
-      eq-eqb (length matrix) matrix_size lent.full,
-      eq-eqb (length low) matrix_size l,
-      eq-eqb (length high) matrix_size h,
-      eq-eqb (length chosen) matrix_size c,
-    )
+-- a lent matrix passes the test
+pub lent_shaped : (matrix : List ℤ) (n m : ℕ) → LentMatrix matrix n m → matrix_shaped (length matrix) n m ≡ true
+unfolding matrix_shaped within_limits
+lent_shaped matrix n m lent =
+    rw (true-one_to 64 n lent.taxon lent.taxa, true-one_to 128 m lent.character lent.characters, eq-eqb (length matrix) matrix_size lent.full)
 
--- so do lists that are known to have it
-pub true_shape : (matrix : List ℤ) (n m : ℕ) → LentMatrix matrix n m → fit_shapes (length matrix) n m matrix_size matrix_size matrix_size ≡ true
-unfolding fit_shapes within_limits lists_full
-true_shape matrix n m lent =
-    rw (
-      true-one_to 64 n lent.taxon lent.taxa,
-      true-one_to 128 m lent.character lent.characters,
-      eq-eqb (length matrix) matrix_size lent.full,
-      eq-eqb matrix_size matrix_size refl,
-    )
+-- three lists of the matrix's size
+pub sizes : (low high chosen : ℕ) → lists_full low high chosen ≡ true → (low ≡ matrix_size) × (high ≡ matrix_size) × (chosen ≡ matrix_size)
+unfolding lists_full
+sizes low high chosen e =
+    let a = (and-eq-true_iff (eqb low matrix_size) _).0 e in
+    let b = (and-eq-true_iff (eqb high matrix_size) (eqb chosen matrix_size)).0 a.1 in
+    (eqb-true low matrix_size a.0, eqb-true high matrix_size b.0, eqb-true chosen matrix_size b.1)
 
--- where the shapes are not right nothing is promised
-pub not-fitted : (matrix low high chosen : List ℤ) (weights : List ℕ) (n m : ℕ) (tree : List ℕ) (fit : Fit)
-    → fit_shapes (length matrix) n m (length low) (length high) (length chosen) ≡ false
-    → TreeFitted matrix weights n m tree low low high high chosen chosen fit
-not-fitted matrix low high chosen weights n m tree fit e = record {
-  fitted = λ branches lent weighed l h c. absurd (true≢false (sym (true_shapes matrix low high chosen n m lent l h c) ∙ e));
+-- they pass the test
+full_lists : (low high chosen : ℕ) → low ≡ matrix_size → high ≡ matrix_size → chosen ≡ matrix_size → lists_full low high chosen ≡ true
+unfolding lists_full
+full_lists low high chosen l h c = rw (eq-eqb low matrix_size l, eq-eqb high matrix_size h, eq-eqb chosen matrix_size c)
+
+-- where the matrix's shape is not right nothing is promised
+pub not_shaped : (matrix low high chosen : List ℤ) (weights : List ℕ) (n m : ℕ) (tree : List ℕ) (fit : Fit)
+    → matrix_shaped (length matrix) n m ≡ false → TreeFitted matrix weights n m tree low low high high chosen chosen fit
+not_shaped matrix low high chosen weights n m tree fit e = record {
+  fitted = λ branches lent weighed l h c. absurd (true≢false (sym (lent_shaped matrix n m lent) ∙ e));
+}
+
+-- nor where a list's size is not
+pub not_full : (matrix low high chosen : List ℤ) (weights : List ℕ) (n m : ℕ) (tree : List ℕ) (fit : Fit)
+    → lists_full (length low) (length high) (length chosen) ≡ false → TreeFitted matrix weights n m tree low low high high chosen chosen fit
+not_full matrix low high chosen weights n m tree fit e = record {
+  fitted = λ branches lent weighed l h c. absurd (true≢false (sym (full_lists _ _ _ l h c) ∙ e));
 }
 
 -- the fit of a tree from what is written and from its branches

@@ -15,13 +15,17 @@ use Rattle.fitting.specs.Fit.{states_in, fitted_length, fitted_total, marked}
 use Rattle.fitting.specs.declared.characters.States.{States}
 use Rattle.fitting.specs.declared.whole.BranchFit.{BranchFit}
 use Rattle.fitting.specs.declared.whole.Fit.{Fit}
-use Rattle.fitting.specs.declared.whole.Which.{Which}
-use Rattle.fitting.specs.declared.whole.Which.TheVariants.{Low, High, Chosen}
 
 -- r is the fitted total of a branching with a lent matrix of n taxa and m characters, by its weights
 pub record TotalOf (codes : List ℤ) (weights : List ℕ) (n m : ℕ) (tree : List ℕ) (r : ℕ) : Type 0 where
   pub is : branching_within n tree ≡ true → LentMatrix codes n m → LentWeights weights m
       → r ≡ fitted_total (weighing weights).step tree (rows_of codes m n) n m
+
+-- which of a node's states: the lowest or the highest of its range, or the chosen one
+pub data Which : Type 0 where
+  Low : Which
+  High : Which
+  Chosen : Which
 
 -- one of the states of a node
 abbrev pub state_in : Which → States → ℤ

@@ -13,9 +13,8 @@ use Rattle.branching.specs.declared.branch.Branch.{Branch}
 use Rattle.branching.specs.Branches.{ancestors_of, lent_branching}
 use Rattle.branching.specs.Asking.{branches_size}
 use Rattle.fitting.specs.Assignments.{character, total, IsAssignment, Occurs}
-use Rattle.fitting.specs.Calls.{states_written, branch_at, FitOf, ask_fit}
+use Rattle.fitting.specs.Calls.{Low, High, Chosen, states_written, branch_at, FitOf, ask_fit}
 use Rattle.fitting.specs.declared.whole.Fit.{Fit}
-use Rattle.fitting.specs.declared.whole.Which.TheVariants.{Low, High, Chosen}
 use Rattle.fitting.specs.Fit.{states_in}
 use Rattle.fitting.specs.declared.characters.States.{States}
 

@@ -13,10 +13,13 @@ use Rattle.branching.specs.Nodes.{other_nodes}
 use Rattle.branching.specs.Within.{branching_within}
 use Rattle.fitting.specs.Fit.{fitted_length, marked}
 use Rattle.fitting.specs.Steps.{states_at}
-use Rattle.fitting.specs.Calls.{no_branch, branch_at, states_written, lists_full}
+use Rattle.fitting.specs.Calls.{Which, Low, High, Chosen, state_in, no_branch, branch_at, states_written}
 use Rattle.fitting.specs.declared.characters.States.{States}
 use Rattle.fitting.specs.declared.whole.BranchFit.{BranchFit}
-use Rattle.fitting.specs.declared.whole.Which.TheVariants.{Low, High, Chosen}
+
+-- what a function says of its answers is that they are one of the states of a node
+abbrev pub Picks : (States → ℤ → Type 0) → Which → Type 0
+Picks says which = (states : States) (r : ℤ) → says states r → r ≡ state_in which states
 
 -- a list of the matrix's shape with a number for each HTU of n taxa written into column j of its row
 unfoldable pub with_column : ℕ → ℕ → (ℕ → ℤ) → List ℤ → List ℤ
@@ -58,7 +61,6 @@ pub record Written (matrix : List ℤ) (weights : List ℕ) (n m k : ℕ) (tree 
       → branch_at branches v ≡ fitted_branch weights tree (rows_of matrix m n) n k v
   pub no_others : (v : ℕ) → (2 ≤ v → v ≤ 2 * n - 2 → ⊥) → branch_at branches v ≡ no_branch
 
--- the lengths of a matrix and of three lists are that of the matrix's shape, and n and m are within their limits
-unfoldable pub fit_shapes : ℕ → ℕ → ℕ → ℕ → ℕ → ℕ → Bool
-fit_shapes matrix n m low high chosen =
-    within_limits n m && (matrix == matrix_size && lists_full low high chosen)
+-- the length of a matrix is that of the matrix's shape, and n and m are within their limits
+unfoldable pub matrix_shaped : ℕ → ℕ → ℕ → Bool
+matrix_shaped matrix n m = within_limits n m && matrix == matrix_size

@@ -1,10 +1,12 @@
 -- For the proofs of the private functions alone; no public contract cites this file.
 -- The passes over a branching in one character, node by node: what each function of a pass promises.
 -- `code` gives the taxa's codes; of a matrix it is `character rows j`.
-use Rattle.std.specs.Prelude.{◌≡◌, ℕ, ◌+◌, ◌-◌, ◌*◌, ◌^◌, ◌<◌, ◌≤◌, true, cond, nat_le, Option, Some, None, List, [], ◌∷◌, ◌++◌, ℤ, pos, slice_index_or}
+use Rattle.std.specs.Bool.{then_some}
+use Rattle.std.specs.Prelude.{◌≡◌, ℕ, ◌+◌, ◌-◌, ◌*◌, ◌^◌, ◌<◌, ◌≤◌, true, nat_le, Option, Some, None, List, [], ◌∷◌, ◌++◌, ℤ, pos, slice_index_or, take}
 use mathlib.Core.List.{flat_map}
+use Rattle.filled.specs.declared.Filled.{Filled}
 use Rattle.lists.specs.Sums.{sum_over}
-use Rattle.matrix.specs.Shape.{row_start, in_range, last_node, weight_of}
+use Rattle.matrix.specs.Shape.{in_range, last_node, weight_of}
 use Rattle.matrix.specs.NodeRows.{rows_of}
 use Rattle.matrix.specs.Questions.{LentMatrix, LentWeights}
 use Rattle.difference.specs.Rows.{lower, higher, apart}
@@ -26,6 +28,11 @@ use Rattle.fitting.specs.declared.characters.States.{States}
 unfoldable pub carried : ℤ → List ℤ → List ℤ
 carried state [] = state ∷ []
 carried state (s ∷ rest) = lower state s ∷ carried (higher state s) rest
+
+-- what is filled afterwards is what was filled before, with a state carried through it
+pub record Carried (before : Filled ℤ 6) (state : ℤ) (after : Filled ℤ 6) : Type 0 where
+  pub count : after.count ≡ before.count + 1
+  pub states : take after.count after.items ≡ carried state (take before.count before.items)
 
 -- r is how far two sets of 32-bit states lie from each other
 pub record GapOf (a b : Span) (r : ℕ) : Type 0 where
@@ -74,18 +81,23 @@ unfoldable pub character_length : List ℕ → List (List ℤ) → ℕ → ℕ �
 character_length tree rows n j =
     sum_over (λ v. apart (chosen_state tree rows n v j) (chosen_state tree rows n (ancestor tree v) j)) (other_nodes n)
 
--- the code of node v in character j if it is one of n taxa; of an HTU, 0
-abbrev pub taxon_code : List ℤ → ℕ → ℕ → ℕ → ℤ
-taxon_code matrix n v j = cond (nat_le v n) (state_at matrix v j) (pos 0)
+-- the code of node v in character j if it is one of n taxa
+abbrev pub taxon_code : List ℤ → ℕ → ℕ → ℕ → Option ℤ
+taxon_code matrix n v j = then_some (nat_le v n) (state_at matrix v j)
+
+-- the code at place v of a list of codes
+abbrev pub code_in : List (Option ℤ) → ℕ → Option ℤ
+code_in codes v = slice_index_or codes v None
 
 -- a list of codes has those of the n taxa in a column of a matrix, by taxon number
-pub record Column (matrix : List ℤ) (n j : ℕ) (codes : List ℤ) : Type 0 where
-  pub are : (v : ℕ) → v ≤ 126 → v ≤ n → slice_index_or codes v (pos 0) ≡ slice_index_or matrix (row_start v + (j - 1)) (pos 0)
+pub record Column (matrix : List ℤ) (n j : ℕ) (codes : List (Option ℤ)) : Type 0 where
+  pub are : (v : ℕ) → v ≤ 126 → code_in codes v ≡ taxon_code matrix n v j
 
--- a list of codes has those of the n taxa in character j, by taxon number, each from -999 to 999
-pub record Codes (rows : List (List ℤ)) (n j : ℕ) (codes : List ℤ) : Type 0 where
+-- a list of codes has those of the n taxa in character j, by taxon number, each from -999 to 999, and of no other node
+pub record Codes (rows : List (List ℤ)) (n j : ℕ) (codes : List (Option ℤ)) : Type 0 where
   pub taxon : 1 ≤ n
-  pub are : (v : ℕ) → 1 ≤ v → v ≤ n → slice_index_or codes v (pos 0) ≡ character rows j v
+  pub are : (v : ℕ) → 1 ≤ v → v ≤ n → code_in codes v ≡ Some (character rows j v)
+  pub none : (v : ℕ) → n < v → v ≤ 126 → code_in codes v ≡ None
   pub known : (v : ℕ) → 1 ≤ v → v ≤ n → in_range (character rows j v) ≡ true
 
 -- what is found of a taxon from the tips up
@@ -102,16 +114,16 @@ pub record PartOf (code : Option ℤ) (a b r : Part) : Type 0 where
 abbrev pub part_at : List Part → ℕ → Part
 part_at parts v = slice_index_or parts v (record { set = record { low = pos 0; high = pos 0 }; cost = 0 })
 
--- of every node below row 1 its set and the least cost of its clade are kept
+-- of every node its set and the least cost of its clade are kept
 abbrev pub PartsAre : List ℕ → ℕ → (ℕ → ℤ) → List Part → Type 0
-PartsAre tree n code parts = (v : ℕ) → 2 ≤ v → v ≤ 2 * n - 2 → part_at parts v ≡ part_for tree n code v
+PartsAre tree n code parts = (v : ℕ) → 1 ≤ v → v ≤ 2 * n - 2 → part_at parts v ≡ part_for tree n code v
 
 -- the pass up
-pub record PartsUp (n : ℕ) (tree : List ℕ) (codes : List ℤ) (parts : List Part) : Type 0 where
+pub record PartsUp (n : ℕ) (tree : List ℕ) (codes : List (Option ℤ)) (parts : List Part) : Type 0 where
   pub are : (rows : List (List ℤ)) (j : ℕ) → Codes rows n j codes → branching_within n tree ≡ true → PartsAre tree n (character rows j) parts
 
 -- the least cost of a character is its length under the chosen states
-pub record LeastCost (n : ℕ) (tree : List ℕ) (codes : List ℤ) (r : ℕ) : Type 0 where
+pub record LeastCost (n : ℕ) (tree : List ℕ) (codes : List (Option ℤ)) (r : ℕ) : Type 0 where
   pub is : (rows : List (List ℤ)) (j : ℕ) → Codes rows n j codes → branching_within n tree ≡ true → r ≡ character_length tree rows n j
 
 -- r is the cost of character j: its length under the chosen states, as often as its weight says
@@ -124,7 +136,7 @@ abbrev pub state_of : Option ℤ → Span → ℤ → ℤ
 state_of (Some code) set above = code
 state_of None set above = nearest_member above set
 
--- the outside of a node, from row 1's code if it hangs from row 1, or from its sister's set and the outside of its ancestor
+-- the outside of a node, from the code of its ancestor where that is a taxon, or from its sister's set and the outside of its ancestor
 abbrev pub outside_from : Option ℤ → Span → Span → Span
 outside_from (Some row1) beside outside = only row1
 outside_from None beside outside = join beside outside
@@ -139,7 +151,7 @@ pub record SeenIs (tree : List ℕ) (rows : List (List ℤ)) (n j v : ℕ) (seen
   pub outside : n < v → seen.outside ≡ outside_of tree n (character rows j) v
 
 -- the pass down
-pub record SeenDown (n : ℕ) (tree : List ℕ) (codes : List ℤ) (parts : List Part) (seen : List Seen) : Type 0 where
+pub record SeenDown (n : ℕ) (tree : List ℕ) (codes : List (Option ℤ)) (parts : List Part) (seen : List Seen) : Type 0 where
   pub are : (rows : List (List ℤ)) (j : ℕ) → Codes rows n j codes → branching_within n tree ≡ true → PartsAre tree n (character rows j) parts
       → (v : ℕ) → 1 ≤ v → v ≤ last_node n → SeenIs tree rows n j v (seen_at seen v)
 
@@ -157,6 +169,6 @@ abbrev pub states_at : List States → ℕ → States
 states_at states v = slice_index_or states v (record { low = pos 0; high = pos 0; chosen = pos 0 })
 
 -- the fit of one character
-pub record Fits (n : ℕ) (tree : List ℕ) (codes : List ℤ) (states : List States) : Type 0 where
+pub record Fits (n : ℕ) (tree : List ℕ) (codes : List (Option ℤ)) (states : List States) : Type 0 where
   pub are : (rows : List (List ℤ)) (j : ℕ) → Codes rows n j codes → branching_within n tree ≡ true
       → (v : ℕ) → 1 ≤ v → v ≤ last_node n → states_at states v ≡ states_in tree rows n v j

@@ -1,6 +1,8 @@
 // The passes over a branching in one character: sets and least costs from the tips up; chosen states and what is outside from row 1 down;
 // ranges from both.
-ghost use Rattle.std.specs.Prelude.{◌≡◌};
+// Kept: no plainer, the plan serves all characters, and each has codes of its own: a struct of both would be made anew for each, to be taken apart in four passes.
+ghost use Rattle.std.specs.Prelude.{◌≡◌, ◌+◌, ◌-◌, ◌^◌, min};
+ghost use Rattle.matrix.specs.Shape.{row_start};
 ghost use Rattle.fitting.specs.Handing.{state_at};
 ghost use Rattle.fitting.specs.Steps.{taxon_code, Column, WeighedOf, PartOf, PartsUp, LeastCost};
 ghost use Rattle.fitting.specs.Steps.{state_of, outside_from, SeenDown, states_with, states_from, Fits};
@@ -8,7 +10,7 @@ ghost use Rattle.fitting.specs.Steps.{state_of, outside_from, SeenDown, states_w
 use crate::planning::{Plan, sister};
 use crate::spans::{Span, gap, join, middle, nearest_member, only};
 use branching::tree::{PLACES, place_of};
-use matrix::rows::row;
+use matrix::COLUMNS;
 use std::array;
 
 // What is found of a node from the tips up: its set, and the least cost of its clade.
@@ -19,7 +21,7 @@ pub struct Part {
 }
 
 // What is found of a node from row 1 down: its chosen state, and the set of all nodes that are not in its clade.
-#[derive(Clone, Copy)]
+#[derive(Clone, Copy, Default)]
 pub struct Seen {
     pub state: i32,
     pub outside: Span,
@@ -33,23 +35,32 @@ pub struct States {
     pub chosen: i32,
 }
 
+// Kept: no plainer, `row_start` ends at the list's end, and here a place beyond the list has to stay beyond it.
+// The place of node v's code in character j in a list of the matrix's shape, or the last of all numbers where it would lie beyond them.
+pub(crate) fn place_of_code(v: usize, j: usize) -> usize
+    ensures { result ≡ min (row_start v + (j - 1)) (2 ^ 64 - 1) }
+{
+    let start = v.saturating_sub(1).saturating_mul(COLUMNS);
+    start.saturating_add(j.saturating_sub(1))
+}
+
 // The code of node v in character j, as far as the matrix goes.
 pub fn code_at(matrix: &[i32], v: usize, j: usize) -> i32
     ensures { result ≡ state_at matrix.now v j }
 {
-    let place = j.saturating_sub(1);
-    row(matrix, j.max(1), v).get(place).copied().unwrap_or(0)
+    matrix.get(place_of_code(v, j)).copied().unwrap_or(0)
 }
 
-// The code of node v in character j if it is one of n taxa; of an HTU, whose row is not read, 0.
-fn taxon_code(matrix: &[i32], n: usize, v: usize, j: usize) -> i32
+// Kept: no plainer, the states of lists of the same shape are read by `code_at` as well, and the plan says how many taxa there are.
+// The code of node v in character j if it is one of n taxa; the row of an HTU is not read.
+fn taxon_code(matrix: &[i32], n: usize, v: usize, j: usize) -> Option<i32>
     ensures { result ≡ taxon_code matrix.now n v j }
 {
-    if v <= n { code_at(matrix, v, j) } else { 0 }
+    (v <= n).then(|| code_at(matrix, v, j))
 }
 
 // The codes of the n taxa in character j; that of taxon v stands at place v.
-pub(crate) fn codes_of(matrix: &[i32], n: usize, j: usize) -> [i32; PLACES]
+pub(crate) fn codes_of(matrix: &[i32], n: usize, j: usize) -> [Option<i32>; PLACES]
     ensures { Column matrix.now n j result }
 {
     array::from_fn(|v| taxon_code(matrix, n, v, j))
@@ -80,22 +91,19 @@ fn part_of(code: Option<i32>, a: Part, b: Part) -> Part
 
 // The pass up: against the walk, so that both descendants of an HTU come before it.
 #[tactic(auto, unfolding(branching::specs::Walks::node_at))]
-fn parts_up(codes: &[i32; PLACES], plan: &Plan) -> [Part; PLACES]
+fn parts_up(codes: &[Option<i32>; PLACES], plan: &Plan) -> [Part; PLACES]
     ensures { PartsUp plan.now.taxa plan.now.tree codes.now result }
 {
     let mut parts = [Part::default(); PLACES];
-    // Kept: no plainer, the invariant reads a node's place in the walk, which `nodes().iter().rev()` doesn't hand out with the node.
-    for i in (0..plan.walk.count).rev() {
-        let v = plan.walk.nodes[i];
-        let pair = plan.below[v];
-        let code = (v <= plan.n).then_some(codes[v]);
-        parts[v] = part_of(code, parts[pair.first], parts[pair.second]);
+    for v in plan.walk.as_slice().iter().rev() {
+        let pair = plan.below[*v];
+        parts[*v] = part_of(codes[*v], parts[pair.first], parts[pair.second]);
     }
     parts
 }
 
 // The least cost of a character, from the pass up alone: that of the clade below row 1, and how far row 1's code lies from its set.
-pub(crate) fn least_cost(codes: &[i32; PLACES], plan: &Plan) -> u64
+pub(crate) fn least_cost(codes: &[Option<i32>; PLACES], plan: &Plan) -> u64
     ensures { LeastCost plan.now.taxa plan.now.tree codes.now result }
 {
     if plan.n < 2 {
@@ -103,7 +111,7 @@ pub(crate) fn least_cost(codes: &[i32; PLACES], plan: &Plan) -> u64
     }
     let parts = parts_up(codes, plan);
     let part = parts[plan.below[1].first];
-    part.cost.wrapping_add(gap(part.set, only(codes[1])))
+    part.cost.wrapping_add(gap(part.set, parts[1].set))
 }
 
 // The chosen state of a node: a taxon's code; of an HTU, which has none, the member of its set nearest to the state chosen above.
@@ -116,12 +124,12 @@ fn state_of(code: Option<i32>, set: Span, above: i32) -> i32
     }
 }
 
-// What is outside of a node's clade: row 1's code if the node hangs from row 1, else the join of its sister's set and what is outside of
-// its ancestor's clade.
-fn outside_of(row1: Option<i32>, beside: Span, outside: Span) -> Span
-    ensures { result ≡ outside_from row1 beside outside }
+// What is outside of a node's clade: the code of the node above if that is a taxon, which is row 1; else the join of its sister's set and
+// what is outside of its ancestor's clade.
+fn outside_of(above: Option<i32>, beside: Span, outside: Span) -> Span
+    ensures { result ≡ outside_from above beside outside }
 {
-    match row1 {
+    match above {
         Some(row1) => only(row1),
         None => join(beside, outside),
     }
@@ -129,26 +137,17 @@ fn outside_of(row1: Option<i32>, beside: Span, outside: Span) -> Span
 
 // The pass down: along the walk, so that the ancestor of each node comes before it.
 #[tactic(auto, unfolding(branching::specs::Walks::node_at))]
-fn seen_down(codes: &[i32; PLACES], plan: &Plan, parts: &[Part; PLACES]) -> [Seen; PLACES]
+fn seen_down(codes: &[Option<i32>; PLACES], plan: &Plan, parts: &[Part; PLACES]) -> [Seen; PLACES]
     ensures { SeenDown plan.now.taxa plan.now.tree codes.now parts.now result }
 {
-    let row1 = codes[1];
-    let none = Seen {
-        state: row1,
-        outside: only(row1),
-    };
-    let mut seen = [none; PLACES];
-    // Kept: no plainer, the invariant reads a node's place in the walk, which `nodes().iter().skip(1)` doesn't hand out with the node.
-    for i in 1..plan.walk.count {
-        let v = plan.walk.nodes[i];
-        let u = place_of(plan.tree.ancestors[v]);
+    let mut seen = [Seen::default(); PLACES];
+    for v in plan.walk.as_slice() {
+        let u = place_of(plan.tree.ancestors[*v]);
         let above = seen[u];
-        let beside = parts[sister(plan.below[u], v)];
-        let code = (v <= plan.n).then_some(codes[v]);
-        let hanging = (u == 1).then_some(row1);
-        seen[v] = Seen {
-            state: state_of(code, parts[v].set, above.state),
-            outside: outside_of(hanging, beside.set, above.outside),
+        let beside = parts[sister(plan.below[u], *v)];
+        seen[*v] = Seen {
+            state: state_of(codes[*v], parts[*v].set, above.state),
+            outside: outside_of(codes[u], beside.set, above.outside),
         };
     }
     seen
@@ -177,15 +176,14 @@ fn states_of(code: Option<i32>, a: Part, b: Part, seen: Seen) -> States
 }
 
 // The fit of one character: the states of each node.
-pub(crate) fn fit_character(codes: &[i32; PLACES], plan: &Plan) -> [States; PLACES]
+pub(crate) fn fit_character(codes: &[Option<i32>; PLACES], plan: &Plan) -> [States; PLACES]
     ensures { Fits plan.now.taxa plan.now.tree codes.now result }
 {
     let parts = parts_up(codes, plan);
     let seen = seen_down(codes, plan, &parts);
-    let (n, below) = (plan.n, &plan.below);
+    let below = &plan.below;
     array::from_fn(|v| {
         let pair = below[v];
-        let own = (v <= n).then_some(codes[v]);
-        states_of(own, parts[pair.first], parts[pair.second], seen[v])
+        states_of(codes[v], parts[pair.first], parts[pair.second], seen[v])
     })
 }

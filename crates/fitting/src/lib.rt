@@ -5,6 +5,7 @@
 pub mod calls;
 pub mod characters;
 pub mod planning;
+pub mod ranges;
 pub mod spans;
 pub mod totals;
 pub mod whole;

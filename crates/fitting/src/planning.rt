@@ -32,7 +32,6 @@ impl Model for Plan {
 
 impl Plan {
     // The plan of a tree of n taxa.
-    // Kept: no plainer, a plan holds the fact from here on; the two others that ask it go over branches or states and have no plan.
     pub(crate) fn of(tree: &Tree, n: usize) -> Plan
         requires { n ≤ 64 }
         ensures { result ≡ record { taxa = n; tree = ancestors tree.now } }
@@ -49,6 +48,7 @@ impl Plan {
 }
 
 // Of the descendants of a node, the other one than v.
+// Kept: no plainer, `Below` stands in branching: a method there would be public for this crate alone.
 #[tactic(auto, unfolding(crate::specs::Plans::sister_in))]
 pub(crate) fn sister(below: Below, v: usize) -> usize
     ensures { result ≡ sister_in below v }

@@ -3,23 +3,24 @@ ghost use Rattle.std.specs.Prelude.{◌≡◌, ◌≤◌, length};
 ghost use Rattle.matrix.specs.Shape.{matrix_size};
 ghost use Rattle.branching.specs.Ancestors.{ancestors};
 ghost use Rattle.fitting.specs.Steps.{states_at};
-ghost use Rattle.fitting.specs.Lists.{with_column, Longer, Lengthened, SumOf, Written, fit_shapes};
-ghost use Rattle.fitting.specs.Calls.{state_in, lists_full, TreeFitted, StatesOf};
+ghost use Rattle.fitting.specs.Lists.{Picks, with_column, Longer, Lengthened, SumOf, Written, matrix_shaped};
+ghost use Rattle.fitting.specs.Calls.{Which, state_in, lists_full, TreeFitted, StatesOf};
 
-use crate::characters::{States, codes_of, fit_character};
+use crate::characters::{States, codes_of, fit_character, place_of_code};
 use crate::planning::Plan;
 use branching::tree::{PLACES, Tree, place_of};
 use difference::codes::part;
 use difference::nodes::Nodes;
+use matrix::MATRIX_SIZE;
+use matrix::lent::Lent;
 use matrix::questions::{last_node, one_to, within_limits};
 use matrix::weights::weight_at;
-use matrix::{COLUMNS, ROWS};
 
 // A branch as far as characters are fitted: its length under the chosen states, and its mark.
 #[derive(Clone, Copy, Default)]
 pub struct BranchFit {
     pub length: u64,
-    // Kept: no plainer, a branch has a length and a mark, and neither is there only if the other is.
+    // Kept: no plainer, request M-107, which is to come, gives a mark a meaning of its own: that no choice of least length has a length of 0 there.
     pub mark: bool,
 }
 
@@ -30,38 +31,22 @@ pub struct Fit {
     pub total: u64,
 }
 
-// Which of a node's states: the lowest or the highest of its range, or the chosen one.
-// Kept: no plainer, the promises of the three lists name the state that each holds by it (`states_written`), where a closure would be a second name.
-#[derive(Clone, Copy, PartialEq, Eq)]
-pub enum Which {
-    Low,
-    High,
-    Chosen,
-}
-
-impl States {
-    // One of a node's states.
-    // Kept: no plainer, the one place that goes by the state that is wanted.
-    pub fn get(self, which: Which) -> i32
-        ensures { result ≡ state_in which self }
-    {
-        match which {
-            Which::Low => self.low,
-            Which::High => self.high,
-            Which::Chosen => self.chosen,
-        }
-    }
-}
-
 // Writes one of the states of each HTU into column j of its row.
 #[tactic(auto, unfolding(matrix::specs::Shape::last_node))]
-fn write_column(out: &mut [i32], n: usize, j: usize, states: &[States; PLACES], which: Which)
-    requires { (length out.old ≡ matrix_size) × (1 ≤ n) × (n ≤ 64) × (1 ≤ j) × (j ≤ 128) }
-    ensures { out.new ≡ with_column n j (λ v. state_in which (states_at states.now v)) out.old }
+fn write_column<F: Fn(States) -> i32>(
+    out: &mut [i32],
+    plan: &Plan,
+    j: usize,
+    states: &[States; PLACES],
+    state: F,
+)
+    requires callable { F.IsAlwaysCallable state }
+    requires shape { (length out.old ≡ matrix_size) × (1 ≤ plan.now.taxa) × (1 ≤ j) × (j ≤ 128) }
+    ensures { (which : Which) → Picks (F.post state) which
+        → out.new ≡ with_column plan.now.taxa j (λ v. state_in which (states_at states.now v)) out.old }
 {
-    for v in n + 1..last_node(n) + 1 {
-        let place = (v - 1) * COLUMNS + (j - 1);
-        out[place] = states[v].get(which);
+    for v in plan.n + 1..last_node(plan.n) + 1 {
+        out[place_of_code(v, j)] = state(states[v]);
     }
 }
 
@@ -78,6 +63,7 @@ fn lengthened(branch: BranchFit, weight: u8, own: States, above: States) -> Bran
 }
 
 // Adds one character more, of this weight, to the branches of a tree.
+// Kept: no plainer, a node's number is read for its ancestor and its states as well as for its branch.
 #[tactic(auto, unfolding(matrix::specs::Shape::last_node))]
 fn add_lengths(
     branches: &mut [BranchFit; PLACES],
@@ -95,19 +81,16 @@ fn add_lengths(
 
 // The lengths of the branches together.
 #[tactic(auto, unfolding(matrix::specs::Shape::last_node))]
-fn sum_lengths(branches: &[BranchFit; PLACES], n: usize) -> u64
-    requires { n ≤ 64 }
-    ensures { SumOf n branches.now result }
+fn sum_lengths(branches: &[BranchFit; PLACES], plan: &Plan) -> u64
+    ensures { SumOf plan.now.taxa branches.now result }
 {
-    let mut sum = 0u64;
-    for branch in &branches[2..last_node(n) + 1] {
-        sum = sum.wrapping_add(branch.length);
-    }
-    sum
+    branches[2..last_node(plan.n) + 1]
+        .iter()
+        .fold(0, |sum, branch| sum.wrapping_add(branch.length))
 }
 
 // Fits character after character: writes the states of the HTUs, and gives the branches with their lengths and marks.
-// Kept: interface, the C call `wagner_fit` lends three lists, and they are written where they are lent.
+// Kept: no plainer, each promise of a struct of lists to be written would have to say that it lends the same ones still, as `Puts` does of a listing.
 fn fit_columns(
     nodes: &Nodes,
     plan: &Plan,
@@ -117,83 +100,83 @@ fn fit_columns(
 ) -> [BranchFit; PLACES]
     requires some { 1 ≤ plan.now.taxa }
     requires state_lists { (length low.old ≡ matrix_size) × (length high.old ≡ matrix_size) × (length chosen.old ≡ matrix_size) }
-    ensures { Written nodes.now.matrix.now nodes.now.weights.now plan.now.taxa nodes.now.m nodes.now.m plan.now.tree low.old low.new high.old high.new chosen.old chosen.new result }
+    ensures { Written nodes.now.lent.matrix.now nodes.now.lent.weights.now plan.now.taxa nodes.now.lent.m nodes.now.lent.m plan.now.tree low.old low.new high.old high.new chosen.old chosen.new result }
 {
     let mut branches = [BranchFit::default(); PLACES];
-    for j in 1..nodes.m + 1 {
-        let codes = codes_of(nodes.matrix, plan.n, j);
+    for j in 1..nodes.lent.m + 1 {
+        let codes = codes_of(nodes.lent.matrix, plan.n, j);
         let states = fit_character(&codes, plan);
         add_lengths(
             &mut branches,
             plan,
-            weight_at(nodes.weights, j - 1),
+            weight_at(nodes.lent.weights, j - 1),
             &states,
         );
-        write_column(low, plan.n, j, &states, Which::Low);
-        write_column(high, plan.n, j, &states, Which::High);
-        write_column(chosen, plan.n, j, &states, Which::Chosen);
+        write_column(low, plan, j, &states, |of_node| of_node.low);
+        write_column(high, plan, j, &states, |of_node| of_node.high);
+        write_column(chosen, plan, j, &states, |of_node| of_node.chosen);
     }
     branches
 }
 
 // Whether three lists have the matrix's size.
+// Kept: interface, it is promised of any three sizes.
 #[tactic(auto, unfolding(crate::specs::Calls::lists_full))]
 pub fn lists_full(low: usize, high: usize, chosen: usize) -> bool
     ensures { result ≡ lists_full low high chosen }
 {
-    let size = ROWS * COLUMNS;
-    low == size && high == size && chosen == size
+    [low, high, chosen] == [MATRIX_SIZE; 3]
 }
 
-// Whether a matrix and three lists have the matrix's shape, and n and m are within their limits.
-#[tactic(auto, unfolding(crate::specs::Lists::fit_shapes))]
-fn fit_shapes(matrix: usize, n: usize, m: usize, low: usize, high: usize, chosen: usize) -> bool
-    ensures { result ≡ fit_shapes matrix n m low high chosen }
+// Whether a matrix has its shape, and n and m are within their limits.
+#[tactic(auto, unfolding(crate::specs::Lists::matrix_shaped))]
+fn matrix_shaped(lent: &Lent) -> bool
+    ensures { result ≡ matrix_shaped (length lent.now.matrix.now) lent.now.n lent.now.m }
 {
-    within_limits(n, m) && matrix == ROWS * COLUMNS && lists_full(low, high, chosen)
+    within_limits(lent.n, lent.m) && lent.matrix.len() == MATRIX_SIZE
 }
 
 // Fits a tree that is a branching, with a lent matrix that no question refuses, and writes the states of its HTUs into three lists of
 // the matrix's shape.
-// Kept: no plainer, the matrix, n and m are taken as they are lent, since it is here that their sizes are tested; behind it `Nodes` carries them.
+// Kept: no plainer, each promise of a struct of lists to be written would have to say that it lends the same ones still, as `Puts` does of a listing.
+// Kept: interface, a call that could not fail still cannot: where nothing was asked it answers zeros.
 pub fn fit_tree(
-    matrix: &[i32],
-    weights: &[u8],
-    n: usize,
-    m: usize,
+    lent: &Lent,
     tree: &Tree,
     low: &mut [i32],
     high: &mut [i32],
     chosen: &mut [i32],
 ) -> Fit
-    ensures { TreeFitted matrix.now weights.now n m (ancestors tree.now) low.old low.new high.old high.new chosen.old chosen.new result }
+    ensures { TreeFitted lent.now.matrix.now lent.now.weights.now lent.now.n lent.now.m (ancestors tree.now) low.old low.new high.old high.new chosen.old chosen.new result }
 {
-    if !fit_shapes(matrix.len(), n, m, low.len(), high.len(), chosen.len()) {
+    if !matrix_shaped(lent) {
         return Fit::default();
     }
-    let plan = Plan::of(tree, n);
-    let nodes = Nodes { matrix, weights, m };
+    if !lists_full(low.len(), high.len(), chosen.len()) {
+        return Fit::default();
+    }
+    let plan = Plan::of(tree, lent.n);
+    let nodes = Nodes { lent: *lent };
     let branches = fit_columns(&nodes, &plan, low, high, chosen);
     Fit {
         branches,
-        total: sum_lengths(&branches, n),
+        total: sum_lengths(&branches, &plan),
     }
 }
 
 // The states of node v in character j, of a tree that is a branching, with a lent matrix that no question refuses.
-// Kept: no plainer, the matrix, n and m are taken as they are lent, since it is here that their sizes are tested.
-pub fn states_at(matrix: &[i32], n: usize, m: usize, tree: &Tree, v: usize, j: usize) -> States
-    ensures { StatesOf matrix.now n m (ancestors tree.now) v j result }
+// Kept: interface, a call that could not fail still cannot: where nothing was asked it answers zeros.
+pub fn states_at(lent: &Lent, tree: &Tree, v: usize, j: usize) -> States
+    ensures { StatesOf lent.now.matrix.now lent.now.n lent.now.m (ancestors tree.now) v j result }
 {
-    let size = ROWS * COLUMNS;
-    if !fit_shapes(matrix.len(), n, m, size, size, size) {
+    if !matrix_shaped(lent) {
         return States::default();
     }
-    if !one_to(m, j) {
+    if !one_to(lent.m, j) {
         return States::default();
     }
     if PLACES <= v {
         return States::default();
     }
-    fit_character(&codes_of(matrix, n, j), &Plan::of(tree, n))[v]
+    fit_character(&codes_of(lent.matrix, lent.n, j), &Plan::of(tree, lent.n))[v]
 }

@@ -1,5 +1,5 @@
 -- Where each node of a branching of two taxa or more hangs, and its clade as a part of the whole.
-use Rattle.std.proofs.Common.{◌≡◌, ℕ, zero, suc, ◌+◌, ◌-◌, ◌*◌, ◌<◌, ◌≤◌, List, [], ◌∷◌, sym, refl, ap, ◌∙◌, subst, ap₂, ⊎_elim, arith}
+use Rattle.std.proofs.Common.{◌≡◌, ℕ, zero, suc, ◌+◌, ◌-◌, ◌*◌, ◌<◌, ◌≤◌, List, [], ◌∷◌, map, sym, refl, ap, ◌∙◌, subst, ap₂, ⊎_elim, arith}
 use mathlib.Core.List.Memᴰ
 use mathlib.Core.List.{Memᴰ}
 use Rattle.lists.specs.Numbers.{numbers}
@@ -9,7 +9,7 @@ use Rattle.branching.specs.Ancestors.{ancestor, descendants}
 use Rattle.branching.specs.Nodes.{other_nodes}
 use Rattle.branching.specs.Facts.{Grown}
 use Rattle.branching.proofs.Descendants.{mem-descendants}
-use Rattle.fitting.specs.Clades.{Clade, tip, fork}
+use Rattle.fitting.specs.Clades.{Clade, tip, fork, above, clade_at}
 use Rattle.fitting.specs.Character.{value_at}
 use Rattle.fitting.proofs.Cases.{either}
 use Rattle.fitting.proofs.Clades.Sides.{Side, left, right, on, on_map, on_each}
@@ -162,10 +162,17 @@ module _ (n : ℕ) (tree : List ℕ) (grown : Grown n n tree) where
   pub clade_from-size : (v : ℕ) → 2 ≤ v → v ≤ 2 * n - 2 → size (clade_from v) ≤ 2 * n
   clade_from-size v p h = omega (arith, part-size (clade_from v) clade_of.clade (part_of v p h), clade_size)
 
+  -- the clade of row 1 as a node is a tip, since one node descends from it
+  row1-tip : (depth : ℕ) → clade_to n tree grown (suc depth) 1 ≡ tip 1
+  unfolding clade_at above
+  row1-tip depth = ap (λ us. above 1 (map (clade_to n tree grown depth) us)) clade_of.of_row1
+
   -- the clade of a taxon is a tip
-  pub clade_from-taxon : (v : ℕ) → 2 ≤ v → v ≤ n → clade_from v ≡ tip v
+  pub clade_from-taxon : (v : ℕ) → 1 ≤ v → v ≤ n → clade_from v ≡ tip v
   clade_from-taxon v p l = ap (λ depth. clade_to n tree grown depth v) (omega (arith, grown.at_least_two))
-      ∙ clade_to_taxon n tree grown (2 * n - 1) v p l
+      ∙ either 2 v
+      (λ second. clade_to_taxon n tree grown (2 * n - 1) v second l)
+      (λ first. let row1 : v ≡ 1 = omega arith in rw row1 (row1-tip (2 * n - 1)))
 
   module _ (u a b : ℕ) (htu : Htu n tree u a b) where
     -- the clade of an HTU is a part of the whole

@@ -32,7 +32,7 @@ module _ (n : ℕ) (tree : List ℕ) (grown : Grown n n tree) (rows : List (List
   set_at v = set_of tree n code v
 
   -- a taxon's set is its code alone
-  pub set-taxon : (v : ℕ) → 2 ≤ v → v ≤ n → set_at v ≡ only (code v)
+  pub set-taxon : (v : ℕ) → 1 ≤ v → v ≤ n → set_at v ≡ only (code v)
   unfolding set_of up
   set-taxon v p l = ap (up code) (clade_from-taxon n tree grown v p l)
 
@@ -42,7 +42,7 @@ module _ (n : ℕ) (tree : List ℕ) (grown : Grown n n tree) (rows : List (List
   set-htu u a b htu = ap (up code) (clade_from-htu n tree grown u a b htu)
 
   -- the least cost of a taxon's clade is 0
-  pub cost-taxon : (v : ℕ) → 2 ≤ v → v ≤ n → cost_of tree n code v ≡ 0
+  pub cost-taxon : (v : ℕ) → 1 ≤ v → v ≤ n → cost_of tree n code v ≡ 0
   unfolding cost_of least_cost
   cost-taxon v p l = ap (least_cost code) (clade_from-taxon n tree grown v p l)
 

@@ -1,14 +1,12 @@
 -- What both passes have found of a node gives its states.
-use Rattle.std.specs.Bool.{then_some}
-use Rattle.std.proofs.Common.{◌≡◌, ℕ, ◌-◌, ◌*◌, ◌<◌, ◌≤◌, true, leb, List, get_or, ℤ, pos, sym, refl, ap, ◌∙◌, ap₂, arith, le-leb}
-use borrow.Author.Tests.{lt-leb}
+use Rattle.std.proofs.Common.{Option, ◌≡◌, ℕ, ◌-◌, ◌*◌, ◌<◌, ◌≤◌, true, List, ℤ, sym, refl, ap, ◌∙◌, ap₂, arith}
 use Rattle.matrix.specs.Shape.{last_node}
 use Rattle.branching.specs.Within.{branching_within}
 use Rattle.fitting.specs.Sets.{only, middle}
 use Rattle.fitting.specs.Assignments.{character}
 use Rattle.fitting.specs.Fit.{chosen_state, range, states_in}
 use Rattle.branching.specs.Walks.{Belows, below_at}
-use Rattle.fitting.specs.Steps.{Codes, PartsAre, part_at, set_of, SeenIs, states_from}
+use Rattle.fitting.specs.Steps.{code_in, Codes, PartsAre, part_at, set_of, SeenIs, states_from}
 use Rattle.fitting.specs.declared.spans.Span.{Span}
 use Rattle.branching.specs.declared.walk.Below.{Below}
 use Rattle.fitting.specs.declared.characters.Part.{Part}
@@ -27,7 +25,7 @@ unfolding states_in
 states_with_lem tree rows n v j a s e f =
     sym (ap₂ (λ (x : Span) (y : ℤ). record { low = x.low; high = x.high; chosen = y }) e f)
 
-module _ (n : ℕ) (tree : List ℕ) (rows : List (List ℤ)) (j : ℕ) (codes : List ℤ) (codes_are : Codes rows n j codes)
+module _ (n : ℕ) (tree : List ℕ) (rows : List (List ℤ)) (j : ℕ) (codes : List (Option ℤ)) (codes_are : Codes rows n j codes)
     (branches : branching_within n tree ≡ true) (below : List Below) (belows : Belows n tree below)
     (parts : List Part) (parts_are : PartsAre tree n (character rows j) parts)
     (v : ℕ) (first : 1 ≤ v) (high : v ≤ last_node n) (seen : Seen) (seen_is : SeenIs tree rows n j v seen) where
@@ -36,11 +34,9 @@ module _ (n : ℕ) (tree : List ℕ) (rows : List (List ℤ)) (j : ℕ) (codes :
   code = character rows j
 
   -- a taxon's states are its code
-  taxon_found : v ≤ n → record { low = get_or codes v (pos 0); high = get_or codes v (pos 0); chosen = get_or codes v (pos 0) }
-      ≡ states_in tree rows n v j
+  taxon_found : v ≤ n → record { low = code v; high = code v; chosen = code v } ≡ states_in tree rows n v j
   taxon_found l =
-      ap (λ (z : ℤ). record { low = z; high = z; chosen = z }) (codes_are.are v first l)
-      ∙ unfold only in
+      unfold only in
       states_with_lem tree rows n v j (only (code v)) (code v) (taxon-range n tree branches rows j v codes_are.taxon l)
       (taxon-state n tree branches rows j v codes_are.taxon l)
 
@@ -61,20 +57,21 @@ module _ (n : ℕ) (tree : List ℕ) (rows : List (List ℤ)) (j : ℕ) (codes :
       let da = htu_descends n tree grown left v below-v.0 below-v.1 htu in
       let db = htu_descends n tree grown right v below-v.0 below-v.1 htu in
       let sa : a.set ≡ set_of tree n code below-v.0 =
-      ap (λ (p : Part). p.set) (ea ∙ ap (λ (k : Below). part_at parts k.first) kept ∙ parts_are below-v.0 da.second da.last) in
+      ap (λ (p : Part). p.set) (ea ∙ ap (λ (k : Below). part_at parts k.first) kept ∙ parts_are below-v.0 (omega (arith, da.second)) da.last) in
       let sb : b.set ≡ set_of tree n code below-v.1 =
-      ap (λ (p : Part). p.set) (eb ∙ ap (λ (k : Below). part_at parts k.second) kept ∙ parts_are below-v.1 db.second db.last) in
+      ap (λ (p : Part). p.set) (eb ∙ ap (λ (k : Below). part_at parts k.second) kept ∙ parts_are below-v.1 (omega (arith, db.second)) db.last) in
       let is : range tree rows n v j ≡ middle a.set b.set seen.outside =
       range-htu n tree grown rows j v below-v.0 below-v.1 htu
       ∙ rw (sa, sb, seen_is.outside l) in
       states_with_lem tree rows n v j (middle a.set b.set seen.outside) seen.state is (sym seen_is.state)
 
   -- the states of every node
-  pub states_found : states_from (then_some (leb v n) (get_or codes v (pos 0))) (part_at parts (below_at below v).first) (part_at parts
-      (below_at below v).second) seen
+  pub states_found : states_from (code_in codes v) (part_at parts (below_at below v).first) (part_at parts (below_at below v).second) seen
       ≡ states_in tree rows n v j
   unfolding last_node
   states_found =
       either v n
-      (λ l. rw (le-leb v n l) (taxon_found l))
-      (λ l. rw (lt-leb v n l) (htu_found l (omega (arith, codes_are.taxon)) _ _ refl refl))
+      (λ l. rw (codes_are.are v first l) (taxon_found l))
+      (λ l.
+      let few = taxa-most n tree branches in
+      rw (codes_are.none v l (omega arith)) (htu_found l (omega (arith, codes_are.taxon)) _ _ refl refl))

@@ -2,12 +2,13 @@
 use Rattle.std.proofs.Common.{◌≡◌, ℕ, suc, ◌+◌, ◌<◌, ◌≤◌, Bool, true, false, cond, List, [], ◌∷◌, ◌++◌, length, get_or, take, drop, set, ℤ, pos, sym, refl, ap, ◌∙◌, ap₂, append_assoc, add-one, arith, drop_of_length-le, length-append, take_all, drop-cons, get_or-take, take-suc-set, drop-set-lt}
 use lib.Seq.{take-append_seam}
 use lib.Signed.{le_z}
+use Rattle.filled.specs.declared.Filled.{Filled}
 use Rattle.difference.specs.Rows.{lower, higher}
 use Rattle.difference.proofs.Laws.Order.{le_z-true, le_z-false}
 use Rattle.difference.proofs.Laws.Codes.{lower-first, lower_second, higher-first, higher_second}
-use Rattle.fitting.specs.Sets.{insert, in_order, middle}
+use Rattle.fitting.specs.Sets.{insert, in_order, six_ends, middle}
 use Rattle.fitting.specs.declared.spans.Span.{Span}
-use Rattle.fitting.specs.Steps.{carried}
+use Rattle.fitting.specs.Steps.{carried, Carried}
 use Rattle.fitting.proofs.Sets.Distance.{span}
 use Rattle.fitting.proofs.Sets.Order.{Rising, rising_in_order}
 
@@ -45,29 +46,34 @@ carried-insert x (y ∷ ys) r = go (le_z x y) refl (carried-insert x ys r.1)
         (ap (λ (z : ℤ). carried z ys) (higher-first x y (le_z-false x y e)) ∙ h)
 
 -- one state more carried into a list that is in order
-pub carried-next : (k : ℕ) (before after : List ℤ) (x : ℤ) (xs : List ℤ) → take k before ≡ in_order xs
-    → take (k + 1) after ≡ carried x (take k before) → take (k + 1) after ≡ in_order (x ∷ xs)
+carried-next : (before after : Filled ℤ 6) (x : ℤ) (xs : List ℤ) → Carried before x after → take before.count before.items ≡ in_order xs
+    → take after.count after.items ≡ in_order (x ∷ xs)
 unfolding in_order
-carried-next k before after x xs e c = c ∙ ap (carried x) e ∙ carried-insert x (in_order xs) (rising_in_order xs)
+carried-next before after x xs c e = c.states ∙ ap (carried x) e ∙ carried-insert x (in_order xs) (rising_in_order xs)
+
+-- of six ends in order the third and the fourth are the middle
+ends_middle : (a b c : Span) (sorted : List ℤ) → sorted ≡ in_order (six_ends a b c)
+    → span (get_or sorted 2 (pos 0)) (get_or sorted 3 (pos 0)) ≡ middle a b c
+unfolding middle
+ends_middle a b c sorted e = ap (λ (xs : List ℤ). span (get_or xs 2 (pos 0)) (get_or xs 3 (pos 0))) e
 
 -- six ends carried in one by one, the last first: the third and the fourth place hold the middle
-pub middle-carried : (a b c : Span) (r₀ r₁ r₂ r₃ r₄ r₅ r₆ : List ℤ)
-    → take (0 + 1) r₁ ≡ carried c.high (take 0 r₀) → take (1 + 1) r₂ ≡ carried c.low (take 1 r₁)
-    → take (2 + 1) r₃ ≡ carried b.high (take 2 r₂) → take (3 + 1) r₄ ≡ carried b.low (take 3 r₃)
-    → take (4 + 1) r₅ ≡ carried a.high (take 4 r₄) → take (5 + 1) r₆ ≡ carried a.low (take 5 r₅)
-    → span (get_or r₆ 2 (pos 0)) (get_or r₆ 3 (pos 0)) ≡ middle a b c
-middle-carried a b c r₀ r₁ r₂ r₃ r₄ r₅ r₆ e₁ e₂ e₃ e₄ e₅ e₆ =
-    let none : take 0 r₀ ≡ in_order [] = unfold in_order in refl in
-    let s₁ = carried-next 0 r₀ r₁ c.high [] none e₁ in
-    let s₂ = carried-next 1 r₁ r₂ c.low (c.high ∷ []) s₁ e₂ in
-    let s₃ = carried-next 2 r₂ r₃ b.high (c.low ∷ c.high ∷ []) s₂ e₃ in
-    let s₄ = carried-next 3 r₃ r₄ b.low (b.high ∷ c.low ∷ c.high ∷ []) s₃ e₄ in
-    let s₅ = carried-next 4 r₄ r₅ a.high (b.low ∷ b.high ∷ c.low ∷ c.high ∷ []) s₄ e₅ in
-    let s₆ = carried-next 5 r₅ r₆ a.low (a.high ∷ b.low ∷ b.high ∷ c.low ∷ c.high ∷ []) s₅ e₆ in
-    unfold middle in
+pub middle-carried : (a b c : Span) (s₀ s₁ s₂ s₃ s₄ s₅ s₆ : Filled ℤ 6) → s₀.count ≡ 0
+    → Carried s₀ c.high s₁ → Carried s₁ c.low s₂ → Carried s₂ b.high s₃ → Carried s₃ b.low s₄ → Carried s₄ a.high s₅ → Carried s₅ a.low s₆
+    → span (get_or s₆.items 2 (pos 0)) (get_or s₆.items 3 (pos 0)) ≡ middle a b c
+middle-carried a b c s₀ s₁ s₂ s₃ s₄ s₅ s₆ start c₁ c₂ c₃ c₄ c₅ c₆ =
+    let none : take s₀.count s₀.items ≡ in_order [] = unfold in_order in ap (λ (k : ℕ). take k s₀.items) start in
+    let all : take s₆.count s₆.items ≡ in_order (six_ends a b c) =
+    carried-next s₅ s₆ a.low (a.high ∷ b.low ∷ b.high ∷ c.low ∷ c.high ∷ []) c₆
+    (carried-next s₄ s₅ a.high (b.low ∷ b.high ∷ c.low ∷ c.high ∷ []) c₅
+    (carried-next s₃ s₄ b.low (b.high ∷ c.low ∷ c.high ∷ []) c₄
+    (carried-next s₂ s₃ b.high (c.low ∷ c.high ∷ []) c₃
+    (carried-next s₁ s₂ c.low (c.high ∷ []) c₂ (carried-next s₀ s₁ c.high [] c₁ none))))) in
+    let count : s₆.count ≡ 6 = omega (arith, start, c₁.count, c₂.count, c₃.count, c₄.count, c₅.count, c₆.count) in
     ap₂ span
-    (sym (get_or-take 6 r₆ 2 (pos 0) (omega arith)) ∙ ap (λ (xs : List ℤ). get_or xs 2 (pos 0)) s₆)
-    (sym (get_or-take 6 r₆ 3 (pos 0) (omega arith)) ∙ ap (λ (xs : List ℤ). get_or xs 3 (pos 0)) s₆)
+    (sym (get_or-take s₆.count s₆.items 2 (pos 0) (omega arith)))
+    (sym (get_or-take s₆.count s₆.items 3 (pos 0) (omega arith)))
+    ∙ ends_middle a b c (take s₆.count s₆.items) all
 
 -- a list through which a state is carried
 module _ (xs : List ℤ) (on : ℤ) (goal : List ℤ) where

@@ -22,29 +22,29 @@ passed_on codes weights n m records v j last size passed told =
     let is = last_told n last (matrix_passed codes weights n m passed).taxa told in
     rw (eq-eqb _ _ size, passed, is)
 
-pub returns-in_err-ask_matrix : goal.returns-in_err-ask_matrix
+pub returns-in_err-ask : goal.returns-in_err-ask
 unfolding ask_node
-returns-in_err-ask_matrix c =
+returns-in_err-ask c =
     let size : length c.args.records.now ≡ 125 = search rules in
     let told = err_from_is_err_and c.from_residual.result c.from_residual.ensures.1 in
-    rw (told.1, told.2, eq-eqb _ _ size, sym c.ask_matrix.ensures ∙ c.in_err-ask_matrix.was)
+    rw (told.1, told.2, eq-eqb _ _ size, sym c.ask.ensures ∙ c.in_err-ask.was)
 
 pub returns-then-not-one_to : goal.returns-then-not-one_to
 returns-then-not-one_to c =
-    let asked = passed_on c.args.matrix.now c.args.weights.now c.args.n c.args.m c.args.records.now c.args.node c.args.character _ (search rules)
-    (sym c.ask_matrix.ensures ∙ c.in_ok-ask_matrix.was) c.last_node.ensures in
+    let asked = passed_on c.args.lent.now.matrix.now c.args.lent.now.weights.now c.args.lent.now.n c.args.lent.now.m c.args.records.now c.args.node c.args.character _ (search rules)
+    (sym c.ask.ensures ∙ c.in_ok-ask.was) c.last_node.ensures in
     rw (asked, sym c.one_to.ensures ∙ c.if-not-one_to.true)
 
 pub returns-then-not-one_to-2 : goal.returns-then-not-one_to-2
 returns-then-not-one_to-2 c =
-    let asked = passed_on c.args.matrix.now c.args.weights.now c.args.n c.args.m c.args.records.now c.args.node c.args.character _ (search rules)
-    (sym c.ask_matrix.ensures ∙ c.in_ok-ask_matrix.was) c.last_node.ensures in
+    let asked = passed_on c.args.lent.now.matrix.now c.args.lent.now.weights.now c.args.lent.now.n c.args.lent.now.m c.args.records.now c.args.node c.args.character _ (search rules)
+    (sym c.ask.ensures ∙ c.in_ok-ask.was) c.last_node.ensures in
     rw (asked, sym c.one_to.ensures ∙ c.if-not-one_to.false, sym c.one_to-2.ensures ∙ c.if-not-one_to-2.true)
 
 pub returns-then-not-lent_branching : goal.returns-then-not-lent_branching
 returns-then-not-lent_branching c =
-    let asked = passed_on c.args.matrix.now c.args.weights.now c.args.n c.args.m c.args.records.now c.args.node c.args.character _ (search rules)
-    (sym c.ask_matrix.ensures ∙ c.in_ok-ask_matrix.was) c.last_node.ensures in
+    let asked = passed_on c.args.lent.now.matrix.now c.args.lent.now.weights.now c.args.lent.now.n c.args.lent.now.m c.args.records.now c.args.node c.args.character _ (search rules)
+    (sym c.ask.ensures ∙ c.in_ok-ask.was) c.last_node.ensures in
     rw (
       asked,
       sym c.one_to.ensures ∙ c.if-not-one_to.false,
@@ -54,8 +54,8 @@ returns-then-not-lent_branching c =
 
 pub returns : goal.returns
 returns c =
-    let asked = passed_on c.args.matrix.now c.args.weights.now c.args.n c.args.m c.args.records.now c.args.node c.args.character _ (search rules)
-    (sym c.ask_matrix.ensures ∙ c.in_ok-ask_matrix.was) c.last_node.ensures in
+    let asked = passed_on c.args.lent.now.matrix.now c.args.lent.now.weights.now c.args.lent.now.n c.args.lent.now.m c.args.records.now c.args.node c.args.character _ (search rules)
+    (sym c.ask.ensures ∙ c.in_ok-ask.was) c.last_node.ensures in
     rw (
       asked,
       sym c.one_to.ensures ∙ c.if-not-one_to.false,

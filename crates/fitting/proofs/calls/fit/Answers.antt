@@ -1,13 +1,12 @@
 -- `fitting::calls::fit` meets its contract: a refusal is that of the questions, and leaves the lists as they were. Assumes nothing.
-use Rattle.std.proofs.Common.{Err, ◌≡◌, ℕ, true, false, eqb, List, length, ℤ, sym, ◌∙◌, eqb-true}
-use mathlib.Core.Bool.{and-eq-true_iff}
-use Rattle.matrix.specs.Shape.{matrix_size}
+use Rattle.std.proofs.Common.{Err, ◌≡◌, ℕ, true, false, List, length, ℤ, sym, ◌∙◌}
 use Rattle.matrix.specs.Outcomes.{Asked}
 use Rattle.matrix.specs.declared.refusal.Refusal.TheVariants.{ListSize}
 use Rattle.std.proofs.lemmas.Result.{err_from_is_err_and}
 use Rattle.branching.specs.declared.branch.Branch.{Branch}
 use Rattle.branching.specs.Asking.{ask_branching}
 use Rattle.fitting.specs.Calls.{lists_full, ask_fit}
+use Rattle.fitting.proofs.Shapes.{sizes}
 use Rattle.fitting.proofs.Answered.{refused_answer, passed_answer}
 use Rattle.fitting.proofs.calls.fit.Goals as goal
 
@@ -23,14 +22,6 @@ asked_not : (codes : List ℤ) (weights : List ℕ) (n m : ℕ) (records : List 
     → lists_full (length low) (length high) (length chosen) ≡ false → ask_fit codes weights n m records low high chosen ≡ Err ListSize
 unfolding ask_fit
 asked_not codes weights n m records low high chosen e = rw e
-
--- the sizes
-sizes : (low high chosen : ℕ) → lists_full low high chosen ≡ true → (low ≡ matrix_size) × (high ≡ matrix_size) × (chosen ≡ matrix_size)
-unfolding lists_full
-sizes low high chosen e =
-    let a = (and-eq-true_iff (eqb low matrix_size) _).0 e in
-    let b = (and-eq-true_iff (eqb high matrix_size) (eqb chosen matrix_size)).0 a.1 in
-    (eqb-true low matrix_size a.0, eqb-true high matrix_size b.0, eqb-true chosen matrix_size b.1)
 
 pub returns-then-not-lists_full : goal.returns-then-not-lists_full
 returns-then-not-lists_full c =

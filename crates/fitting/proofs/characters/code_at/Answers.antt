@@ -1,15 +1,23 @@
--- `fitting::characters::code_at` meets its contract: the code stands at its place of the row, as far as the row goes.
-use Rattle.std.proofs.Common.{◌≡◌, ◌-◌, ◌<◌, get_or, max, pos, ◌∙◌, arith, to_z-of_z, w32, rules, tests}
+-- `fitting::characters::code_at` meets its contract: the code stands at its place, as far as the list goes.
+use Rattle.std.proofs.Common.{◌≡◌, ℕ, ◌+◌, ◌-◌, ◌^◌, ◌<◌, min, List, length, get_or, ℤ, pos, ◌∙◌, sym, ap, arith, to_z-of_z, w32, rules, tests}
+use Rattle.std.proofs.lemmas.List.{get_or_past}
 use borrow.Author.Rules.{sfits_of}
-use Rattle.matrix.specs.Shape.{row}
-use Rattle.matrix.proofs.Row.{row-code}
+use Rattle.matrix.specs.Shape.{row_start}
+use Rattle.fitting.proofs.Cases.{either}
 use Rattle.fitting.proofs.characters.code_at.Goals as goal
+
+-- what stands at a place, where a list ends before the last number
+at_place : (list : List ℤ) (place : ℕ) → length list < 2 ^ 64 → get_or list (min place (2 ^ 64 - 1)) (pos 0) ≡ get_or list place (pos 0)
+at_place list place short =
+    either place (2 ^ 64 - 1)
+    (λ l. ap (λ (k : ℕ). get_or list k (pos 0)) (omega arith))
+    (λ l. get_or_past list (min place (2 ^ 64 - 1)) (pos 0) (omega arith) ∙ sym (get_or_past list place (pos 0) (omega arith)))
 
 pub returns : goal.returns
 returns c =
-    let matrix = c.args.matrix.now in
-    let v = c.args.v in
-    let j = c.args.j in
-    let within : j - 1 < max j 1 = omega arith in
-    let found : c.unwrap_or.result ≡ get_or (row matrix (max j 1) v) (j - 1) (pos 0) = search (rules, tests) in
-    to_z-of_z {w = w32} (sfits_of c.unwrap_or.type_inv) ∙ found ∙ row-code matrix (max j 1) v (j - 1) within
+    let list = c.args.matrix.now in
+    let found : c.unwrap_or.result ≡ get_or list c.place_of_code.result (pos 0) = search (rules, tests) in
+    to_z-of_z {w = w32} (sfits_of c.unwrap_or.type_inv)
+    ∙ found
+    ∙ ap (λ (k : ℕ). get_or list k (pos 0)) c.place_of_code.ensures
+    ∙ at_place list (row_start c.args.v + (c.args.j - 1)) (omega arith)

@@ -1,11 +1,10 @@
 -- `fitting::characters::fit_character` meets its contract: the states of each node are found from both passes.
-use Rattle.std.specs.Bool.{then_some}
-use Rattle.std.proofs.Common.{ℕ, List, leb, get_or, pos, sym, ap, ◌∙◌, subst, arith, zero-add, rules}
+use Rattle.std.proofs.Common.{ℕ, List, pos, sym, ap, ◌∙◌, subst, arith, zero-add, rules}
 use Rattle.lists.proofs.Numbers.{map-numbers}
 use Rattle.matrix.specs.Shape.{last_node}
 use Rattle.branching.specs.Walks.{below_at}
 use Rattle.branching.proofs.Ranges.{made-map}
-use Rattle.fitting.specs.Steps.{PartsUp, part_at, SeenDown, seen_at, states_at, states_from, Fits}
+use Rattle.fitting.specs.Steps.{code_in, PartsUp, part_at, SeenDown, seen_at, states_at, states_from, Fits}
 use Rattle.fitting.specs.Trees.{TaxaTree}
 use Rattle.fitting.specs.declared.characters.States.{States}
 use Rattle.fitting.proofs.Pass.Found.{states_found}
@@ -21,7 +20,7 @@ returns c =
     let few = c.plan.invariant.few in
     let up = subst (λ (r : TaxaTree). PartsUp r.taxa r.tree codes found) (sym c.plan.view_is) c.parts_up-parts.ensures in
     let down = subst (λ (r : TaxaTree). SeenDown r.taxa r.tree codes found looked) (sym c.plan.view_is) c.seen_down-seen.ensures in
-    let own : ℕ → States = λ v. states_from (then_some (leb v plan.n) (get_or codes v (pos 0))) (part_at found (below_at plan.below v).first) (part_at found
+    let own : ℕ → States = λ v. states_from (code_in codes v) (part_at found (below_at plan.below v).first) (part_at found
     (below_at plan.below v).second) (seen_at looked v) in
     let none : States = record { low = pos 0; high = pos 0; chosen = pos 0 } in
     let made = made-map _ own _ _ 127 none c.from_fn.ensures.items (λ v y q k. search rules) in

@@ -1,5 +1,5 @@
 -- `fitting::characters::parts_up` meets its contract. The loop's invariant: what is kept of the nodes passed is right. Assumes nothing.
-use Rattle.std.proofs.Common.{◌≡◌, ℕ, true, List, length, ℤ}
+use Rattle.std.proofs.Common.{◌≡◌, ℕ, ◌-◌, true, List, length, ℤ}
 use Rattle.branching.specs.Ancestors.{ancestors}
 use Rattle.branching.specs.Within.{branching_within}
 use Rattle.fitting.specs.Assignments.{character}
@@ -7,8 +7,8 @@ use Rattle.fitting.specs.Steps.{Codes}
 use Rattle.fitting.proofs.Pass.Up.{UpFrom}
 use Rattle.fitting.proofs.characters.parts_up.Given as goal
 
-abbrev pub invariant-loop-i : goal.invariant-loop-i
-invariant-loop-i l =
+abbrev pub invariant-loop-v : goal.invariant-loop-v
+invariant-loop-v l =
     (length l.parts ≡ 127)
     × ((rows : List (List ℤ)) (j : ℕ) → Codes rows l.plan-inside.n j l.codes → branching_within l.plan-inside.n (ancestors l.plan-inside.tree) ≡ true
-    → UpFrom (ancestors l.plan-inside.tree) l.plan-inside.n (character rows j) l.plan-inside.walk.nodes l.parts l.i)
+    → UpFrom (ancestors l.plan-inside.tree) l.plan-inside.n (character rows j) l.plan-inside.walk.items l.parts (l.plan-inside.walk.count - length l.yielded))

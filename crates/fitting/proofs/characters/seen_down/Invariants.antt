@@ -7,9 +7,9 @@ use Rattle.fitting.specs.Steps.{Codes, PartsAre}
 use Rattle.fitting.proofs.Pass.Down.{DownTo}
 use Rattle.fitting.proofs.characters.seen_down.Given as goal
 
-abbrev pub invariant-loop-i : goal.invariant-loop-i
-invariant-loop-i l =
+abbrev pub invariant-loop-v : goal.invariant-loop-v
+invariant-loop-v l =
     (length l.seen ≡ 127)
     × ((rows : List (List ℤ)) (j : ℕ) → Codes rows l.plan-inside.n j l.codes → branching_within l.plan-inside.n (ancestors l.plan-inside.tree) ≡ true
     → PartsAre (ancestors l.plan-inside.tree) l.plan-inside.n (character rows j) l.parts
-    → DownTo (ancestors l.plan-inside.tree) rows l.plan-inside.n j l.plan-inside.walk.nodes l.seen l.i)
+    → DownTo (ancestors l.plan-inside.tree) rows l.plan-inside.n j l.plan-inside.walk.items l.seen l.v-index)

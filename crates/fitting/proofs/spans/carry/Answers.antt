@@ -1,5 +1,5 @@
 -- What the check leaves of `fitting::spans::carry`.
-use Rattle.std.proofs.Common.{◌≡◌, get_or, drop, ℤ, pos, arith, length-set, length-drop, to_z-of_z, w32, to_z, of_z}
+use Rattle.std.proofs.Common.{◌≡◌, ◌<◌, ◌+◌, get_or, take, drop, ℤ, pos, ◌∙◌, ap₂, arith, length-set, length-drop, to_z-of_z, w32, to_z, of_z}
 use borrow.Author.Rules.{sfits_of}
 use Rattle.fitting.proofs.Sets.Carrying.{carry_next, carry_end}
 use Rattle.fitting.proofs.spans.carry.Goals as goal
@@ -21,5 +21,14 @@ pub returns : goal.returns
 returns c =
     let loop = c.loop-here in
     let inv = loop.invariant in
-    let rest = length-drop c.args.count c.args.sorted in
-    rw (to_z-of_z c.ranges.state) at (carry_end loop.here-items _ _ loop.here-index c.args.count (drop c.args.count c.args.sorted) inv.0 (omega arith) (omega arith) inv.1)
+    let sorted = c.args.sorted in
+    let rest = length-drop sorted.count sorted.items in
+    let some : sorted.count < 6 = c.requires in
+    let count : c.push.new.self.count ≡ sorted.count + 1 = c.push.ensures.count ∙ omega arith in
+    record {
+      count = count;
+      states =
+          ap₂ take count c.push.ensures.items
+          ∙ rw (to_z-of_z c.ranges.state) at (carry_end loop.here-items _ _ loop.here-index sorted.count (drop sorted.count sorted.items) inv.0
+          (omega arith) (omega arith) inv.1);
+    }

@@ -6,4 +6,4 @@ use Rattle.fitting.proofs.spans.carry.Given as goal
 abbrev pub invariant-loop-here : goal.invariant-loop-here
 invariant-loop-here l =
     (length l.here-items ≡ l.count)
-    × (take l.here-index l.here-items ++ carried l.on (drop l.here-index l.here-items) ≡ carried l.state (take l.count l.fn.sorted))
+    × (take l.here-index l.here-items ++ carried l.on (drop l.here-index l.here-items) ≡ carried l.state l.initial.here-items)

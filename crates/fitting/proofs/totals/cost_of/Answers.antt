@@ -11,15 +11,15 @@ pub returns : goal.returns
 returns c =
     let plan = c.args.plan.now in
     let nodes = c.args.nodes.now in
-    let matrix = nodes.matrix.now in
+    let matrix = nodes.lent.matrix.now in
     let n = plan.taxa in
     let j = c.args.j in
-    let weight : c.weight_at.result ≡ weight_of nodes.weights.now j = unfold weight_of in c.weight_at.ensures in
+    let weight : c.weight_at.result ≡ weight_of nodes.lent.weights.now j = unfold weight_of in c.weight_at.ensures in
     record {
       is = λ branches lent weighed.
           let column = subst (λ (r : TaxaTree). Column matrix r.taxa j c.codes_of-codes.result) c.plan.view_is c.codes_of-codes.ensures in
-          let codes = column-codes matrix n nodes.m lent j c.requires.0 c.requires.1 _ column in
-          let cost = c.least_cost.ensures.is (rows_of matrix nodes.m n) j codes branches in
-          let short = character-most matrix n nodes.m lent plan.tree branches j c.requires.0 c.requires.1 in
+          let codes = column-codes matrix n nodes.lent.m lent j c.requires.0 c.requires.1 _ column in
+          let cost = c.least_cost.ensures.is (rows_of matrix nodes.lent.m n) j codes branches in
+          let short = character-most matrix n nodes.lent.m lent plan.tree branches j c.requires.0 c.requires.1 in
           c.weighed.ensures.is (omega (arith, cost, short)) ∙ ap₂ ◌*◌ weight cost;
     }

@@ -1,46 +1,35 @@
 -- `fitting::totals::sum_costs` meets its contract: the costs of the characters, in order.
-use Rattle.std.proofs.Common.{◌≡◌, ℕ, ◌+◌, ◌*◌, ◌^◌, ◌<◌, ◌%◌, List, [], ◌∷◌, map, fold, ap, ◌∙◌, arith, rules, tests}
-use native.Mathlib.Nat.{mod-eq_of_lt}
+use Rattle.std.proofs.Common.{ℕ, ◌+◌, ◌*◌, ◌^◌, ◌%◌, List, map, fold, ap, ◌∙◌, arith, rules, tests}
 use Rattle.std.proofs.lemmas.Iterator.{YieldsList-from_range, YieldsList-from_map}
 use Rattle.std.proofs.lemmas.Iterator.Consumers.{fold_from_yields_List}
 use Rattle.lists.specs.Numbers.{numbers}
-use Rattle.lists.specs.Sums.{sum_over}
+use Rattle.lists.proofs.Sums.{sum_map}
 use Rattle.matrix.specs.Shape.{weight_of}
 use Rattle.matrix.specs.NodeRows.{rows_of}
 use Rattle.branching.proofs.Ranges.{range-numbers}
 use Rattle.fitting.specs.Steps.{character_length, CostOf}
+use Rattle.fitting.proofs.Adding.{added_up}
 use Rattle.fitting.proofs.Columns.{characters-most}
 use Rattle.fitting.proofs.Matrix.LeastCost.{total-characters}
 use Rattle.fitting.proofs.totals.sum_costs.Goals as goal
-
--- a sum that fits 64 bits, added up with what stands before it
-added_up : (f : ℕ → ℕ) (xs : List ℕ) (first : ℕ) → first + sum_over f xs < 2 ^ 64
-    → fold (λ (a x : ℕ). (a + x) % (2 ^ 64)) first (map f xs) ≡ first + sum_over f xs
-unfolding sum_over
-added_up f [] first small = omega arith
-added_up f (x ∷ xs) first small =
-    let here : (first + f x) % (2 ^ 64) ≡ first + f x = mod-eq_of_lt (omega arith) in
-    ap (λ (a : ℕ). fold (λ (a x : ℕ). (a + x) % (2 ^ 64)) a (map f xs)) here
-    ∙ added_up f xs (first + f x) (omega arith)
-    ∙ omega arith
 
 pub returns : goal.returns
 returns c =
     let nodes = c.args.nodes.now in
     let plan = c.args.plan.now in
-    let m = nodes.m in
+    let m = nodes.lent.m in
     record {
       is = λ branches lent weighed.
-          let cost : ℕ → ℕ = λ j. weight_of nodes.weights.now j * character_length plan.tree (rows_of nodes.matrix.now m plan.taxa) plan.taxa j in
+          let cost : ℕ → ℕ = λ j. weight_of nodes.lent.weights.now j * character_length plan.tree (rows_of nodes.lent.matrix.now m plan.taxa) plan.taxa j in
           let many = lent.characters in
-          let most = characters-most nodes.matrix.now plan.taxa m lent plan.tree branches nodes.weights.now weighed.known m (omega arith) in
+          let most = characters-most nodes.lent.matrix.now plan.taxa m lent plan.tree branches nodes.lent.weights.now weighed.known m (omega arith) in
           fold_from_yields_List _ (λ (a x : ℕ). (a + x) % (2 ^ 64)) 0 c.fold.result c.fold.ensures.ran
           (YieldsList-from_map _ cost (YieldsList-from_range 1 (m + 1) m c.map.ensures.source (omega arith)) c.map.ensures.closure
           (λ x r q k.
-          let is : CostOf nodes.matrix.now nodes.weights.now plan.taxa m plan.tree x r = search (rules, tests) in
+          let is : CostOf nodes.lent.matrix.now nodes.lent.weights.now plan.taxa m plan.tree x r = search (rules, tests) in
           (search rules, is.is branches lent weighed)))
           (λ a x b q k. search (rules, tests))
           ∙ ap (λ (xs : List ℕ). fold (λ (a x : ℕ). (a + x) % (2 ^ 64)) 0 (map cost xs)) (range-numbers 1 m)
-          ∙ added_up cost (numbers 1 m) 0 (omega (arith, most))
-          ∙ omega (arith, total-characters nodes.weights.now plan.tree (rows_of nodes.matrix.now m plan.taxa) plan.taxa m);
+          ∙ added_up (λ (x : ℕ). x) (map cost (numbers 1 m)) 0 (omega (arith, most, sum_map (λ (x : ℕ). x) cost (numbers 1 m)))
+          ∙ omega (arith, sum_map (λ (x : ℕ). x) cost (numbers 1 m), total-characters nodes.lent.weights.now plan.tree (rows_of nodes.lent.matrix.now m plan.taxa) plan.taxa m);
     }

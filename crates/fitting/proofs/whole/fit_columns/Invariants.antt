@@ -9,4 +9,4 @@ invariant-loop-j l =
     (length l.low ≡ length l.initial.low)
     × (length l.high ≡ length l.initial.high)
     × (length l.chosen ≡ length l.initial.chosen)
-    × Written l.nodes.matrix.now l.nodes.weights.now l.plan-inside.n l.nodes.m (l.j - 1) (ancestors l.plan-inside.tree) l.initial.low l.low l.initial.high l.high l.initial.chosen l.chosen l.branches
+    × Written l.nodes.lent.matrix.now l.nodes.lent.weights.now l.plan-inside.n l.nodes.lent.m (l.j - 1) (ancestors l.plan-inside.tree) l.initial.low l.low l.initial.high l.high l.initial.chosen l.chosen l.branches

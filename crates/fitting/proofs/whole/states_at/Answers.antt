@@ -3,13 +3,13 @@ use Rattle.std.proofs.Common.{sym, ◌∙◌, true≢false, arith}
 use Rattle.matrix.specs.Shape.{last_node}
 use Rattle.matrix.proofs.Passing.{true-one_to}
 use Rattle.fitting.proofs.Columns.{column-codes}
-use Rattle.fitting.proofs.Shapes.{shapes_true, true_shape}
+use Rattle.fitting.proofs.Shapes.{shaped, lent_shaped}
 use Rattle.fitting.proofs.whole.states_at.Goals as goal
 
-pub returns-then-not-fit_shapes : goal.returns-then-not-fit_shapes
-returns-then-not-fit_shapes c = record {
-  are = λ branches lent p q l h. absurd (true≢false (sym (true_shape _ _ _ lent) ∙ (sym c.fit_shapes.ensures
-      ∙ c.if-not-fit_shapes.true)));
+pub returns-then-not-matrix_shaped : goal.returns-then-not-matrix_shaped
+returns-then-not-matrix_shaped c = record {
+  are = λ branches lent p q l h. absurd (true≢false (sym (lent_shaped _ _ _ lent) ∙ (sym c.matrix_shaped.ensures
+      ∙ c.if-not-matrix_shaped.true)));
 }
 
 pub returns-then-not-one_to : goal.returns-then-not-one_to
@@ -23,7 +23,7 @@ unfolding last_node
 returns-then-v-ge-PLACES c = record { are = λ branches lent p q l h. let few = lent.taxa in let far = c.if-v-ge-PLACES.true in absurd (omega arith) }
 
 pub of-requires : goal.of-requires
-of-requires c = (shapes_true _ _ _ _ _ _ (sym c.fit_shapes.ensures ∙ c.if-not-fit_shapes.false)).taxa
+of-requires c = (shaped _ _ _ (sym c.matrix_shaped.ensures ∙ c.if-not-matrix_shaped.false)).taxa
 
 pub returns : goal.returns
 returns c =

@@ -1,38 +1,45 @@
 -- What the check leaves of `fitting::whole::write_column`.
-use Rattle.std.proofs.Common.{◌≡◌, ◌+◌, ◌-◌, ℤ, refl, arith, length-set, to_z-of_z, w32, to_z, of_z}
+use Rattle.std.proofs.Common.{◌≡◌, ◌+◌, ◌-◌, ◌*◌, refl, ap, arith, length-set, to_z-of_z, w32}
 use borrow.Author.Rules.{sfits_of}
 use Rattle.lists.specs.Numbers.{numbers}
 use Rattle.lists.specs.Over.{stripes}
+use Rattle.matrix.specs.Shape.{columns}
 use Rattle.fitting.specs.Steps.{states_at}
 use Rattle.fitting.specs.Calls.{state_in}
 use Rattle.fitting.specs.Lists.{with_column}
+use Rattle.fitting.specs.Trees.{TaxaTree}
 use Rattle.fitting.proofs.Rewriting.{column-more}
 use Rattle.fitting.proofs.Pass.Standing.{last_number}
 use Rattle.fitting.proofs.whole.write_column.Goals as goal
 
 pub loop-v-init : goal.loop-v-init
 unfolding stripes numbers
-loop-v-init c =
-    let none : c.args.n + 1 - (c.args.n + 1) ≡ 0 = omega arith in
-    (refl, rw none)
+loop-v-init g c =
+    let taxa = ap (λ (r : TaxaTree). r.taxa) c.plan.view_is in
+    let none : c.plan.inside.n + 1 - (c.args.plan.now.taxa + 1) ≡ 0 = omega (arith, taxa) in
+    (refl, λ which picks. rw none)
 
 pub loop-v-preserved : goal.loop-v-preserved
-loop-v-preserved c =
+loop-v-preserved g c =
     let loop = c.loop-v in
     let inv = loop.invariant in
-    let z : ℤ = c.get.result in
-    let fits : to_z w32 (of_z w32 z) ≡ z = to_z-of_z {w = w32} (sfits_of c.get.type_inv) in (
+    let taxa = ap (λ (r : TaxaTree). r.taxa) c.plan.view_is in
+    let end = last_number _ _ c.plan.invariant.few c.last_node-v-end.ensures in
+    let place : c.place_of_code.result ≡ (loop.v - 1) * columns + (c.args.j - 1) = omega (arith, c.place_of_code.ensures) in (
       simp length-set inv.0,
-      rw (fits, c.get.ensures)
-          (column-more c.args.n c.args.j loop.v (λ u. state_in c.args.which (states_at c.args.states.now u)) _ loop.out (omega arith) inv.1),
+      λ which picks.
+          rw (place, to_z-of_z {w = w32} (sfits_of c.state.type_inv), picks _ _ c.state.ensures)
+          (column-more c.args.plan.now.taxa c.args.j loop.v (λ u. state_in which (states_at c.args.states.now u)) _ loop.out
+          (omega (arith, taxa)) (inv.1 which picks)),
     )
 
 pub returns : goal.returns
 unfolding with_column
-returns c =
+returns g c = λ which picks.
     let loop = c.loop-v in
-    let n = c.args.n in
-    let end = last_number _ _ c.requires.2 c.last_node-v-end.ensures in
-    let some = c.requires.1 in
-    let last : loop.v - (n + 1) ≡ n - 2 = omega arith in
-    rw last at loop.invariant.1
+    let n = c.args.plan.now.taxa in
+    let taxa = ap (λ (r : TaxaTree). r.taxa) c.plan.view_is in
+    let end = last_number _ _ c.plan.invariant.few c.last_node-v-end.ensures in
+    let some = c.requires.shape.1 in
+    let last : loop.v - (n + 1) ≡ n - 2 = omega (arith, taxa) in
+    rw last at (loop.invariant.1 which picks)

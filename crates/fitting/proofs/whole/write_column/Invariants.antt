@@ -4,11 +4,13 @@ use Rattle.lists.specs.Numbers.{numbers}
 use Rattle.lists.specs.Over.{stripes}
 use Rattle.matrix.specs.Shape.{columns, row_start}
 use Rattle.fitting.specs.Steps.{states_at}
-use Rattle.fitting.specs.Calls.{state_in}
+use Rattle.fitting.specs.Calls.{Which, state_in}
+use Rattle.fitting.specs.Lists.{Picks}
 use Rattle.fitting.proofs.whole.write_column.Given as goal
 
 abbrev pub invariant-loop-v : goal.invariant-loop-v
-invariant-loop-v l =
+invariant-loop-v g l =
     (length l.out ≡ length l.initial.out)
-    × (l.out ≡ stripes columns (row_start (l.n + 1) + (l.j - 1)) (map (λ u. state_in l.which (states_at l.states u) ∷ []) (numbers (l.n + 1) (l.v -
-    (l.n + 1)))) l.initial.out)
+    × ((which : Which) → Picks (goal.F-post g l.state) which
+    → l.out ≡ stripes columns (row_start (l.plan.taxa + 1) + (l.j - 1)) (map (λ u. state_in which (states_at l.states u) ∷ []) (numbers (l.plan.taxa + 1)
+    (l.v - (l.plan.taxa + 1)))) l.initial.out)
