@@ -4,5 +4,6 @@ pub mod Reaching
 pub mod NeverPasses
 pub mod Division
 pub mod Columns
+pub mod Limits
 pub mod Answered
 pub mod Examples

@@ -7,8 +7,9 @@ use difference::codes::{higher, lower, part};
 use difference::nodes::Nodes;
 use fitting::characters::code_at;
 use fitting::spans::{Span, only};
+use matrix::lent::Lent;
+use matrix::questions::within_limits;
 use matrix::weights::weight_at;
-use matrix::{MOST_CHARACTERS, MOST_TAXA};
 
 // The ends of some codes, lowest and highest, with one code more.
 fn widened(code: i32, ends: Span) -> Span
@@ -20,45 +21,51 @@ fn widened(code: i32, ends: Span) -> Span
     }
 }
 
-// The lowest and the highest code of the n taxa in character j.
-// Kept: no plainer, that there is a taxon is asked once, in `floor_of`; a type for a number that is not 0 would be taken apart in each of the three.
-fn ends_of(matrix: &[i32], n: usize, j: usize) -> Span
-    requires { 1 ≤ n }
-    ensures { EndsOf matrix.now n j result }
-{
-    let last = only(code_at(matrix, n, j));
-    (1..n).fold(last, |ends, v| widened(code_at(matrix, v, j), ends))
+// The nodes of a lent matrix that has a taxon.
+#[derive(Clone, Copy)]
+struct Taxa<'a> {
+    nodes: Nodes<'a>,
+    ghost some: { 1 ≤ nodes.lent.n },
 }
 
-// The floor of character j, by its weight.
-fn character_floor(weight: u8, matrix: &[i32], n: usize, j: usize) -> u64
-    requires { 1 ≤ n }
-    ensures { FloorIn weight matrix.now n j result }
-{
-    let ends = ends_of(matrix, n, j);
-    part(weight, ends.high, ends.low)
-}
+impl<'a> Taxa<'a> {
+    // The lowest and the highest code of the taxa in character j.
+    fn ends(&self, j: usize) -> Span
+        ensures { EndsOf self.now.nodes.lent.matrix.now self.now.nodes.lent.n j result }
+    {
+        let matrix = self.nodes.lent.matrix;
+        let n = self.nodes.lent.n;
+        let last = only(code_at(matrix, n, j));
+        (1..n).fold(last, |ends, v| widened(code_at(matrix, v, j), ends))
+    }
 
-// The sum of the floors of m characters.
-fn sum_floors(nodes: &Nodes, n: usize) -> u64
-    requires { 1 ≤ n }
-    ensures { result ≡ column_floors nodes.now.matrix.now nodes.now.weights.now n nodes.now.m }
-{
-    (1..nodes.m + 1)
-        .map(|j| character_floor(weight_at(nodes.weights, j - 1), nodes.matrix, n, j))
-        .sum()
+    // The floor of character j, by its weight.
+    fn character_floor(&self, weight: u8, j: usize) -> u64
+        ensures { FloorIn weight self.now.nodes.lent.matrix.now self.now.nodes.lent.n j result }
+    {
+        let ends = self.ends(j);
+        part(weight, ends.high, ends.low)
+    }
+
+    // The sum of the floors of all characters.
+    fn sum_floors(&self) -> u64
+        ensures { result ≡ column_floors self.now.nodes.lent.matrix.now self.now.nodes.lent.weights.now self.now.nodes.lent.n self.now.nodes.lent.m }
+    {
+        let lent = self.nodes.lent;
+        (1..lent.m + 1)
+            .map(|j| self.character_floor(weight_at(lent.weights, j - 1), j))
+            .sum()
+    }
 }
 
 // The floor of a lent matrix that no question refuses. It writes nothing.
-// Kept: no plainer, the matrix, n and m are taken as they are lent, since it is here that n and m are tested; behind it `Nodes` carries them.
-pub fn floor_of(matrix: &[i32], weights: &[u8], n: usize, m: usize) -> u64
-    ensures { FloorOf matrix.now weights.now n m result }
+// Kept: interface, a call that could not fail still cannot: where nothing was asked it answers 0.
+pub fn floor_of(lent: &Lent) -> u64
+    ensures { FloorOf lent.now.matrix.now lent.now.weights.now lent.now.n lent.now.m result }
 {
-    if !(1..=MOST_TAXA).contains(&n) {
+    if !within_limits(lent.n, lent.m) {
         return 0;
     }
-    if MOST_CHARACTERS < m {
-        return 0;
-    }
-    sum_floors(&Nodes { matrix, weights, m }, n)
+    let nodes = Nodes { lent: *lent };
+    Taxa { nodes }.sum_floors()
 }

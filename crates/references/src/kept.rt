@@ -7,7 +7,8 @@ use matrix::refusal::Refusal;
 
 // The placement of taxon b on a tree that the caller keeps, with its questions: `Tree::place`, whose tree is stored over the caller's. A
 // refused placement leaves the tree as it was, and writes nothing.
-// Kept: no plainer, a call takes the lists and numbers as they are lent, not yet known to be right; behind its questions `Nodes` has them.
+// Kept: interface, it is the call over a tree that is kept, beside the one over a tree by value, whose refusal hands the tree back.
+// Kept: no plainer, a struct lent to be written could come back with other weights, n and m: each promise would have to say that they stay.
 pub fn place_in(
     tree: &mut Tree,
     matrix: &mut [i32],
@@ -18,12 +19,9 @@ pub fn place_in(
 ) -> Result<Placement, Refusal>
     ensures { PlacementKept matrix.old matrix.new weights.now n m tree.old tree.new b result }
 {
-    match tree.place(matrix, weights, n, m, b) {
-        Ok(placed) => {
-            *tree = placed.tree;
-            Ok(placed.placement)
-        }
-        // Kept: no plainer, `map_err` and `?` take the reason out as well, and the two cases of the contract are the two arms.
-        Err(kept) => Err(kept.refusal),
-    }
+    let placed = tree
+        .place(matrix, weights, n, m, b)
+        .map_err(|kept| kept.refusal)?;
+    *tree = placed.tree;
+    Ok(placed.placement)
 }

@@ -4,24 +4,24 @@ ghost use Rattle.fitting.specs.Handing.{FitAnswer};
 use branching::branch::{BRANCHES, Branch};
 use fitting::calls::fit;
 use fitting::whole::Fit;
+use matrix::lent::Lent;
 use matrix::refusal::Refusal;
 
 // Fits a branching that is lent as a list of 125 branch records: `calls::fit`, with a list of any length.
-// Kept: no plainer, a call takes the matrix and all else as they are lent, not yet known to be right; behind its questions `Nodes` has them.
+// Kept: no plainer, each promise of a struct of lists to be written would have to say that it lends the same ones still, as `Puts` does of a listing.
+// Kept: interface, a list of another length is refused here, by 12; `fit` takes the whole array, and cannot be handed another one.
 pub fn fit_lent(
-    matrix: &[i32],
-    weights: &[u8],
-    n: usize,
-    m: usize,
+    lent: &Lent,
     records: &[Branch],
     low: &mut [i32],
     high: &mut [i32],
     chosen: &mut [i32],
 ) -> Result<Fit, Refusal>
-    ensures { FitAnswer matrix.now weights.now n m records.now low.old low.new high.old high.new chosen.old chosen.new result }
+    ensures { FitAnswer lent.now.matrix.now lent.now.weights.now lent.now.n lent.now.m records.now
+        low.old low.new high.old high.new chosen.old chosen.new result }
 {
     let Ok(whole) = <&[Branch; BRANCHES]>::try_from(records) else {
         return Err(Refusal::ListSize);
     };
-    fit(matrix, weights, n, m, whole, low, high, chosen)
+    fit(lent, whole, low, high, chosen)
 }

@@ -1,4 +1,4 @@
--- `consistency::floor::ends_of` meets its contract: the ends of all rows from that of the last. Assumes nothing.
+-- `consistency::floor::Taxa::ends` meets its contract: the ends of all rows from that of the last. Assumes nothing.
 use Rattle.std.proofs.Common.{◌≡◌, ◌+◌, ◌-◌, suc, refl, ap, ◌∙◌, arith, rules, tests}
 use borrow.Author.Rules.{sfits_of}
 use Rattle.std.specs.List.{range_with_len}
@@ -10,14 +10,14 @@ use Rattle.fitting.specs.declared.spans.Span.{Span}
 use Rattle.fitting.proofs.Bits.{of_bit}
 use Rattle.consistency.specs.Steps.{column, widened, ends_of}
 use Rattle.consistency.proofs.Columns.{widened_by, ends_folded}
-use Rattle.consistency.proofs.floor.ends_of.Goals as goal
+use Rattle.consistency.proofs.floor.Taxa.ends.Goals as goal
 
 pub returns : goal.returns
 returns c =
-    let matrix = c.args.matrix.now in
-    let n = c.args.n in
+    let matrix = c.args.self.now.nodes.lent.matrix.now in
+    let n = c.args.self.now.nodes.lent.n in
     let j = c.args.j in
-    let some = c.requires in
+    let some = c.args.self.now.some in
     let row : n ≡ 1 + (n - 1) = omega arith in
     let all : suc (n - 1) ≡ n = omega arith in
     let last : c.only-last.result ≡ only (state_at matrix n j) =

@@ -1,4 +1,4 @@
--- `consistency::floor::character_floor` meets its contract: codes of 32 bits make a small floor. Assumes nothing.
+-- `consistency::floor::Taxa::character_floor` meets its contract: codes of 32 bits make a small floor. Assumes nothing.
 use mathlib.Core.Path.{ap, ◌∙◌}
 use native.Mathlib.Omega.{arith}
 use borrow.Author.Rules.{sfits_of}
@@ -10,20 +10,20 @@ use Rattle.difference.proofs.Laws.Weights.{part-most}
 use Rattle.fitting.proofs.Bits.{of_bits}
 use Rattle.fitting.specs.declared.spans.Span.{Span}
 use Rattle.consistency.specs.Floor.{character_floor}
-use Rattle.consistency.proofs.floor.character_floor.Goals as goal
+use Rattle.consistency.proofs.floor.Taxa.character_floor.Goals as goal
 
 pub returns : goal.returns
 unfolding character_floor
 returns c =
     let weight = c.args.weight in
-    let ends = c.ends_of-ends.result in
+    let ends = c.ends-ends.result in
     let told = c.struct_told-1.given in
     let high : SFits w32 ends.high = sfits_of told.1.0.1 in
     let low : SFits w32 ends.low = sfits_of told.0.1 in
-    let found = of_bits (part weight) ends.high ends.low _ high low c.part.ensures in
+    let found = of_bits (part weight) ends.high ends.low _ high low c.part.ensures.is in
     let most = part-most weight ends.high ends.low (omega (arith, c.ranges.weight.fits)) (nat_abs-le ends.high high.sfits)
     (nat_abs-le ends.low low.sfits) in
     record {
-      is = found ∙ ap (λ (e : Span). part weight e.high e.low) c.ends_of-ends.ensures.are;
+      is = found ∙ ap (λ (e : Span). part weight e.high e.low) c.ends-ends.ensures.are;
       most = rw found most;
     }

@@ -1,4 +1,4 @@
--- What the check leaves of `consistency::floor::sum_floors`.
+-- What the check leaves of `consistency::floor::Taxa::sum_floors`.
 use Rattle.std.proofs.Common.{◌≡◌, ℕ, ◌+◌, ◌-◌, ◌^◌, List, [], ◌∷◌, refl, ap, ◌∙◌, arith, rules, tests}
 use Rattle.std.specs.List.{range_with_len, sum_by}
 use Rattle.std.proofs.lemmas.Iterator.{YieldsList-from_range, YieldsList-from_map}
@@ -12,7 +12,7 @@ use Rattle.difference.specs.Rows.{part}
 use Rattle.branching.proofs.Ranges.{range-numbers}
 use Rattle.consistency.specs.Floor.{character_floor}
 use Rattle.consistency.specs.Steps.{column, column_floors}
-use Rattle.consistency.proofs.floor.sum_floors.Goals as goal
+use Rattle.consistency.proofs.floor.Taxa.sum_floors.Goals as goal
 
 -- std's sum of what a function gives at each item
 sum_by-over : (f : ℕ → ℕ) (xs : List ℕ) → sum_by f xs ≡ sum_over f xs
@@ -22,8 +22,9 @@ sum_by-over f (x ∷ xs) = sum_by-cons f x xs ∙ ap (λ k. f x + k) (sum_by-ove
 
 pub sum-requires-clause-fits : goal.sum-requires-clause-fits
 sum-requires-clause-fits c =
-    let m = c.args.nodes.now.m in
-    let narrow = c.args.nodes.now.narrow in
+    let nodes = c.args.self.now.nodes in
+    let m = nodes.lent.m in
+    let narrow = nodes.narrow in
     fits_from_length _ _ 128 (2 ^ 64)
     (at_most_from_yields_List (YieldsList-from_range 1 (m + 1) m c.map.ensures.source (omega arith)) (omega (arith, length-range_with_len 1 m)))
     c.map.ensures.closure (omega arith) (λ x r q k. search (rules, tests))
@@ -31,10 +32,10 @@ sum-requires-clause-fits c =
 pub returns : goal.returns
 unfolding column_floors weight_of
 returns c =
-    let nodes = c.args.nodes.now in
-    let floor : ℕ → ℕ = λ j. character_floor (part (weight_at nodes.weights.now (j - 1))) (column nodes.matrix.now j 1 c.args.n) in
-    sum_by_from_yields_List floor (range_with_len 1 nodes.m) c.map.result c.sum.result c.sum.ensures.ran
-    (YieldsList-from_map _ floor (YieldsList-from_range 1 (nodes.m + 1) nodes.m c.map.ensures.source (omega arith)) c.map.ensures.closure
+    let lent = c.args.self.now.nodes.lent in
+    let floor : ℕ → ℕ = λ j. character_floor (part (weight_at lent.weights.now (j - 1))) (column lent.matrix.now j 1 lent.n) in
+    sum_by_from_yields_List floor (range_with_len 1 lent.m) c.map.result c.sum.result c.sum.ensures.ran
+    (YieldsList-from_map _ floor (YieldsList-from_range 1 (lent.m + 1) lent.m c.map.ensures.source (omega arith)) c.map.ensures.closure
     (λ x r q k. search (rules, tests)))
-    ∙ sum_by-over floor (range_with_len 1 nodes.m)
-    ∙ ap (sum_over floor) (range-numbers 1 nodes.m)
+    ∙ sum_by-over floor (range_with_len 1 lent.m)
+    ∙ ap (sum_over floor) (range-numbers 1 lent.m)
