@@ -3,15 +3,13 @@ use mathlib.Core.Path.{◌≡◌, refl, sym, ap, ◌∙◌}
 use mathlib.Core.Bool.{true, false, true≢false}
 use mathlib.Core.List.{List, [], ◌∷◌}
 use Prim.Native.Nat.{ℕ, zero, suc, ◌+◌, ◌-◌, ◌*◌, ◌≤◌, ◌<◌}
-use native.Mathlib.Numerals.{add-one}
 use native.Mathlib.Omega.{arith}
 use mir.Facts.{to_z-of_z}
 use mir.Syntax.{w32}
 use mir.Val.{SFits, of_z, to_z}
-use borrow.Author.Tests.{eq-eqb, ne_eqb, le-leb, lt-leb, ltb-true}
+use borrow.Author.Tests.{ne_eqb, le-leb, lt-leb, ltb-true}
 use lib.IntN.{ℤ, pos, negsuc}
 use lib.ListN.{length, get_or, take, drop, drop_of_length-le}
-use lib.Seq.{drop-cons}
 use lib.Signed.{lt_z}
 use Rattle.std.specs.Borrow.{Bor}
 use Rattle.std.specs.Prelude.{Option, Some, None, MatchOption}
@@ -45,29 +43,10 @@ code-above (negsuc n) h = absurd (true≢false h)
 pub same_code : {z : ℤ} → SFits w32 z → decimal (to_z w32 (of_z w32 z)) ≡ decimal z
 same_code f = rw (to_z-of_z f)
 
--- the first part ends at a separator
-part-ends : (s b : ℕ) (bs : List ℕ) → b ≡ s → first_part s (b ∷ bs) ≡ []
-unfolding first_part part_length
-part-ends s b bs e = rw (eq-eqb b s e)
-
--- any other byte belongs to it
+-- a byte that is no separator belongs to the first part
 pub part_goes_on : (s b : ℕ) (bs : List ℕ) → (b ≡ s → ⊥) → first_part s (b ∷ bs) ≡ b ∷ first_part s bs
 unfolding first_part part_length
 part_goes_on s b bs e = rw (ne_eqb b s e)
-
-module _ (s : ℕ) (text : List ℕ) (i : ℕ) where
-  -- from a separator on, the first part is empty
-  pub first-here : i < length text → get_or text i 0 ≡ s → first_part s (drop i text) ≡ []
-  first-here h e = rw (drop-cons text i 0 h) (part-ends s _ _ e)
-
-  -- from any other byte on, it is that byte and the part behind it
-  pub first_on : i < length text → (get_or text i 0 ≡ s → ⊥) → first_part s (drop i text) ≡ get_or text i 0 ∷ first_part s (drop (i + 1) text)
-  first_on h e = rw (add-one, drop-cons text i 0 h) (part_goes_on s _ _ e)
-
-  -- behind the text nothing is left
-  pub first_past : length text ≤ i → first_part s (drop i text) ≡ []
-  unfolding first_part part_length
-  first_past h = rw (drop_of_length-le text h)
 
 -- the bytes of a name: those of its part of the lent list, and none beyond its end
 pub name_got : (lent : List ℕ) (k : ℕ) (got : Option (Bor (List ℕ))) (none r : Bor (List ℕ)) → none.now ≡ []

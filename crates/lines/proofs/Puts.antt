@@ -1,6 +1,6 @@
 -- Texts put one after another into a listing.
 use mathlib.Core.Path.{◌≡◌, refl, sym, ap, ◌∙◌}
-use mathlib.Core.List.{List, [], ◌∷◌, ◌++◌}
+use mathlib.Core.List.{List, [], ◌∷◌, ◌++◌, map, map-append}
 use Prim.Native.Nat.{ℕ, ◌+◌, ◌≤◌, ◌<◌}
 use native.Mathlib.Numerals.{add-one}
 use borrow.Author.Tests.{lt-ltb, le-ltb}
@@ -37,6 +37,16 @@ put_then {xs} {ys} {old} p q =
 -- the same text, said in other words
 pub put_same : {xs ys : List ℕ} {old new : Listing} → xs ≡ ys → Puts xs old new → Puts ys old new
 put_same {old = old} e p = record { put = record { is = p.put.is ∙ ap (λ text. put_text text (old.out.now, old.at)) e }; same = p.same }
+
+-- no text
+pub put_none : (old : Listing) → Puts [] old old
+unfolding put_text
+put_none old = record { put = record { is = refl }; same = refl }
+
+-- the texts of some things, and that of one more behind them
+pub put_more : {A : Type 0} (f : A → ℕ) (xs : List A) (x : A) {old mid new : Listing} → Puts (map f xs) old mid → Puts (f x ∷ []) mid new
+    → Puts (map f (xs ++ (x ∷ []))) old new
+put_more f xs x p q = put_same (sym (map-append f xs (x ∷ []))) (put_then p q)
 
 -- a field behind a tab, said in other words
 pub put_said : {field said : List ℕ} {old new : Listing} → field ≡ said → Puts (tab ∷ field) old new → Puts (tab ∷ said) old new

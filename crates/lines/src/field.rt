@@ -71,7 +71,7 @@ impl<'a> Field for Node<'a> {
     fn put(self, listing: &mut Listing) {
         let v = self.v;
         let n = self.names.n;
-        // Kept: no plainer, a placement says 0 for no node; an `Option` of a node would be made of that 0 by the same test.
+        // Kept: no plainer, a `T` line is promised of any tree, whose numbers have 0 for none: with an Option in placements both forms of none would stand side by side.
         if v == 0 {
             return listing.put_byte(HYPHEN);
         }

@@ -1,4 +1,5 @@
 // The lines of the listing, one method for each kind: fields with a tab before each but the first, and a line feed.
+// Kept: no plainer, the names are no part of the bytes that are put: one listing serves a job with names and a refusal without.
 ghost use Rattle.matrix.specs.Refusals.{refusal_number};
 ghost use Rattle.lines.specs.Kinds.{index_line, prim_line, wagner_line, branch_line, state_line, refusal_line, total_text};
 ghost use Rattle.lines.specs.Puts.{Puts};
@@ -16,7 +17,7 @@ use prim::answer::Link;
 
 impl<'a> Listing<'a> {
     // Puts the line of a block's total, with the byte of its letter.
-    // Kept: no plainer, an enum of the blocks would be made by the caller for its letter alone and turned into the letter here.
+    // Kept: no plainer, the letter is a byte that is printed, and no number for a kind; an enum would be turned into it here.
     pub fn put_total_line(&mut self, letter: u8, total: u64)
         ensures { Puts (total_text letter total) self.old self.new }
     {

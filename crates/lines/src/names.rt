@@ -7,7 +7,7 @@ ghost use Rattle.lines.specs.Fields.{names_of, node_text};
 use file_form::NAME_SIZE;
 
 // The names of n taxa, in lent bytes.
-// Kept: no plainer, `n` tells a taxon from an HTU as well; from a slice of n names each field would have it by a division.
+// Kept: no plainer, room is lent for 64 names, or less: a slice of n names would first be cut from it, where that can fail, and then be asked for n again.
 #[derive(Clone, Copy)]
 pub struct Names<'a> {
     pub n: usize,

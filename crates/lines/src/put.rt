@@ -7,7 +7,7 @@ const ZERO_DIGIT: u8 = b'0';
 const TEN: u64 = 10;
 
 // A listing as far as it is put: the bytes lent for it, and the place behind what was put.
-// Kept: interface, C lends the bytes whole, and those behind `at` stay as they were; a `Vec` would need a heap.
+// Kept: interface, the bytes behind `at` stay as they were lent, and a `Vec` would need a heap; std's `Cursor` is this struct, with a write that can end early.
 #[derive(Drop)]
 pub struct Listing<'a> {
     pub out: &'a mut [u8],
@@ -38,6 +38,7 @@ impl<'a> Listing<'a> {
         }
     }
 
+    // Kept: no plainer, the definitions say digits by this recursion; `itoa` would write them into a buffer of its own, to be put here one by one, and be shown to be the same.
     // Puts a number in decimal.
     pub(crate) fn put_number(&mut self, n: u64)
         ensures { Puts (digits_of n) self.old self.new }
@@ -54,10 +55,7 @@ impl<'a> Listing<'a> {
     pub(crate) fn put_name(&mut self, name: &[u8])
         ensures { Puts (first_part 0 name.now) self.old self.new }
     {
-        for byte in name {
-            if *byte == 0 {
-                return;
-            }
+        for byte in name.iter().take_while(|byte| **byte != 0) {
             self.put_byte(*byte);
         }
     }

@@ -13,10 +13,9 @@ use Rattle.difference.specs.Rows.{Measure, weighing}
 use Rattle.branching.specs.declared.tree.Tree.{Tree}
 use Rattle.branching.specs.Ancestors.{ancestors, ancestor}
 use Rattle.branching.specs.Within.{branching_within}
-use Rattle.fitting.specs.Calls.{branch_at, TreeFitted}
+use Rattle.fitting.specs.Calls.{Low, High, Chosen, branch_at, TreeFitted}
 use Rattle.fitting.specs.Fit.{states_in}
 use Rattle.fitting.specs.declared.whole.Fit.{Fit}
-use Rattle.fitting.specs.declared.whole.Which.TheVariants.{Low, High, Chosen}
 use Rattle.fitting.specs.Handing.{state_at}
 use Rattle.fitting.proofs.Handed.{state_written}
 use Rattle.fitting.proofs.SameTree.{fit_same, total-same, range_same, state-same}

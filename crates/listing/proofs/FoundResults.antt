@@ -36,7 +36,8 @@ use Rattle.listing.specs.declared.job.FittedTree.{FittedTree}
 use Rattle.listing.specs.declared.job.Results.{Results}
 use Rattle.listing.specs.Listing.{listing}
 use Rattle.listing.specs.Handed.{HoldsNames, HoldsPlacements, prim_texts, wagner_texts}
-use Rattle.listing.specs.Found.{SizesWithin, FittedOf, ResultsOf, result_texts}
+use Rattle.listing.specs.Sizes.{SizesWithin}
+use Rattle.listing.specs.Found.{FittedOf, ResultsOf, result_texts}
 use Rattle.listing.proofs.Parts.{links_of, built_of, prim_lines, wagner_lines, prim_total, wagner_total, built-text}
 use Rattle.listing.proofs.HandedTexts.{prim_text, wagner-text}
 use Rattle.listing.proofs.FittedTrees.{tree_put}
@@ -81,7 +82,7 @@ module _ (job : Job) (kind : job.kind ≡ Wagner) (codes : List ℤ) (rows : job
   wagner_put =
       ap₂ ◌++◌
       (wagner-text n job.names lent named (built_of measure job).placements _ _
-      (subst (λ (built : Built). HoldsPlacements built.placements r.built.placements r.built.count) same-build found.placements))
+      (subst (λ (built : Built). HoldsPlacements built.placements r.built.placements.items r.built.placements.count) same-build found.placements))
       (ap (total_line "w") (found.whole ∙ ap (wagner_length (difference lent_weights) n) same-build))
 
   -- the tree listed is the one built
@@ -129,7 +130,7 @@ module _ (order : Order) (codes after : List ℤ) (weights : List ℕ) (n m : �
   found_tree = done.tree
 
   -- with its placements
-  found_placements : HoldsPlacements (wagner_in order codes weights n m).placements built.placements built.count
+  found_placements : HoldsPlacements (wagner_in order codes weights n m).placements built.placements.items built.placements.count
   found_placements = record { list = done.placements; count = done.count }
 
   -- and its length

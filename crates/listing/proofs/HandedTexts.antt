@@ -46,7 +46,7 @@ module _ (n : ℕ) (names : List (List ℕ)) (lent : List ℕ) (named : HoldsNam
 
   -- the `P` lines put for a network are those of the links that it holds
   pub prim_text : (links : List Link) (r : Network) → Holds links r
-      → flat_map (prim_line n (names_in n lent)) (take r.count r.links) ≡ joined (map (prim_line n names) links)
+      → flat_map (prim_line n (names_in n lent)) (take r.links.count r.links.items) ≡ joined (map (prim_line n names) links)
   prim_text links r held =
       ap (flat_map (prim_line n (names_in n lent))) (holds-first links r held)
       ∙ flat_map-same (prim_line n (names_in n lent)) (prim_line n names) links (λ link m. prim_named link)

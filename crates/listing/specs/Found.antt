@@ -1,6 +1,6 @@
 -- What is found of a lent matrix and of a tree, and the text that is put for it. No public contract cites this.
-use Rattle.std.specs.Prelude.{◌≡◌, true, List, ◌++◌, ℕ, ◌≤◌, ℤ, length}
-use Rattle.matrix.specs.Shape.{columns, matrix_size, row}
+use Rattle.std.specs.Prelude.{◌≡◌, true, List, ◌++◌, ℕ, ℤ, length}
+use Rattle.matrix.specs.Shape.{matrix_size, row}
 use Rattle.matrix.specs.NodeRows.{rows_of}
 use Rattle.file_form.specs.declared.header.Header.{Header}
 use Rattle.file_form.specs.declared.header.Kind.TheVariants.{Own}
@@ -28,6 +28,7 @@ use Rattle.listing.specs.declared.job.Lists.{Lists}
 use Rattle.listing.specs.declared.job.FittedTree.{FittedTree}
 use Rattle.listing.specs.declared.job.Results.{Results}
 use Rattle.listing.specs.Listing.{listing}
+use Rattle.listing.specs.Sizes.{SizesWithin}
 use Rattle.listing.specs.Handed.{HoldsNames, HoldsPlacements, HoldsStates, prim_texts, wagner_texts, fitted_texts, state_texts}
 
 -- the lists that a file is read into
@@ -52,18 +53,12 @@ pub record FittedOf
   pub index : r.index ≡ index (floor measure.step rows n m) (fitted_total measure.step tree rows n m)
   pub states : HoldsStates tree rows n m low high chosen
 
--- n and m are within their limits
-pub record SizesWithin (n m : ℕ) : Type 0 where
-  pub some : 1 ≤ n
-  pub taxa : n ≤ 64
-  pub characters : m ≤ columns
-
 -- what was found of a lent matrix: its Prim Network, its Wagner tree, and what was found of that tree
 pub record ResultsOf (order : Order) (codes : List ℤ) (weights : List ℕ) (n m : ℕ) (low high chosen : List ℤ) (r : Results) : Type 0 where
   pub sizes : SizesWithin n m
   pub network : Holds (network (node_difference (difference weights) (row codes m)) n) r.network
   pub tree : ancestors r.built.tree ≡ (wagner_in order codes weights n m).tree
-  pub placements : HoldsPlacements (wagner_in order codes weights n m).placements r.built.placements r.built.count
+  pub placements : HoldsPlacements (wagner_in order codes weights n m).placements r.built.placements.items r.built.placements.count
   pub whole : r.built.length ≡ wagner_length (difference weights) n (wagner_in order codes weights n m)
   pub fitted : FittedOf (weighing weights) (rows_of codes m n) n m (ancestors r.built.tree) low high chosen r.fitted
 

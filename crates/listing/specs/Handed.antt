@@ -76,11 +76,11 @@ module _ (n : ℕ) (names : List (List ℕ)) where
 
   -- the `P` lines of a network's first `count` links, and the line `p`
   unfoldable pub prim_texts : Network → List ℕ
-  prim_texts network = flat_map (prim_line n names) (take network.count network.links) ++ total_line "p" network.total
+  prim_texts network = flat_map (prim_line n names) (take network.links.count network.links.items) ++ total_line "p" network.total
 
   -- the `W` lines of a build's first `count` placements, and the line `w`
   unfoldable pub wagner_texts : WagnerTree → List ℕ
-  wagner_texts built = flat_map (wagner_line n names) (take built.count built.placements) ++ total_line "w" built.length
+  wagner_texts built = flat_map (wagner_line n names) (take built.placements.count built.placements.items) ++ total_line "w" built.length
 
   -- the `T` lines of a tree with its fit, and the line `t`
   unfoldable pub fitted_texts : Tree → Fit → List ℕ

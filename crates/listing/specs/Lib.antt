@@ -6,4 +6,6 @@ pub mod Call
 pub mod InPrint
 -- for contracts within this crate: what is handed to the functions that put blocks, and what is found of a lent matrix
 pub mod Handed
+pub mod Sizes
 pub mod Found
+pub mod Rooms

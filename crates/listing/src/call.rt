@@ -5,23 +5,24 @@ ghost use Rattle.lines.specs.Puts.{Puts};
 ghost use Rattle.listing.specs.Listing.{output};
 ghost use Rattle.listing.specs.Call.{ListDone};
 
-use crate::blocks::Ranges;
-use crate::job::{Lists, put_job};
+use crate::job::{Lists, Room, put_job};
 use branching::numbers::LENT_NUMBERS;
 use file_form::NAMES_SIZE;
+use fitting::ranges::Ranges;
 use lines::put::Listing;
 use matrix::refusal::Refusal;
-use matrix::{COLUMNS, LIGHTEST, ROWS};
+use matrix::{COLUMNS, LIGHTEST, MATRIX_SIZE};
 use matrix_file::reading::read;
 
 // So many bytes are lent for what is printed; no file needs more.
 pub const OUTPUT_SIZE: usize = 1048576;
 
 // Puts what is printed for a file: its listing, or the line of its refusal. The file is read into lists, whose weights are 1 before.
-fn put_file(listing: &mut Listing, file: &[u8], lists: &mut Lists, ranges: &mut Ranges)
-    requires { lists.old.weights ≡ replicate columns 1 }
+fn put_file(listing: &mut Listing, file: &[u8], room: &mut Room)
+    requires { room.old.lists.weights ≡ replicate columns 1 }
     ensures { Puts (output file.now) listing.old listing.new }
 {
+    let lists = &mut room.lists;
     match read(
         file,
         &mut lists.matrix,
@@ -29,7 +30,7 @@ fn put_file(listing: &mut Listing, file: &[u8], lists: &mut Lists, ranges: &mut 
         &mut lists.names,
         &mut lists.branches,
     ) {
-        Ok(header) => put_job(listing, header, lists, ranges),
+        Ok(header) => put_job(listing, header, room),
         Err(refused) => listing.put_refusal_line(refused.refusal, refused.line),
     }
 }
@@ -42,18 +43,22 @@ pub fn list(file: &[u8], out: &mut [u8]) -> Result<usize, Refusal>
     if out.len() != OUTPUT_SIZE {
         return Err(Refusal::ListSize);
     }
-    let mut lists = Lists {
-        matrix: [0; ROWS * COLUMNS],
-        weights: [LIGHTEST; COLUMNS],
-        names: [0; NAMES_SIZE],
-        branches: [0; LENT_NUMBERS],
+    let mut room = Room {
+        lists: Lists {
+            matrix: [0; MATRIX_SIZE],
+            weights: [0; COLUMNS],
+            names: [0; NAMES_SIZE],
+            branches: [0; LENT_NUMBERS],
+        },
+        ranges: Ranges {
+            low: [0; MATRIX_SIZE],
+            high: [0; MATRIX_SIZE],
+            chosen: [0; MATRIX_SIZE],
+        },
     };
-    let mut ranges = Ranges {
-        low: [0; ROWS * COLUMNS],
-        high: [0; ROWS * COLUMNS],
-        chosen: [0; ROWS * COLUMNS],
-    };
+    // A weight that no line says is 1; zeros come first, so that the whole room is filled where it stands.
+    room.lists.weights.fill(LIGHTEST);
     let mut listing = Listing { out, at: 0 };
-    put_file(&mut listing, file, &mut lists, &mut ranges);
+    put_file(&mut listing, file, &mut room);
     Ok(listing.at)
 }

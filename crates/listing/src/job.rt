@@ -10,8 +10,10 @@ ghost use Rattle.lines.specs.Puts.{Puts};
 ghost use Rattle.listing.specs.Meant.{order_meant};
 ghost use Rattle.listing.specs.Found.{FittedOf, ResultsOf, tree_texts, result_texts};
 ghost use Rattle.listing.specs.Found.{lists_of, ListsJob, BranchingLent};
+ghost use Rattle.listing.specs.Rooms.{LendsLists, LegendOf};
+ghost use Rattle.listing.specs.Sizes.{SizesWithin};
 
-use crate::blocks::{Ranges, Sizes, put_block, put_fitted_block, put_state_lines};
+use crate::blocks::{Legend, put_block};
 use crate::order::order_meant;
 use branching::lent::tree_of;
 use branching::numbers::{LENT_NUMBERS, records_in};
@@ -21,10 +23,12 @@ use consistency::floor::floor_of;
 use consistency::index::{Index, index_of};
 use file_form::NAMES_SIZE;
 use file_form::header::{Header, Kind};
+use fitting::ranges::Ranges;
 use fitting::whole::{Fit, fit_tree};
 use lines::names::Names;
 use lines::put::Listing;
-use matrix::{COLUMNS, ROWS};
+use matrix::lent::Lent;
+use matrix::{COLUMNS, MATRIX_SIZE};
 use prim::answer::{Link, Network};
 use prim::network::network;
 use wagner::answer::WagnerTree;
@@ -33,10 +37,18 @@ use wagner::build::build;
 // What a file is read into: matrix, weights, names and branches.
 #[derive(Drop)]
 pub(crate) struct Lists {
-    pub(crate) matrix: [i32; ROWS * COLUMNS],
+    pub(crate) matrix: [i32; MATRIX_SIZE],
     pub(crate) weights: [u8; COLUMNS],
     pub(crate) names: [u8; NAMES_SIZE],
     pub(crate) branches: [usize; LENT_NUMBERS],
+}
+
+// Kept: no plainer, the room is made before its file is read, and a header comes from the reading: with one in the room there would be a header of no file until then.
+// Room for a job: the lists that its file is read into, and the states of its HTUs.
+#[derive(Drop)]
+pub(crate) struct Room {
+    pub(crate) lists: Lists,
+    pub(crate) ranges: Ranges,
 }
 
 // What is listed of a tree: its fit, and the index of the fit.
@@ -54,54 +66,95 @@ struct Results {
     fitted: FittedTree,
 }
 
-// Puts the blocks of a tree: its `T` lines and `t`, the line `c`, and its `H` lines.
-fn put_tree(listing: &mut Listing, sizes: Sizes, tree: &Tree, fitted: &FittedTree, ranges: &Ranges)
-    ensures { Puts
-        (tree_texts sizes.entry.names.n (names_of sizes.entry.names) sizes.entry.m tree.now fitted.now
-        ranges.now.low ranges.now.high ranges.now.chosen)
-        listing.old listing.new }
-{
-    put_fitted_block(listing, sizes, tree, &fitted.fit);
-    listing.put_index_line(fitted.index);
-    put_state_lines(listing, sizes, ranges);
+impl<'a> Legend<'a> {
+    // Puts the blocks of a tree: its `T` lines and `t`, the line `c`, and its `H` lines.
+    fn put_tree(&self, listing: &mut Listing, tree: &Tree, fitted: &FittedTree)
+        ensures { Puts
+            (tree_texts self.now.names.n (names_of self.now.names) self.now.m tree.now fitted.now
+            self.now.ranges.now.low self.now.ranges.now.high self.now.ranges.now.chosen)
+            listing.old listing.new }
+    {
+        self.put_fitted_block(listing, tree, &fitted.fit);
+        listing.put_index_line(fitted.index);
+        self.put_state_lines(listing);
+    }
+
+    // Puts the blocks of a `W` file: its `P` lines and `p`, its `W` lines and `w`, and those of the tree built.
+    fn put_results(&self, listing: &mut Listing, results: &Results)
+        ensures { Puts
+            (result_texts self.now.names.n (names_of self.now.names) self.now.m results.now
+            self.now.ranges.now.low self.now.ranges.now.high self.now.ranges.now.chosen)
+            listing.old listing.new }
+    {
+        let names = self.names;
+        let network = &results.network;
+        let built = &results.built;
+        let put_prim = |listing: &mut Listing, link: Link| {
+            listing.put_prim_line(names, link);
+        };
+        let put_wagner = |listing: &mut Listing, placement: Placement| {
+            listing.put_wagner_line(names, placement);
+        };
+        put_block(
+            listing,
+            network.links.as_slice(),
+            put_prim,
+            b'p',
+            network.total,
+        );
+        put_block(
+            listing,
+            built.placements.as_slice(),
+            put_wagner,
+            b'w',
+            built.length,
+        );
+        self.put_tree(listing, &built.tree, &results.fitted);
+    }
 }
 
-// Puts the blocks of a `W` file: its `P` lines and `p`, its `W` lines and `w`, and those of the tree built.
-fn put_results(listing: &mut Listing, sizes: Sizes, results: &Results, ranges: &Ranges)
-    ensures { Puts
-        (result_texts sizes.entry.names.n (names_of sizes.entry.names) sizes.entry.m results.now
-        ranges.now.low ranges.now.high ranges.now.chosen)
-        listing.old listing.new }
-{
-    let network = &results.network;
-    let built = &results.built;
-    let put_prim = |listing: &mut Listing, link: Link| {
-        listing.put_prim_line(sizes.names, link);
-    };
-    let put_wagner = |listing: &mut Listing, placement: Placement| {
-        listing.put_wagner_line(sizes.names, placement);
-    };
-    put_block(listing, network.links(), put_prim, b'p', network.total);
-    put_block(listing, built.placements(), put_wagner, b'w', built.length);
-    put_tree(listing, sizes, &built.tree, &results.fitted, ranges);
+impl Room {
+    // By what the lines of the job with this header go.
+    fn legend(&self, header: Header) -> Legend<'_>
+        requires { SizesWithin header.n header.m }
+        ensures { LegendOf self.now header result }
+    {
+        Legend {
+            names: Names {
+                n: header.n,
+                lent: &self.lists.names,
+            },
+            m: header.m,
+            ranges: &self.ranges,
+        }
+    }
 }
 
-// The fit of a tree to the matrix of lists, and its index. The states of the HTUs are written into ranges.
-// Kept: no plainer, a struct of header and lists with these facts would lend the matrix to `build`, and owe them anew once that is written.
-fn fitted_of(header: Header, lists: &Lists, tree: &Tree, ranges: &mut Ranges) -> FittedTree
-    requires lent_matrix { LentMatrix lists.now.matrix header.n header.m × LentWeights lists.now.weights header.m }
-    requires branching { branching_within header.n (ancestors tree.now) ≡ true }
-    ensures { FittedOf (weighing lists.now.weights) (rows_of lists.now.matrix header.m header.n) header.n header.m (ancestors tree.now)
+impl Lists {
+    // The matrix and its weights, as a header counts its taxa and characters, to be read.
+    fn lent(&self, header: Header) -> Lent<'_>
+        ensures { LendsLists self.now header result }
+    {
+        Lent {
+            matrix: &self.matrix,
+            weights: &self.weights,
+            n: header.n,
+            m: header.m,
+        }
+    }
+}
+
+// The fit of a tree to what is lent, and its index. The states of the HTUs are written into ranges.
+// Kept: no plainer, what is lent is made for this one reading: a view with the fact would be made by both callers, and `floor_of` and `fit_tree` take what is lent without it.
+fn fitted_of(lent: &Lent, tree: &Tree, ranges: &mut Ranges) -> FittedTree
+    requires lent_matrix { LentMatrix lent.now.matrix.now lent.now.n lent.now.m × LentWeights lent.now.weights.now lent.now.m }
+    requires branching { branching_within lent.now.n (ancestors tree.now) ≡ true }
+    ensures { FittedOf (weighing lent.now.weights.now) (rows_of lent.now.matrix.now lent.now.m lent.now.n) lent.now.n lent.now.m (ancestors tree.now)
         ranges.new.low ranges.new.high ranges.new.chosen result }
 {
-    let n = header.n;
-    let m = header.m;
-    let floor = floor_of(&lists.matrix, &lists.weights, n, m);
+    let floor = floor_of(lent);
     let fit = fit_tree(
-        &lists.matrix,
-        &lists.weights,
-        n,
-        m,
+        lent,
         tree,
         &mut ranges.low,
         &mut ranges.high,
@@ -113,22 +166,21 @@ fn fitted_of(header: Header, lists: &Lists, tree: &Tree, ranges: &mut Ranges) ->
     }
 }
 
-// The network of the matrix of lists, its build in the order that the header means, and what is found of that tree. The rows of the HTUs
-// are written into the matrix, their states into ranges.
-// Kept: no plainer, header, lists and ranges as one struct: each method would have to promise what it leaves of the other two.
-fn results_of(header: Header, lists: &mut Lists, ranges: &mut Ranges) -> Results
-    requires { LentMatrix lists.old.matrix header.n header.m × LentWeights lists.old.weights header.m }
-    ensures found { ResultsOf (order_meant header.order) lists.old.matrix lists.old.weights header.n header.m
-        ranges.new.low ranges.new.high ranges.new.chosen result }
-    ensures named { lists.new.names ≡ lists.old.names }
+// The network of the matrix that a room holds, its build in the order that the header means, and what is found of that tree. The rows of
+// the HTUs are written into the matrix, their states into the room's ranges.
+// Kept: no plainer, `build` writes the matrix between two readings, and a struct with this fact would owe it while that is written.
+fn results_of(header: Header, room: &mut Room) -> Results
+    requires { LentMatrix room.old.lists.matrix header.n header.m × LentWeights room.old.lists.weights header.m }
+    ensures found { ResultsOf (order_meant header.order) room.old.lists.matrix room.old.lists.weights header.n header.m
+        room.new.ranges.low room.new.ranges.high room.new.ranges.chosen result }
+    ensures named { room.new.lists.names ≡ room.old.lists.names }
 {
-    let n = header.n;
-    let m = header.m;
+    let lists = &mut room.lists;
     let order = order_meant(header.order);
     // A matrix that was read passes the questions.
-    let links = network(&lists.matrix, &lists.weights, n, m).unwrap();
-    let built = build(&mut lists.matrix, &lists.weights, n, m, order).unwrap();
-    let fitted = fitted_of(header, lists, &built.tree, ranges);
+    let links = network(&lists.lent(header)).unwrap();
+    let built = build(&mut lists.matrix, &lists.weights, header.n, header.m, order).unwrap();
+    let fitted = fitted_of(&lists.lent(header), &built.tree, &mut room.ranges);
     Results {
         network: links,
         built,
@@ -136,48 +188,23 @@ fn results_of(header: Header, lists: &mut Lists, ranges: &mut Ranges) -> Results
     }
 }
 
-// Puts the listing of a `W` file with this header that lists hold. No branching is read.
-// Kept: no plainer, header, lists and ranges as one struct would be parted again at once, for `results_of` and for the names.
-fn put_built(listing: &mut Listing, header: Header, lists: &mut Lists, ranges: &mut Ranges)
-    requires lent_matrix { LentMatrix lists.old.matrix header.n header.m × LentWeights lists.old.weights header.m }
-    requires wagner_file { header.kind ≡ Kind.Wagner }
-    ensures { ListsJob header (lists_of lists.old) listing.old listing.new }
-{
-    let found = results_of(header, lists, ranges);
-    let names = Names {
-        n: header.n,
-        lent: &lists.names,
-    };
-    let sizes = Sizes { names, m: header.m };
-    put_results(listing, sizes, &found, ranges);
-}
-
-// Puts the listing of an `F` file with this header that lists hold.
-// Kept: no plainer, header, lists and ranges as one struct would be parted again at once, for `fitted_of` and for the names.
-fn put_own(listing: &mut Listing, header: Header, lists: &Lists, ranges: &mut Ranges)
-    requires lent_matrix { LentMatrix lists.now.matrix header.n header.m × LentWeights lists.now.weights header.m }
-    requires own_file { (header.kind ≡ Kind.Own) × BranchingLent header lists.now.branches }
-    ensures { ListsJob header (lists_of lists.now) listing.old listing.new }
-{
-    let tree = tree_of(&records_in(&lists.branches), header.n);
-    let fitted = fitted_of(header, lists, &tree, ranges);
-    let names = Names {
-        n: header.n,
-        lent: &lists.names,
-    };
-    let sizes = Sizes { names, m: header.m };
-    put_tree(listing, sizes, &tree, &fitted, ranges);
-}
-
-// Puts the listing of the job with this header that lists hold.
-// Kept: no plainer, the lists are there before the header is read: a struct of them and of ranges would be made for this one call.
-pub(crate) fn put_job(listing: &mut Listing, header: Header, lists: &mut Lists, ranges: &mut Ranges)
-    requires lent_matrix { LentMatrix lists.old.matrix header.n header.m × LentWeights lists.old.weights header.m }
-    requires branching_lent { BranchingLent header lists.old.branches }
-    ensures { ListsJob header (lists_of lists.old) listing.old listing.new }
+// Puts the listing of the job with this header that a room holds. Of a `W` file no branching is read.
+// Kept: no plainer, the two kinds of file have listings of different blocks, and no other function of this crate goes by the kind.
+// Kept: no plainer, `build` writes the matrix between two readings, and a struct with this fact would owe it while that is written.
+pub(crate) fn put_job(listing: &mut Listing, header: Header, room: &mut Room)
+    requires lent_matrix { LentMatrix room.old.lists.matrix header.n header.m × LentWeights room.old.lists.weights header.m }
+    requires branching_lent { BranchingLent header room.old.lists.branches }
+    ensures { ListsJob header (lists_of room.old.lists) listing.old listing.new }
 {
     match header.kind {
-        Kind::Wagner => put_built(listing, header, lists, ranges),
-        Kind::Own => put_own(listing, header, lists, ranges),
+        Kind::Wagner => {
+            let found = results_of(header, room);
+            room.legend(header).put_results(listing, &found);
+        }
+        Kind::Own => {
+            let tree = tree_of(&records_in(&room.lists.branches), header.n);
+            let fitted = fitted_of(&room.lists.lent(header), &tree, &mut room.ranges);
+            room.legend(header).put_tree(listing, &tree, &fitted);
+        }
     }
 }

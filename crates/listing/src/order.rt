@@ -4,7 +4,7 @@ ghost use Rattle.listing.specs.Meant.{order_meant};
 
 use branching::order::Order;
 
-// The order that a word says, and the one that is meant without a word.
+// The order that line 1 says by a word, and the one that is meant without a word.
 pub fn order_meant(word: Option<Order>) -> Order
     ensures { result ≡ order_meant word }
 {

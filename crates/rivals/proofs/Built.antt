@@ -65,7 +65,7 @@ module _ (codes new : List ℤ) (weights : List ℕ) (n m : ℕ) (tree : List �
 -- what a build handed back: the tree, the rows of all its nodes in the matrix, and the first `count` placements
 abbrev pub built_back : List ℤ → ℕ → ℕ → WagnerTree → Built
 built_back new n m r =
-    record { tree = ancestors r.tree; rows = rows_of new m (n + (n - 2)); placements = take r.count r.placements }
+    record { tree = ancestors r.tree; rows = rows_of new m (n + (n - 2)); placements = take r.placements.count r.placements.items }
 
 -- a build that no question refuses
 module _ (order : Order) (codes new : List ℤ) (weights : List ℕ) (n m : ℕ) (r : WagnerTree)
@@ -78,13 +78,12 @@ module _ (order : Order) (codes new : List ℤ) (weights : List ℕ) (n m : ℕ)
       ap (λ (all : List ℤ). rows_of all m (n + (n - 2))) done.matrix
       ∙ after_rows (difference weights) codes n m lent.characters (ours_room order codes weights n m lent) (wagner_in order codes weights n m)
       (ours_sound order codes weights n m lent) in
-      let first : take r.count r.placements ≡ (wagner_in order codes weights n m).placements =
-      ap (take r.count) done.placements ∙ filled-first no_placement 63 r.count (wagner_in order codes weights n m).placements done.count in
+      let first : take r.placements.count r.placements.items ≡ (wagner_in order codes weights n m).placements =
+      ap (take r.placements.count) done.placements ∙ filled-first no_placement 63 r.placements.count (wagner_in order codes weights n m).placements done.count in
       ap₂ (λ (tree : List ℕ) (all : List (List ℤ)). record {
         tree = tree;
         rows = all;
-        placements = take r.count
-            r.placements;
+        placements = take r.placements.count r.placements.items;
       }) done.tree rows
       ∙ ap (λ (list : List Placement). record {
         tree = (wagner_in order codes weights n m).tree;

@@ -1,14 +1,10 @@
 -- `listing::call::list` meets its contract. Assumes nothing.
 use borrow.Author.Rules.{rules}
-use mathlib.Core.Path.{refl}
 use Rattle.listing.proofs.Called.{list-refused, list_written}
 use Rattle.listing.proofs.call.list.Goals as goal
 
 pub returns-then-out-ne-OUTPUT_SIZE : goal.returns-then-out-ne-OUTPUT_SIZE
 returns-then-out-ne-OUTPUT_SIZE c = list-refused _ _ c.if-out-ne-OUTPUT_SIZE.true
-
-pub put_file-requires : goal.put_file-requires
-put_file-requires c = refl
 
 pub returns : goal.returns
 returns c =

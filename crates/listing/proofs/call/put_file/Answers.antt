@@ -11,8 +11,8 @@ use Rattle.listing.proofs.call.put_file.Goals as goal
 use Rattle.listing.proofs.call.put_file.Goals.{After-read}
 
 -- the lists have their full size
-sizes : (c : After-read) → (length c.args.lists.now.matrix ≡ matrix_size) × (length c.args.lists.now.names ≡ names_size)
-    × (length c.args.lists.now.branches ≡ lent_numbers)
+sizes : (c : After-read) → (length c.args.room.now.lists.matrix ≡ matrix_size) × (length c.args.room.now.lists.names ≡ names_size)
+    × (length c.args.room.now.lists.branches ≡ lent_numbers)
 sizes c = (search rules, search rules, search rules)
 
 pub put_job-requires : goal.put_job-requires

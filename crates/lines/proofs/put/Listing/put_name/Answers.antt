@@ -1,21 +1,30 @@
 -- What the check leaves of `lines::put::Listing::put_name`.
-use native.Mathlib.Omega.{arith}
-use Rattle.lines.proofs.Puts.{left_start, left_end, left_put, left_same}
-use Rattle.lines.proofs.Fields.{first-here, first_on, first_past}
+use Rattle.std.proofs.Common.{rules, tests, of_calls}
+use mathlib.Core.Path.{ap, ◌∙◌}
+use lib.Dec.{eqb}
+use lib.ListN.{take}
+use Rattle.std.specs.Prelude.{not}
+use Rattle.std.proofs.lemmas.Iterator.{YieldsList-from_slice}
+use Rattle.std.proofs.lemmas.Iterator.Consumers.{YieldsList-at, YieldsList-end}
+use Rattle.std.proofs.lemmas.Iterator.Search.{YieldsList-from_take_while}
+use Rattle.file_form.specs.Bytes.{first_part}
+use Rattle.file_form.proofs.Text.Slices.{part_position}
+use Rattle.lines.proofs.Puts.{put_none, put_more, put_same}
 use Rattle.lines.proofs.put.Listing.put_name.Goals as goal
 
 pub loop-byte-init : goal.loop-byte-init
-loop-byte-init c = (omega arith, left_start _ _)
-
-pub returns-then-byte-eq0 : goal.returns-then-byte-eq0
-returns-then-byte-eq0 c = left_end (left_same (first-here 0 _ _ c.loop-byte-test.true c.if-byte-eq0.true) c.loop-byte.invariant.1)
+loop-byte-init c = (search (rules, of_calls), search (rules, of_calls), put_none _)
 
 pub loop-byte-preserved : goal.loop-byte-preserved
 loop-byte-preserved c =
-    let more = c.loop-byte-test.true in (
-      omega (arith, more),
-      left_put (left_same (first_on 0 _ _ more c.if-byte-eq0.false) c.loop-byte.invariant.1) c.put_byte.ensures,
-    )
+    (search (rules, of_calls), search (rules, of_calls), put_more _ c.loop-byte.yielded _ c.loop-byte.invariant.2 c.put_byte.ensures)
 
 pub returns : goal.returns
-returns c = left_end (left_same (first_past 0 _ _ c.loop-byte-test.false) c.loop-byte.invariant.1)
+unfolding first_part
+returns c =
+    let end = YieldsList-end
+    (YieldsList-at c.into_iter-byte-iterator.ensures.into_iter_gives
+    (YieldsList-from_take_while _ (λ byte. not (eqb byte 0)) (YieldsList-from_slice c.args.name.now (search rules)) (search rules) (search rules)
+    (λ x b q k. search (rules, tests))))
+    c.loop-byte.yielded c.loop-byte.byte-iterator c.loop-byte.yielded_by c.next.result c.next.new.self c.in-None.is c.next.ensures.steps in
+    put_same (end.0 ∙ ap (λ size. take size c.args.name.now) (part_position 0 c.args.name.now)) c.loop-byte.invariant.2

@@ -1,4 +1,4 @@
--- What the check leaves of `listing::blocks::put_node_lines`.
+-- What the check leaves of `listing::blocks::Legend::put_node_lines`.
 use mathlib.Core.Path.{ap}
 use Rattle.fitting.specs.declared.characters.States.{States}
 use Rattle.lines.specs.Kinds.{state_line}
@@ -7,7 +7,7 @@ use Rattle.lines.proofs.Puts.{left_start, left_end, left_put, left_same, put_sam
 use Rattle.listing.specs.Handed.{state_text_at}
 use Rattle.listing.proofs.BlockTexts.{states_from-one}
 use Rattle.listing.proofs.InTurn.{next_of, none_of}
-use Rattle.listing.proofs.blocks.put_node_lines.Goals as goal
+use Rattle.listing.proofs.blocks.Legend.put_node_lines.Goals as goal
 
 pub loop-j-init : goal.loop-j-init
 loop-j-init c = left_same (states_from-one _ _ _ _ _ _ _) (left_start _ _)
@@ -16,13 +16,13 @@ pub loop-j-preserved : goal.loop-j-preserved
 unfolding state_text_at
 loop-j-preserved c =
     let given = c.args in
-    let states = given.ranges.now in
-    let names = names_of given.sizes.names in
+    let states = given.self.now.ranges.now in
+    let names = names_of given.self.now.names in
     left_put
     (left_same
-    (next_of (state_text_at given.sizes.names.n names states.low states.high states.chosen given.v) _ _ c.loop-j-test.true) c.loop-j.invariant)
+    (next_of (state_text_at given.self.now.names.n names states.low states.high states.chosen given.v) _ _ c.loop-j-test.true) c.loop-j.invariant)
     (put_same
-    (ap (λ (of : States). state_line given.sizes.names.n names given.v c.loop-j.j of.low of.high of.chosen) c.states.ensures)
+    (ap (λ (of : States). state_line given.self.now.names.n names given.v c.loop-j.j of.low of.high of.chosen) c.states.ensures)
     c.put_state_line.ensures)
 
 pub returns : goal.returns

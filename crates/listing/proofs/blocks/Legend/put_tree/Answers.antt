@@ -1,7 +1,7 @@
--- `listing::job::put_tree` meets its contract: block after block. Assumes nothing.
+-- `listing::blocks::Legend::put_tree` meets its contract: block after block. Assumes nothing.
 use Rattle.listing.specs.Found.{tree_texts}
 use Rattle.lines.proofs.Puts.{put_then}
-use Rattle.listing.proofs.job.put_tree.Goals as goal
+use Rattle.listing.proofs.blocks.Legend.put_tree.Goals as goal
 
 pub returns : goal.returns
 unfolding tree_texts

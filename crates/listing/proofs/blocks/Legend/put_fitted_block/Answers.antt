@@ -1,4 +1,4 @@
--- What the check leaves of `listing::blocks::put_fitted_block`.
+-- What the check leaves of `listing::blocks::Legend::put_fitted_block`.
 use mathlib.Core.Path.{ap}
 use native.Mathlib.Omega.{arith}
 use Rattle.fitting.specs.Calls.{branch_at}
@@ -9,7 +9,7 @@ use Rattle.lines.proofs.Puts.{left_start, left_end, left_put, left_same, put_the
 use Rattle.listing.specs.Handed.{branch_text_at, fitted_texts}
 use Rattle.listing.proofs.BlockTexts.{branches_from_two}
 use Rattle.listing.proofs.InTurn.{next_of, none_of}
-use Rattle.listing.proofs.blocks.put_fitted_block.Goals as goal
+use Rattle.listing.proofs.blocks.Legend.put_fitted_block.Goals as goal
 
 pub loop-v-init : goal.loop-v-init
 loop-v-init c = (omega arith, left_same (branches_from_two _ _ _ _) (left_start _ _))
@@ -20,11 +20,11 @@ loop-v-preserved c =
     let known = c.loop-v.invariant in
     let v = c.loop-v.v in
     let given = c.args in
-    let names = names_of given.sizes.names in (
+    let names = names_of given.self.now.names in (
       omega arith,
-      left_put (left_same (next_of (branch_text_at given.sizes.names.n names given.tree.now.ancestors given.fit.now.branches) _ _ c.loop-v-test.true) known.1)
+      left_put (left_same (next_of (branch_text_at given.self.now.names.n names given.tree.now.ancestors given.fit.now.branches) _ _ c.loop-v-test.true) known.1)
           (put_same
-          (ap (λ above. branch_line given.sizes.names.n names v above (branch_at given.fit.now.branches v).length (branch_at given.fit.now.branches v).mark) c.ancestor.ensures) c.put_branch_line.ensures),
+          (ap (λ above. branch_line given.self.now.names.n names v above (branch_at given.fit.now.branches v).length (branch_at given.fit.now.branches v).mark) c.ancestor.ensures) c.put_branch_line.ensures),
     )
 
 pub returns : goal.returns
