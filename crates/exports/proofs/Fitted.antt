@@ -1,20 +1,16 @@
 -- What the exported call for a fit of the Wagner tree hands back, from what the build and the fit answer.
 use mathlib.Core.Path.{◌≡◌, refl, sym, ap, ◌∙◌}
-use mathlib.Core.Bool.{true, and-eq-true_iff}
+use mathlib.Core.Bool.{true}
 use mathlib.Core.List.{List}
 use Prim.Native.Nat.{ℕ, ◌*◌, ◌-◌, ◌≤◌}
 use native.Mathlib.Omega.{arith}
-use lib.Dec.{eqb}
 use lib.IntN.{ℤ}
 use lib.ListN.{length}
-use borrow.Author.Tests.{eqb-true}
 use Rattle.std.specs.Prelude.{Ok}
-use Rattle.matrix.specs.Shape.{matrix_size}
 use Rattle.matrix.specs.NodeRows.{rows_of}
 use Rattle.matrix.specs.Outcomes.{value}
-use Rattle.matrix.specs.declared.refusal.Refusal.TheVariants.{ListSize}
 use Rattle.matrix.specs.Questions.{ask_matrix}
-use Rattle.matrix.proofs.Passing.{ask_passed, matrix_passes}
+use Rattle.matrix.proofs.Passing.{matrix_passes}
 use Rattle.difference.specs.Rows.{weighing}
 use Rattle.branching.specs.Ancestors.{ancestors, ancestor}
 use Rattle.branching.proofs.Test.{branching_iff}
@@ -25,9 +21,9 @@ use Rattle.branching.specs.declared.order.Order.{Order}
 use Rattle.wagner.specs.Answers.{wagner_in, BuiltFrom}
 use Rattle.wagner.proofs.Lengths.{ours-branching}
 use Rattle.wagner.proofs.StillLent.{still_lent, same-taxa}
-use Rattle.fitting.specs.Calls.{states_written, lists_full, FitOf, TreeFitted}
+use Rattle.fitting.specs.Calls.{Low, High, Chosen, states_written, lists_full, FitOf, TreeFitted}
 use Rattle.fitting.specs.declared.whole.Fit.{Fit}
-use Rattle.fitting.specs.declared.whole.Which.TheVariants.{Low, High, Chosen}
+use Rattle.fitting.proofs.Shapes.{sizes}
 use Rattle.fitting.proofs.Handed.{handed_back_lem}
 use Rattle.fitting.proofs.Matrix.ThirdRival.{third_rival}
 use Rattle.fitting.proofs.Pass.Standing.{last_several}
@@ -35,14 +31,6 @@ use Rattle.exports.specs.Answers.{measured}
 use Rattle.exports.specs.Orders.{order_numbered, ask_order, ask_fit_order}
 use Rattle.exports.specs.Calls.{ask_wagner_fit, FitExported}
 use Rattle.exports.specs.declared.answers.Measured.{Measured}
-
--- the sizes of three lists
-sizes : (low high chosen : ℕ) → lists_full low high chosen ≡ true → (low ≡ matrix_size) × (high ≡ matrix_size) × (chosen ≡ matrix_size)
-unfolding lists_full
-sizes low high chosen e =
-    let a = (and-eq-true_iff (eqb low matrix_size) _).0 e in
-    let b = (and-eq-true_iff (eqb high matrix_size) (eqb chosen matrix_size)).0 a.1 in
-    (eqb-true low matrix_size a.0, eqb-true high matrix_size b.0, eqb-true chosen matrix_size b.1)
 
 -- the Wagner tree of a matrix that no question refuses, fitted into three lists of full size
 module _ (order : Order) (codes : List ℤ) (weights : List ℕ) (n m : ℕ) (low high chosen : List ℤ)
@@ -87,22 +75,15 @@ module _ (order : Order) (codes : List ℤ) (weights : List ℕ) (n m : ℕ) (lo
         );
       }
 
--- if the questions on the sizes and the number pass, the three lists have their full size
-lists-full : (low high chosen size weights number : ℕ) → ask_fit_order low high chosen size weights number ≡ Ok tt
-    → lists_full low high chosen ≡ true
-unfolding ask_fit_order
-lists-full low high chosen size weights number told = (ask_passed (lists_full low high chosen) ListSize (ask_order size weights number) told).0
-
 -- the same in the order with a number, behind the questions on the sizes and the number
 pub tree_fitted : (codes : List ℤ) (weights : List ℕ) (n m number : ℕ) (low high chosen : List ℤ)
-    → ask_fit_order (length low) (length high) (length chosen) (length codes) (length weights) number ≡ Ok tt
+    → lists_full (length low) (length high) (length chosen) ≡ true → ask_order (length codes) (length weights) number ≡ Ok tt
     → (order : Order) → order ≡ order_numbered number → (new : List ℤ) (built : WagnerTree) → BuiltFrom order codes new weights n m built
     → (low' high' chosen' : List ℤ) (fit : Fit)
     → TreeFitted new weights n m (ancestors built.tree) low low' high high' chosen chosen' fit
     → FitExported (order_numbered number) (ask_wagner_fit codes weights n m number low high chosen) codes new weights n m
     low low' high high' chosen chosen' (measured (value fit.total))
-unfolding ask_wagner_fit
-tree_fitted codes weights n m number low high chosen told order is new built done low' high' chosen' fit of =
-    let full = lists-full _ _ _ _ _ _ told in
-    rw (told, sym is)
+unfolding ask_wagner_fit ask_fit_order
+tree_fitted codes weights n m number low high chosen full told order is new built done low' high' chosen' fit of =
+    rw (full, told, sym is)
     (matrix-fitted order codes weights n m low high chosen full new built done low' high' chosen' fit (measured (value fit.total)) of refl)

@@ -15,11 +15,9 @@ use Rattle.wagner.specs.Build.{wagner_length}
 use Rattle.wagner.specs.Matrix.{matrix_after}
 use Rattle.wagner.specs.Answers.{wagner_in}
 use Rattle.fitting.specs.Fit.{fitted_total}
-use Rattle.fitting.specs.Calls.{states_written}
+use Rattle.fitting.specs.Calls.{Which, Low, High, Chosen, states_written}
 use Rattle.fitting.specs.Handing.{HandedBack}
 use Rattle.fitting.specs.declared.whole.Fit.{Fit}
-use Rattle.fitting.specs.declared.whole.Which.{Which}
-use Rattle.fitting.specs.declared.whole.Which.TheVariants.{Low, High, Chosen}
 use Rattle.consistency.specs.Calls.{floor_answer, index_answer}
 use Rattle.listing.specs.Listing.{output}
 use Rattle.listing.specs.Call.{ask_output}

@@ -1,5 +1,5 @@
 // The calls that `exports_c` exports.
-// Kept: interface, C hands over each list and number by itself: matrix, weights, n and m, and the three lists of states.
+// Kept: interface, C hands over each list and number by itself (matrix, weights, n and m, the three lists of states) and an order as a number, and `wagner_list` answers 0 where it refuses.
 ghost use Rattle.std.specs.Prelude.{◌≡◌};
 ghost use Rattle.matrix.specs.Outcomes.{result_says};
 ghost use Rattle.file_form.specs.Written.{lent};
@@ -9,12 +9,13 @@ ghost use Rattle.exports.specs.Calls.{ListExported, ReadExported, network_export
 ghost use Rattle.exports.specs.Calls.{ask_wagner_fit, FitExported, floor_exported, index_exported};
 
 use crate::answers::{FileRead, Indexed, Measured};
-use crate::orders::{fit_order_asked, order_asked};
+use crate::orders::order_asked;
 use branching::numbers::{LENT_NUMBERS, records_in};
 use consistency::calls::{floor, index};
 use consistency::index::Index;
-use fitting::whole::fit_tree;
+use fitting::whole::{fit_tree, lists_full};
 use listing::call::list;
+use matrix::lent::Lent;
 use matrix::refusal::Refusal;
 use matrix_file::reading::read;
 use prim::network::network;
@@ -49,12 +50,17 @@ pub fn wagner_read(
 pub fn wagner_network(matrix: &[i32], weights: &[u8], n: usize, m: usize) -> Measured
     ensures { result ≡ network_exported matrix.now weights.now n m }
 {
-    network(matrix, weights, n, m)
-        .map(|links| links.total)
-        .into()
+    let lent = Lent {
+        matrix,
+        weights,
+        n,
+        m,
+    };
+    network(&lent).map(|links| links.total).into()
 }
 
 // The length of the Wagner tree of a lent matrix, in the order of placing with a number, and the codes of its HTUs in their rows.
+// Kept: no plainer, it takes what the call of C below is handed, which hands it on whole.
 #[tactic(auto, unfolding(crate::specs::Calls::ask_build))]
 fn built_length(
     matrix: &mut [i32],
@@ -66,7 +72,7 @@ fn built_length(
     ensures { BuildExported (order_numbered number) (ask_build matrix.old weights.now n m number)
         matrix.old matrix.new weights.now n m (measured (result_says result)) }
 {
-    let order = order_asked(matrix.len(), weights.len(), number)?;
+    let order = order_asked(matrix, weights, number)?;
     let built = build(matrix, weights, n, m, order)?;
     Ok(built.length)
 }
@@ -82,7 +88,8 @@ pub fn wagner_build(matrix: &mut [i32], weights: &[u8], n: usize, m: usize, orde
 
 // The fitted total of the Wagner tree of a lent matrix, in the order of placing with a number, with the codes of the HTUs in their rows and
 // their states in three lists.
-#[tactic(auto, unfolding(crate::specs::Calls::ask_wagner_fit))]
+// Kept: no plainer, it takes what the call of C below is handed, which hands it on whole.
+#[tactic(auto, unfolding(crate::specs::Calls::ask_wagner_fit, crate::specs::Orders::ask_fit_order))]
 fn fitted_total(
     matrix: &mut [i32],
     weights: &[u8],
@@ -98,16 +105,18 @@ fn fitted_total(
         matrix.old matrix.new weights.now n m
         low.old low.new high.old high.new chosen.old chosen.new (measured (result_says result)) }
 {
-    let order = fit_order_asked(
-        low.len(),
-        high.len(),
-        chosen.len(),
-        matrix.len(),
-        weights.len(),
-        number,
-    )?;
+    if !lists_full(low.len(), high.len(), chosen.len()) {
+        return Err(Refusal::ListSize);
+    }
+    let order = order_asked(matrix, weights, number)?;
     let built = build(matrix, weights, n, m, order)?;
-    let fit = fit_tree(matrix, weights, n, m, &built.tree, low, high, chosen);
+    let lent = Lent {
+        matrix,
+        weights,
+        n,
+        m,
+    };
+    let fit = fit_tree(&lent, &built.tree, low, high, chosen);
     Ok(fit.total)
 }
 
@@ -137,24 +146,24 @@ pub fn wagner_fit(
 pub fn wagner_floor(matrix: &[i32], weights: &[u8], n: usize, m: usize) -> Measured
     ensures { result ≡ floor_exported matrix.now weights.now n m }
 {
-    floor(matrix, weights, n, m).into()
+    let lent = Lent {
+        matrix,
+        weights,
+        n,
+        m,
+    };
+    floor(&lent).into()
 }
 
 // The index of a branching that is lent as 375 numbers.
 #[tactic(auto, unfolding(crate::specs::Calls::index_exported))]
-fn lent_index(
-    matrix: &[i32],
-    weights: &[u8],
-    n: usize,
-    m: usize,
-    branches: &[usize],
-) -> Result<Option<Index>, Refusal>
-    ensures { indexed (result_says result) ≡ index_exported matrix.now weights.now n m branches.now }
+fn lent_index(lent: &Lent, branches: &[usize]) -> Result<Option<Index>, Refusal>
+    ensures { indexed (result_says result) ≡ index_exported lent.now.matrix.now lent.now.weights.now lent.now.n lent.now.m branches.now }
 {
     if branches.len() != LENT_NUMBERS {
         return Err(Refusal::ListSize);
     }
-    index(matrix, weights, n, m, &records_in(branches))
+    index(lent, &records_in(branches))
 }
 
 // The consistency index of a branching that is lent as 375 numbers, three for each of 125 records: a node, its immediate ancestor, and a
@@ -168,5 +177,11 @@ pub fn wagner_index(
 ) -> Indexed
     ensures { result ≡ index_exported matrix.now weights.now n m branches.now }
 {
-    lent_index(matrix, weights, n, m, branches).into()
+    let lent = Lent {
+        matrix,
+        weights,
+        n,
+        m,
+    };
+    lent_index(&lent, branches).into()
 }

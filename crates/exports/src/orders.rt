@@ -1,12 +1,11 @@
 // Orders of placing by number, and the question put to such a number.
-ghost use Rattle.std.specs.Prelude.{◌≡◌};
+ghost use Rattle.std.specs.Prelude.{◌≡◌, length};
 ghost use Rattle.matrix.specs.Outcomes.{Answers};
-ghost use Rattle.exports.specs.Orders.{order_number, order_numbered, ask_order, ask_fit_order};
+ghost use Rattle.exports.specs.Orders.{order_number, order_numbered, ask_order};
 
 use branching::order::Order;
-use fitting::whole::lists_full;
 use matrix::refusal::Refusal;
-use matrix::{COLUMNS, ROWS};
+use matrix::{COLUMNS, MATRIX_SIZE};
 
 // The number of the order by advancement.
 // Kept: interface, C hands an order over as a number and reads it as one.
@@ -30,10 +29,10 @@ pub(crate) fn order_number(order: Order) -> u64
 // The order with a number, behind the sizes of the matrix and of the weights.
 // Kept: interface, the numbers are C's; as `TryFrom<u64>` they would have to stand in branching, which knows nothing of C.
 #[tactic(auto, unfolding(crate::specs::Orders::ask_order, crate::specs::Orders::is_number, crate::specs::Orders::order_numbered))]
-pub(crate) fn order_asked(size: usize, weights: usize, number: u64) -> Result<Order, Refusal>
-    ensures { Answers (ask_order size weights number) (λ order. order ≡ order_numbered number) result }
+pub(crate) fn order_asked(matrix: &[i32], weights: &[u8], number: u64) -> Result<Order, Refusal>
+    ensures { Answers (ask_order (length matrix.now) (length weights.now) number) (λ order. order ≡ order_numbered number) result }
 {
-    if size != ROWS * COLUMNS || weights != COLUMNS {
+    if matrix.len() != MATRIX_SIZE || weights.len() != COLUMNS {
         return Err(Refusal::ListSize);
     }
     match number {
@@ -41,22 +40,4 @@ pub(crate) fn order_asked(size: usize, weights: usize, number: u64) -> Result<Or
         CLOSEST => Ok(Order::Closest),
         _ => Err(Refusal::UnknownOrder),
     }
-}
-
-// The order with a number, behind the sizes of the three lists of a fit and those of the matrix and of the weights.
-#[tactic(auto, unfolding(crate::specs::Orders::ask_fit_order))]
-pub(crate) fn fit_order_asked(
-    low: usize,
-    high: usize,
-    chosen: usize,
-    size: usize,
-    weights: usize,
-    number: u64,
-) -> Result<Order, Refusal>
-    ensures { Answers (ask_fit_order low high chosen size weights number) (λ order. order ≡ order_numbered number) result }
-{
-    if !lists_full(low, high, chosen) {
-        return Err(Refusal::ListSize);
-    }
-    order_asked(size, weights, number)
 }

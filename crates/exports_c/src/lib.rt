@@ -1,5 +1,5 @@
 // The calls for other languages, as a static library. Each hands its arguments to the call of the same name in `exports`, and has its contract.
-// Kept: interface, C hands over each list and number by itself: matrix, weights, n and m, and the three lists of states.
+// Kept: interface, C hands over each list and number by itself (matrix, weights, n and m, the three lists of states) and an order as a number, and `wagner_list` answers 0 where it refuses.
 #![tactic(auto)]
 
 ghost use Rattle.std.specs.Prelude.{◌≡◌};
