@@ -3,11 +3,12 @@
 // Before them stand calls that are lent bytes of another number than the full size.
 // A case is the length of the file and the number of bytes that are kept of it, each in three bytes, the highest first, and then these
 // bytes; the file goes on with `x` up to its length.
-// Kept: no plainer, a file and the bytes lent for its listing are two lists of bytes of different use.
 #![tactic(auto)]
 
+ghost use Rattle.std.specs.Prelude.{◌≡◌, ◌≤◌, length, IfSome};
+
 use exports::calls::wagner_list;
-use input::read_full;
+use input::{MOST_CASES, MOST_READ, kept, read_counted, read_number};
 use listing::call::{OUTPUT_SIZE, list};
 use matrix::refusal::number;
 use std::io::Read;
@@ -20,21 +21,9 @@ const LENT: u8 = 255;
 // The most bytes that are printed whole.
 const MOST_PRINTED: usize = 1500;
 
-// The most bytes that a file of a case may have.
-const MOST_READ: usize = 65536;
-
-// The most cases that are read.
-const MOST_CASES: usize = 10000;
-
-// How many of the lent bytes are as they were lent.
-// Kept: no plainer, read_files counts by the same line; a crate of both programs would be made for it alone.
-fn kept(lent: &[u8]) -> usize {
-    lent.iter().filter(|byte| **byte == LENT).count()
-}
-
 // Prints how many of the lent bytes are as they were lent.
 fn print_kept(rt: &impl Print, lent: &[u8]) -> io::Result<()> {
-    println!(rt; "k\t{}", kept(lent))
+    println!(rt; "k\t{}", kept(lent, &LENT))
 }
 
 // The number below which the sums of the checksum Adler-32 stay.
@@ -71,10 +60,7 @@ fn print_file(rt: &impl Print, file: &[u8], out: &mut [u8]) -> io::Result<()> {
 // Prints what the two calls answer to bytes of another number than the full size, and how many of these stay.
 fn print_refused(rt: &impl Print, out: &mut [u8]) -> io::Result<()> {
     let file = b"W\t1\t1\nA\t0\n";
-    let refused = match list(file, out) {
-        Ok(_) => 0,
-        Err(refusal) => number(refusal),
-    };
+    let refused = list(file, out).err().map_or(0, number);
     println!(rt; "R\t{refused}\t{}", wagner_list(file, out))?;
     print_kept(rt, out)
 }
@@ -88,50 +74,30 @@ fn print_other_sizes(rt: &(impl Print + AllocGlobal)) -> io::Result<()> {
     Ok(())
 }
 
-// Reads the bytes that are kept of a file into the front of memory of its length and prints its listing; answers whether they were there.
-// Kept: no plainer, an `Option` would hold nothing where they were there.
-fn read_case(
-    rt: &impl Print,
-    cases: &mut impl Read,
-    kept: usize,
-    file: &mut [u8],
-    out: &mut [u8],
-) -> io::Result<bool> {
+// Reads a case into the front of bytes that then go on with `x`: the length of its file, if there is one and it has room.
+fn read_case(cases: &mut impl Read, file: &mut [u8]) -> Option<usize>
+    ensures bound { IfSome result (λ size. size ≤ length file.new) }
+    ensures same_length { length file.new ≡ length file.old }
+{
+    let size = read_number(cases)?;
     file.fill(b'x');
-    if file.len() < kept {
-        return Ok(false);
+    let read = read_counted(cases, file)?;
+    if !(read..=file.len()).contains(&size) {
+        return None;
     }
-    if read_full(cases, &mut file[..kept]) < kept {
-        return Ok(false);
-    }
-    print_file(rt, file, out)?;
-    Ok(true)
-}
-
-// Reads one case and prints its listing; answers whether there was one.
-// Kept: no plainer, an `Option` would hold nothing where there was one.
-fn next_case(rt: &impl Print, cases: &mut impl Read, out: &mut [u8]) -> io::Result<bool> {
-    let mut head = [0u8; 6];
-    if read_full(cases, &mut head) < 6 {
-        return Ok(false);
-    }
-    let length = u32::from_be_bytes([0, head[0], head[1], head[2]]) as usize;
-    if MOST_READ < length {
-        return Ok(false);
-    }
-    let kept = u32::from_be_bytes([0, head[3], head[4], head[5]]) as usize;
-    let mut file = [0u8; MOST_READ];
-    read_case(rt, cases, kept, &mut file[..length], out)
+    Some(size)
 }
 
 // Prints the listings of all cases.
 fn print_cases(rt: &(impl Print + Files), out: &mut [u8]) -> io::Result<()> {
     let mut cases = fs::open(rt, "cases")?;
-    // Kept: no plainer, a `loop` would need a proof that the file of cases ends.
+    let mut file = [0u8; MOST_READ];
+    // Kept: no plainer, a `loop` would need a proof that the file of cases ends, and one loop in `input` for edges and read_files would take a closure, with a `requires`.
     for _ in 0..MOST_CASES {
-        if !next_case(rt, &mut cases, out)? {
+        let Some(size) = read_case(&mut cases, &mut file) else {
             break;
-        }
+        };
+        print_file(rt, &file[..size], out)?;
     }
     Ok(())
 }

@@ -12,17 +12,14 @@ use branching::numbers::{LENT_NUMBERS, RECORD};
 use branching::order::Order;
 use file_form::header::{Header, Kind};
 use file_form::{NAME_SIZE, NAMES_SIZE};
-use input::read_full;
+use input::{MOST_CASES, MOST_READ, kept, read_counted};
 use matrix::questions::in_range;
 use matrix::refusal::number;
 use matrix::rows::row;
-use matrix::{COLUMNS, MOST_TAXA, ROWS};
+use matrix::{COLUMNS, MATRIX_SIZE};
 use matrix_file::answer::Refused;
 use matrix_file::reading::read;
 use std::{fs, io};
-
-// The codes of a whole lent matrix.
-const CODES: usize = ROWS * COLUMNS;
 
 // What the lent lists hold before a read: no code, neither a weight nor a byte of a name, and no number of a branch record.
 const NO_CODE: i32 = 7777;
@@ -31,10 +28,8 @@ const NO_BYTE: u8 = 255;
 
 const NO_NUMBER: usize = 7777;
 
-// The most bytes that a case may have.
-const MOST_READ: usize = 65536;
-
 // The lists that a file was read into.
+// Kept: no plainer, the `Lists` of listing own lists of full size, and these lend lists of any.
 #[derive(Clone, Copy)]
 struct Lists<'a> {
     matrix: &'a [i32],
@@ -61,11 +56,7 @@ fn print_codes(rt: &impl Print, codes: &[i32]) -> io::Result<()> {
 
 // Prints a name without the zeros behind it.
 fn print_name(rt: &impl Print, name: &[u8]) -> io::Result<()> {
-    let end = name
-        .iter()
-        .position(|byte| *byte == 0)
-        .unwrap_or(name.len());
-    rt.write_all(&name[..end])
+    rt.write_all(name.split(|byte| *byte == 0).next().unwrap_or(&[]))
 }
 
 // Prints the rows of n taxa: the name of each and its codes.
@@ -98,7 +89,7 @@ fn print_records(rt: &impl Print, branches: &[usize], n: usize) -> io::Result<()
 }
 
 // The word of a kind.
-// Kept: no plainer, as a method of `Kind` it would be public in file_form for this program alone.
+// Kept: no plainer, crate file_form has no function (docs/DECISIONS.md 98), and a method or `Display` of `Kind` would be its first.
 fn kind_word(kind: Kind) -> &'static str {
     match kind {
         Kind::Wagner => "W",
@@ -107,7 +98,7 @@ fn kind_word(kind: Kind) -> &'static str {
 }
 
 // The field of the word for the order: a tab and the word, if line 1 carries one.
-// Kept: no plainer, as `Display` of `Order` it would stand in branching for this program alone.
+// Kept: no plainer, no other program prints the word, and beside a `Display` of `Order` in branching a `match` here would still put the tab or nothing.
 fn order_field(order: Option<Order>) -> &'static str {
     match order {
         None => "",
@@ -128,11 +119,6 @@ fn print_accepted(rt: &impl Print, header: &Header, lists: &Lists) -> io::Result
         print_records(rt, lists.branches, header.n)?;
     }
     Ok(())
-}
-
-// How many items of a list are as they were lent.
-fn kept<T: PartialEq>(list: &[T], lent: &T) -> usize {
-    list.iter().filter(|item| *item == lent).count()
 }
 
 // Prints what a read answered, and what it left of the lists.
@@ -169,45 +155,20 @@ fn print_read<const M: usize, const W: usize, const N: usize, const B: usize>(
     print_answer(rt, answer, &lists)
 }
 
-// Reads a file into a part of memory of its length and prints what was read; answers whether it was there whole.
-// Kept: no plainer, an `Option` would hold nothing where it was there.
-fn read_case(rt: &impl Print, cases: &mut impl io::Read, file: &mut [u8]) -> io::Result<bool> {
-    let got = read_full(cases, file);
-    if got < file.len() {
-        return Ok(false);
-    }
-    print_read::<CODES, COLUMNS, NAMES_SIZE, LENT_NUMBERS>(rt, file)?;
-    Ok(true)
-}
-
-// Reads one case and prints it; answers whether there was one.
-// Kept: no plainer, an `Option` would hold nothing where there was one.
-fn next_case(rt: &impl Print, cases: &mut impl io::Read) -> io::Result<bool> {
-    let mut size = [0u8; 3];
-    if read_full(cases, &mut size) < 3 {
-        return Ok(false);
-    }
-    let [high, middle, low] = size;
-    let length = u32::from_be_bytes([0, high, middle, low]) as usize;
-    if MOST_READ < length {
-        return Ok(false);
-    }
-    let mut file = [0u8; MOST_READ];
-    read_case(rt, cases, &mut file[..length])
-}
-
 fn main(rt: HostRuntime) -> io::Result<()> {
     // Names that are a byte too short, a matrix that is a code too long, weights that are one too few, and records that are a number too short.
-    print_read::<CODES, COLUMNS, 1023, LENT_NUMBERS>(&rt, b"")?;
+    print_read::<MATRIX_SIZE, COLUMNS, 1023, LENT_NUMBERS>(&rt, b"")?;
     print_read::<16129, COLUMNS, NAMES_SIZE, LENT_NUMBERS>(&rt, b"W\t1\t1\nA\t0\n")?;
-    print_read::<CODES, 127, NAMES_SIZE, LENT_NUMBERS>(&rt, b"W\t1\t1\nV\t2\nA\t0\n")?;
-    print_read::<CODES, COLUMNS, NAMES_SIZE, 374>(&rt, b"F\t2\t1\nA\t0\nB\t1\nC\t2\t1\n")?;
+    print_read::<MATRIX_SIZE, 127, NAMES_SIZE, LENT_NUMBERS>(&rt, b"W\t1\t1\nV\t2\nA\t0\n")?;
+    print_read::<MATRIX_SIZE, COLUMNS, NAMES_SIZE, 374>(&rt, b"F\t2\t1\nA\t0\nB\t1\nC\t2\t1\n")?;
     let mut cases = fs::open(&rt, "cases")?;
-    // Kept: no plainer, a `loop` would need a proof that the file of cases ends.
-    for _ in 0..10000 {
-        if !next_case(&rt, &mut cases)? {
+    let mut file = [0u8; MOST_READ];
+    // Kept: no plainer, a `loop` would need a proof that the file of cases ends, and one loop in `input` for edges and read_files would take a closure, with a `requires`.
+    for _ in 0..MOST_CASES {
+        let Some(length) = read_counted(&mut cases, &mut file) else {
             break;
-        }
+        };
+        print_read::<MATRIX_SIZE, COLUMNS, NAMES_SIZE, LENT_NUMBERS>(&rt, &file[..length])?;
     }
     Ok(())
 }

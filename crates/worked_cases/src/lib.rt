@@ -1,15 +1,16 @@
-// What the test programs share: the fields of the lines that they print, document 01's example, matrices of generated codes, weights, and
+// What the test programs share: lines, the matrix that they hold, document 01's example, generated codes, weights, and
 // digests of lists.
 #![tactic(auto)]
 
 pub mod digests;
 pub mod example;
+pub mod fits;
 pub mod generated;
+pub mod held;
 pub mod lines;
+pub mod shown;
 pub mod trees;
 pub mod weights;
 
-use matrix::{COLUMNS, ROWS};
-
-// A list of the matrix's shape has so many numbers.
-pub const SIZE: usize = ROWS * COLUMNS;
+// Digests and pseudo-random numbers are below it: 2 ^ 31.
+const MODULUS: u64 = 2147483648;

@@ -24,7 +24,7 @@ pub(crate) fn records_of(ancestors: &[usize]) -> [Branch; BRANCHES] {
 // Another number for node v of n taxa: the HTUs are numbered from the last to the first.
 #[tactic(auto, unfolding(matrix::specs::Shape::last_node))]
 fn renumbered(v: usize, n: usize) -> usize {
-    if (1..=MOST_TAXA).contains(&n) && n < v && v <= last_node(n) {
+    if (1..=MOST_TAXA).contains(&n) && (n + 1..=last_node(n)).contains(&v) {
         3 * n - 1 - v
     } else {
         v
@@ -36,7 +36,7 @@ pub(crate) fn shuffled(records: &[Branch; BRANCHES], n: usize) -> [Branch; BRANC
     let mut other = [Branch::default(); BRANCHES];
     for record in records {
         let node = renumbered(record.node, n);
-        if 2 <= node && node < BRANCHES + 2 {
+        if (2..BRANCHES + 2).contains(&node) {
             other[node - 2] = branch(node, renumbered(record.ancestor, n));
         }
     }

@@ -12,18 +12,20 @@ ghost use Rattle.references.specs.Written.{code_difference, records_say};
 use branching::branch::{BRANCHES, Branch};
 use branching::placement::Placement;
 use branching::tree::Tree;
-use fitting::whole::Fit;
-use matrix::COLUMNS;
+use fitting::characters::code_at;
+use fitting::ranges::Ranges;
+use matrix::lent::Lent;
 use matrix::refusal::Refusal;
-use matrix::rows::{row, write_row};
+use matrix::rows::write_row;
+use matrix::{COLUMNS, LIGHTEST, MATRIX_SIZE};
 use references::kept::place_in;
 use references::lent::fit_lent;
 use references::written::write_branches;
 use std::io;
-use worked_cases::SIZE;
 use worked_cases::example::write_example;
-use worked_cases::lines::{print_fitted, print_refusal};
-use worked_cases::trees::{print_branch, print_placement, print_tree};
+use worked_cases::fits::{print_fit, print_node};
+use worked_cases::lines::print_refusal;
+use worked_cases::trees::{print_branch, print_branches, print_placed, print_tree};
 use worked_cases::weights::first_three;
 
 // A record of other numbers than any that is written here.
@@ -34,23 +36,15 @@ const OTHER: Branch = Branch {
 };
 
 // The matrix of document 01's example, and the weights of its characters.
+// Kept: no plainer, one case lends 127 weights, and `Held` has 128: with a `Held` inside, the lent weights would stand beside weights that nobody reads.
 #[derive(Drop)]
 struct Example<'a> {
-    codes: [i32; SIZE],
+    codes: [i32; MATRIX_SIZE],
     weights: &'a [u8],
 }
 
-// The three lists for the states of a fit.
-// Kept: no plainer, the call for a fit writes three lists.
-#[derive(Drop)]
-struct States {
-    low: [i32; SIZE],
-    high: [i32; SIZE],
-    chosen: [i32; SIZE],
-}
-
 // A placement of taxon b on a tree that is kept here: the tree afterwards, and the answer.
-// Kept: no plainer, it takes what the call takes, whose clause it has.
+// Kept: no plainer, it takes what `place_in` takes, which writes the matrix, where Lent lends it to be read.
 fn placed_in(
     mut tree: Tree,
     matrix: &mut [i32],
@@ -67,79 +61,40 @@ fn placed_in(
 }
 
 // The branch records of a finished tree written into a list that is lent from here: the list afterwards, and the answer.
-// Kept: no plainer, it takes what the call takes, whose clause it has.
 fn written(
-    matrix: &[i32],
-    weights: &[u8],
-    n: usize,
-    m: usize,
+    lent: &Lent,
     tree: Tree,
     mut records: [Branch; BRANCHES],
 ) -> ([Branch; BRANCHES], Result<(), Refusal>)
-    ensures { result.0 ≡ afterwards (records_say matrix.now weights.now n m (ancestors tree) (length records))
-        (with_records (code_difference matrix.now weights.now m) n (ancestors tree) records) records }
+    ensures { result.0 ≡ afterwards (records_say lent.now.matrix.now lent.now.weights.now lent.now.n lent.now.m (ancestors tree) (length records))
+        (with_records (code_difference lent.now.matrix.now lent.now.weights.now lent.now.m) lent.now.n (ancestors tree) records) records }
 {
-    let asked = write_branches(matrix, weights, n, m, tree, &mut records);
+    let asked = write_branches(lent, tree, &mut records);
     (records, asked)
 }
 
-// The number of node v in the column behind the first `before` ones, in a list of the matrix's shape, and 0 beyond it.
-fn code_of(list: &[i32; SIZE], v: usize, before: usize) -> i32 {
-    row(list, COLUMNS, v).get(before).copied().unwrap_or(0)
-}
-
-// The W line or the R line of a placement on a tree that the caller keeps.
-fn print_placed(rt: &impl Print, placed: Result<Placement, Refusal>) -> io::Result<()> {
-    match placed {
-        Ok(placement) => print_placement(rt, placement),
-        Err(why) => print_refusal(rt, why),
-    }
-}
-
 // The M line of a node: its first three codes.
-fn print_row(rt: &impl Print, codes: &[i32; SIZE], v: usize) -> io::Result<()> {
-    let first = code_of(codes, v, 0);
-    let second = code_of(codes, v, 1);
-    let third = code_of(codes, v, 2);
+fn print_row(rt: &impl Print, codes: &[i32; MATRIX_SIZE], v: usize) -> io::Result<()> {
+    let first = code_at(codes, v, 1);
+    let second = code_at(codes, v, 2);
+    let third = code_at(codes, v, 3);
     println!(rt; "M\t{v}\t{first}\t{second}\t{third}")
 }
 
 // The B lines of the first six records and of the last one.
 fn print_records(rt: &impl Print, records: &[Branch; BRANCHES]) -> io::Result<()> {
-    for i in [0, 1, 2, 3, 4, 5, BRANCHES - 1] {
-        print_branch(rt, records[i])?;
-    }
-    Ok(())
-}
-
-// The T lines of nodes 2 to 6, and the t line.
-fn print_fit(rt: &impl Print, fit: &Fit) -> io::Result<()> {
-    for v in 2..7 {
-        print_fitted(rt, v, fit.branches[v].length, fit.branches[v].mark)?;
-    }
-    println!(rt; "t\t{}", fit.total)
-}
-
-// The lines of a fit, or its R line.
-fn print_answer(rt: &impl Print, answer: Result<Fit, Refusal>) -> io::Result<()> {
-    match answer {
-        Ok(fit) => print_fit(rt, &fit),
-        Err(why) => print_refusal(rt, why),
-    }
+    print_branches(rt, &records[..6])?;
+    print_branch(rt, records[BRANCHES - 1])
 }
 
 // The branch records of a finished tree written over old ones: the line of a refusal, the records' lines, and the records.
-// Kept: no plainer, it takes what the call takes, since a matrix of three codes is shown as well.
 fn show_written(
     rt: &impl Print,
-    matrix: &[i32],
-    weights: &[u8],
-    n: usize,
-    m: usize,
+    lent: &Lent,
     tree: Tree,
     old: [Branch; BRANCHES],
 ) -> io::Result<[Branch; BRANCHES]> {
-    let (records, asked) = written(matrix, weights, n, m, tree, old);
+    let (records, asked) = written(lent, tree, old);
     if let Err(why) = asked {
         print_refusal(rt, why)?;
     }
@@ -147,38 +102,26 @@ fn show_written(
     Ok(records)
 }
 
-impl States {
-    // Lists of sevens.
-    // Kept: no plainer, `Default` would say neither the number nor the size.
-    fn sevens() -> States {
-        States {
-            low: [7; SIZE],
-            high: [7; SIZE],
-            chosen: [7; SIZE],
-        }
-    }
-
-    // The H lines of the three characters of node v, and of one that the matrix does not have: what the three lists hold for it.
-    fn print_node(&self, rt: &impl Print, v: usize) -> io::Result<()> {
-        for before in 0..4 {
-            let low = code_of(&self.low, v, before);
-            let high = code_of(&self.high, v, before);
-            let chosen = code_of(&self.chosen, v, before);
-            println!(rt; "H\t{v}\t{}\t{low}\t{high}\t{chosen}", before + 1)?;
-        }
-        Ok(())
-    }
-}
-
 impl<'a> Example<'a> {
     // The example with these weights.
     fn weighed(weights: &'a [u8]) -> Example<'a> {
-        let mut codes = [0; SIZE];
+        let mut codes = [0; MATRIX_SIZE];
         write_example(&mut codes);
         Example { codes, weights }
     }
 
+    // What is lent of it with a call of n taxa and m characters.
+    fn lent(&self, n: usize, m: usize) -> Lent<'_> {
+        Lent {
+            matrix: &self.codes,
+            weights: self.weights,
+            n,
+            m,
+        }
+    }
+
     // A placement of taxon b on a tree that is kept here: its line, the tree's lines and the rows of nodes 5 and 6 afterwards.
+    // Kept: no plainer, n, m and b are numbers of the call, and each case gives its own.
     fn show_placed(
         &mut self,
         rt: &impl Print,
@@ -209,58 +152,56 @@ impl<'a> Example<'a> {
     // A finished tree written over other records, and trees and matrices that are refused.
     fn records(&mut self, rt: &impl Print, tree: Tree) -> io::Result<[Branch; BRANCHES]> {
         let old = [OTHER; BRANCHES];
-        show_written(rt, &[0; 3], self.weights, 4, 3, tree, old)?;
-        show_written(rt, &self.codes, self.weights, 65, 3, tree, old)?;
-        show_written(rt, &self.codes, self.weights, 4, 3, Tree::alone(), old)?;
-        show_written(rt, &self.codes, self.weights, 1, 3, Tree::alone(), old)?;
+        let short = Lent {
+            matrix: &[0; 3],
+            ..self.lent(4, 3)
+        };
+        show_written(rt, &short, tree, old)?;
+        show_written(rt, &self.lent(65, 3), tree, old)?;
+        show_written(rt, &self.lent(4, 3), Tree::alone(), old)?;
+        show_written(rt, &self.lent(1, 3), Tree::alone(), old)?;
         write_row(&mut self.codes, 6, &[0, 1000, 0]);
-        show_written(rt, &self.codes, self.weights, 4, 3, tree, old)?;
-        show_written(rt, &self.codes, self.weights, 4, 1, tree, old)?;
+        show_written(rt, &self.lent(4, 3), tree, old)?;
+        show_written(rt, &self.lent(4, 1), tree, old)?;
         write_row(&mut self.codes, 6, &[2, 1, 0]);
-        show_written(rt, &self.codes, self.weights, 4, 3, tree, old)
+        show_written(rt, &self.lent(4, 3), tree, old)
     }
 
-    // The fit of some records in m characters: its lines, and what the three lists then hold for node 5.
+    // The fit of some records in m characters: its lines, and what the three lists then hold for node 5, with a character that the matrix does not have.
     fn show_fit(
         &self,
         rt: &impl Print,
         m: usize,
         records: &[Branch],
-        states: &mut States,
+        ranges: &mut Ranges,
     ) -> io::Result<()> {
         let answer = fit_lent(
-            &self.codes,
-            self.weights,
-            4,
-            m,
+            &self.lent(4, m),
             records,
-            &mut states.low,
-            &mut states.high,
-            &mut states.chosen,
+            &mut ranges.low,
+            &mut ranges.high,
+            &mut ranges.chosen,
         );
-        print_answer(rt, answer)?;
-        states.print_node(rt, 5)
+        print_fit(rt, answer, 4)?;
+        print_node(rt, ranges, 5, 4)
     }
 
     // The fit of other records, of the records written with a list of three states, and of the records written.
     fn fits(&self, rt: &impl Print, records: &[Branch]) -> io::Result<()> {
-        let mut states = States::sevens();
-        self.show_fit(rt, 3, &[OTHER; BRANCHES], &mut states)?;
+        let mut ranges = Ranges::alike(7, 7, 7);
+        self.show_fit(rt, 3, &[OTHER; BRANCHES], &mut ranges)?;
         let answer = fit_lent(
-            &self.codes,
-            self.weights,
-            4,
-            3,
+            &self.lent(4, 3),
             records,
-            &mut states.low,
-            &mut states.high,
+            &mut ranges.low,
+            &mut ranges.high,
             &mut [7; 3],
         );
-        print_answer(rt, answer)?;
-        states.print_node(rt, 5)?;
-        self.show_fit(rt, 3, records, &mut states)?;
-        states.print_node(rt, 4)?;
-        states.print_node(rt, 6)
+        print_fit(rt, answer, 4)?;
+        print_node(rt, &ranges, 5, 4)?;
+        self.show_fit(rt, 3, records, &mut ranges)?;
+        print_node(rt, &ranges, 4, 4)?;
+        print_node(rt, &ranges, 6, 4)
     }
 }
 
@@ -278,15 +219,15 @@ fn asked(rt: &impl Print, weights: &[u8], m: usize) -> io::Result<()> {
     let mut example = Example::weighed(weights);
     let old = [OTHER; BRANCHES];
     example.show_placed(rt, Tree::alone(), 4, m, 2)?;
-    show_written(rt, &example.codes, weights, 4, m, Tree::alone(), old)?;
-    example.show_fit(rt, m, &old, &mut States::sevens())
+    show_written(rt, &example.lent(4, m), Tree::alone(), old)?;
+    example.show_fit(rt, m, &old, &mut Ranges::alike(7, 7, 7))
 }
 
 fn main(rt: HostRuntime) -> io::Result<()> {
-    worked(&rt, &[1u8; 128])?;
+    worked(&rt, &[LIGHTEST; COLUMNS])?;
     worked(&rt, &first_three(3, 1, 2))?;
     worked(&rt, &first_three(1, 9, 4))?;
-    asked(&rt, &[1u8; 127], 3)?;
+    asked(&rt, &[LIGHTEST; COLUMNS - 1], 3)?;
     asked(&rt, &first_three(1, 1, 0), 3)?;
     asked(&rt, &first_three(1, 10, 1), 3)?;
     asked(&rt, &first_three(1, 9, 0), 2)
