@@ -38,7 +38,7 @@ def by_point(rows):
         for i in range(4):
             sums[cells[0][0]][i] += int(cells[2 + i])
     lines = [f"| {p} {POINTS[p]} | " + " | ".join(str(n) for n in sums[p]) + " |" for p in POINTS]
-    return "\n".join(["| Point | Found | Changed | Kept | Left |", "|---|--:|--:|--:|--:|"] + lines)
+    return "\n".join(["| Point | Places found | Changed | Kept with a reason | Still to do |", "|---|--:|--:|--:|--:|"] + lines)
 
 
 def left(files):
@@ -71,9 +71,8 @@ def main():
     many, reasons = kept(files)
     parts = [
         "## The points, whole",
-        "Found when the pass began, changed since (found less those that stand now), kept with a reason beside the place, left without one:",
-        by_point([r for r in kinds.split("\n") if re.match(r"\| \d\w", r)]),
-        f"By kind, as `python3 tools/design_counts.py {short} --points` prints it:",
+        "Found when the pass began, changed since (found less those that stand now), kept with a reason beside the place, left without one,\n"
+        f"by kind, as `python3 tools/design_counts.py {short} --points` prints it; the sums by point end this page:",
         kinds,
         "### Left without a reason, by crate",
         left(files),
@@ -85,6 +84,8 @@ def main():
         f"As `python3 tools/design_changes.py {short} --markdown` prints it. Items are compared word by word, so one whose types or imports are\n"
         "spelled otherwise is a row here too. Theorems are those that a page of the repository names.",
         printed("tools/design_changes.py", commit, "--markdown"),
+        "## The points",
+        by_point([r for r in kinds.split("\n") if re.match(r"\| \d\w", r)]),
     ]
     with open(PAGE, "w", encoding="utf-8") as f:
         f.write(head + "\n\n".join(parts) + "\n")
