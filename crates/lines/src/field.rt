@@ -37,6 +37,7 @@ impl Field for u64 {
 }
 
 // A code in decimal.
+// Kept: no plainer, what `apart` promises of a code and 0 is the size that the definition of decimals takes; of `unsigned_abs` it would be shown.
 impl Field for i32 {
     ghost text = { decimal };
 

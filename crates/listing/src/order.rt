@@ -5,6 +5,7 @@ ghost use Rattle.listing.specs.Meant.{order_meant};
 use branching::order::Order;
 
 // The order that line 1 says by a word, and the one that is meant without a word.
+// Kept: no plainer, a derived `Default` of `Order` would stand in branching, which knows no files, and a file is what means an order without a word.
 pub fn order_meant(word: Option<Order>) -> Order
     ensures { result ≡ order_meant word }
 {

@@ -40,6 +40,7 @@ impl<'a, 'b> Made<'a, 'b> {
         }
     }
 
+    // Kept: unproved, up to `last_node(n) + 1` the check does not find that a place below the end is one of the list (docs/PROVING.md).
     // The least of what is kept of a taxon and the intervals of the tree, if it has one.
     fn least_kept(&self, places: &[u64; PLACES]) -> Option<u64>
         ensures { result ≡ least_key (kept places.now) (intervals self.now.nodes.lent.n (ancestors self.now.placed.now.tree)) }
