@@ -43,7 +43,7 @@ pub(crate) fn put_block<T: Copy, F: Fn(&mut Listing, T)>(
 
 impl<'a> Legend<'a> {
     // Kept: no plainer, `put_block` goes over the things of a list, and here each line wants the number of a node beside its branch.
-    // Kept: unproved, up to `last_node(n) + 1` the check does not find that a place below the end is one of the list (docs/PROVING.md).
+    // Kept: unproved, up to `last_node(n) + 1` the check leaves open that the sum fits and what the loop begins with: `last_node` stays unopened.
     // Puts the block of a fitted tree: its `T` lines, for nodes 2 to 2n-2, and the line `t`.
     pub(crate) fn put_fitted_block(&self, listing: &mut Listing, tree: &Tree, fit: &Fit)
         ensures { Puts (fitted_texts self.now.names.n (names_of self.now.names) tree.now fit.now) listing.old listing.new }
