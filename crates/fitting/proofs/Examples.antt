@@ -9,9 +9,11 @@ use Rattle.branching.specs.Ancestors.{ancestor, descendants}
 use Rattle.branching.specs.Nodes.{other_nodes}
 use Rattle.lists.specs.Sums.{sum_over}
 use Rattle.lists.specs.Filters.{keep}
-use Rattle.fitting.specs.Sets.{only, join, nearest_member, insert, in_order, middle}
-use Rattle.fitting.specs.Clades.{Clade, tip, fork, above, clade_at, clades_below}
-use Rattle.fitting.specs.Character.{value_at, up, chosen, ranges}
+use Rattle.fitting.specs.Sets.{only, own_sets, join, nearest_member, insert, in_order, middle, ordered}
+use Rattle.clades.specs.Clades.{Clade, tip, fork}
+use Rattle.fitting.specs.Clades.{above, clade_at, clades_below}
+use Rattle.clades.specs.ByNode.{value_at}
+use Rattle.clades.specs.Character.{up, chosen, ranges, row1_range, state_of, range_of}
 use Rattle.fitting.specs.Assignments.{character, branch_length, total}
 use Rattle.fitting.specs.Fit.{chosen_state, range, fitted_length, fitted_total, marked}
 use Rattle.fitting.proofs.Sets.Distance.{span}
@@ -43,7 +45,8 @@ pub record Printed : Type 0 where
 -- the fit of a matrix as a listing shows it, by weights
 unfoldable pub printed : List ℕ → List ℕ → List (List ℤ) → ℕ → ℕ → Printed
 unfolding clades_below clade_at above other_nodes numbers descendants keep ancestor fitted_total marked fitted_length total branch_length
-    sum_over apart part weight_at weight_of lower higher chosen_state range value_at chosen ranges up join nearest_member middle in_order insert only character flat_map
+    sum_over apart part weight_at weight_of lower higher chosen_state range state_of range_of row1_range value_at chosen ranges up join nearest_member middle in_order insert only
+    character flat_map
 printed weights tree rows n m = record {
   lengths = map (fitted_length (weighing weights).step tree rows n m) (other_nodes n);
   marks = map (marked (weighing weights).step tree rows n m) (other_nodes n);
@@ -104,7 +107,7 @@ unfolding printed
 fit-weighed = refl
 
 -- the set of #1 in character 3, from the tips up
-pub set_of_#1 : up (character rows_abcd 3) clade#1 ≡ span (pos 1) (pos 2)
+pub set_of_#1 : up ordered (own_sets (character rows_abcd 3)) clade#1 ≡ span (pos 1) (pos 2)
 unfolding printed
 set_of_#1 = refl
 
@@ -114,7 +117,7 @@ unfolding printed
 range_of_#1 = refl
 
 -- the set of a node from the tips up is not its range
-pub range_not_set : range tree_abcd rows_abcd 4 5 3 ≡ up (character rows_abcd 3) clade#1 → ⊥
+pub range_not_set : range tree_abcd rows_abcd 4 5 3 ≡ up ordered (own_sets (character rows_abcd 3)) clade#1 → ⊥
 range_not_set e = never (ap (λ a. a.low) (sym range_of_#1 ∙ e ∙ set_of_#1))
   where
     never : pos 0 ≡ pos 1 → ⊥
@@ -162,7 +165,7 @@ unfolding printed
 fit_five = refl
 
 -- in both characters the sets of #1 and #2 from the tips up are not their ranges
-pub sets_five : map (λ j. map (up (character rows_five j)) (fiveFrom#1 ∷ fiveFrom#2 ∷ [])) (1 ∷ 2 ∷ [])
+pub sets_five : map (λ j. map (up ordered (own_sets (character rows_five j))) (fiveFrom#1 ∷ fiveFrom#2 ∷ [])) (1 ∷ 2 ∷ [])
     ≡ (span (negsuc 2) (negsuc 1) ∷ span (negsuc 1) (pos 1) ∷ []) ∷ (span (pos 2) (pos 5) ∷ span (pos 0) (pos 2) ∷ []) ∷ []
 unfolding printed
 sets_five = refl

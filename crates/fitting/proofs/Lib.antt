@@ -3,7 +3,6 @@ pub mod Bits
 pub mod Cases
 pub mod Sets
 pub mod Clades
-pub mod OneCharacter
 pub mod Matrix
 pub mod Pass
 pub mod Columns

@@ -1,15 +1,15 @@
 -- Lists that give every node the same ancestor are one tree: they have the same clades, states and lengths.
 use Rattle.std.proofs.Common.{◌≡◌, ℕ, zero, suc, ◌+◌, ◌-◌, ◌*◌, eqb, ltb, List, map, ℤ, refl, ap, ◌∙◌, ap₂}
 use mathlib.Core.Path.{fun_ext}
-use mathlib.Core.List.{flat_map}
 use Rattle.lists.specs.Numbers.{numbers}
 use Rattle.lists.specs.Filters.{keep}
 use Rattle.lists.specs.Sums.{sum_over}
 use Rattle.branching.specs.Ancestors.{ancestor, descendants}
 use Rattle.branching.specs.Nodes.{other_nodes}
-use Rattle.fitting.specs.Sets.{only}
-use Rattle.fitting.specs.Clades.{Clade, above, clade_at, clades_below}
-use Rattle.fitting.specs.Character.{value_at, chosen, ranges}
+use Rattle.fitting.specs.Sets.{own_sets, ordered}
+use Rattle.clades.specs.Clades.{Clade}
+use Rattle.fitting.specs.Clades.{above, clade_at, clades_below}
+use Rattle.clades.specs.Character.{state_of, range_of}
 use Rattle.fitting.specs.Assignments.{character, branch_length, total}
 use Rattle.fitting.specs.Fit.{chosen_state, range, states_in, fitted_length, fitted_total, marked}
 use Rattle.fitting.specs.Calls.{Which, state_in, states_written, FitOf}
@@ -47,15 +47,13 @@ module _ (old new : List ℕ) (same : (v : ℕ) → ancestor old v ≡ ancestor 
     pub state-same : (v j : ℕ) → chosen_state old rows n v j ≡ chosen_state new rows n v j
     unfolding chosen_state
     state-same v j =
-        ap (λ (ts : List Clade). value_at (character rows j v) (flat_map (chosen (character rows j) (character rows j 1)) ts) v)
-        (clades_same n)
+        ap (λ (ts : List Clade). state_of ordered (own_sets (character rows j)) ts v) (clades_same n)
 
     -- its range
     pub range_same : (v j : ℕ) → range old rows n v j ≡ range new rows n v j
     unfolding range
     range_same v j =
-        ap (λ (ts : List Clade). value_at (only (character rows j v)) (flat_map (ranges (character rows j) (only (character rows j 1))) ts) v)
-        (clades_same n)
+        ap (λ (ts : List Clade). range_of ordered (own_sets (character rows j)) ts v) (clades_same n)
 
     -- its states
     pub states-same : (v j : ℕ) → states_in old rows n v j ≡ states_in new rows n v j

@@ -5,3 +5,5 @@ pub mod Join
 pub mod Order
 pub mod Carrying
 pub mod Three
+pub mod Single
+pub mod IsKind

@@ -17,7 +17,7 @@ use Rattle.fitting.specs.Calls.{branch_at, lists_full, FitOf, TreeFitted}
 use Rattle.fitting.specs.Lists.{Written, SumOf, matrix_shaped}
 use Rattle.fitting.specs.declared.whole.BranchFit.{BranchFit}
 use Rattle.fitting.specs.declared.whole.Fit.{Fit}
-use Rattle.fitting.proofs.Matrix.EachFitted.{lengths-total}
+use Rattle.fitting.proofs.Matrix.Totals.{lengths-total}
 use Rattle.fitting.proofs.Pass.Standing.{taxa-most}
 use Rattle.fitting.proofs.Gathering.{length_most}
 

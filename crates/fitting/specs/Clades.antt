@@ -2,11 +2,7 @@
 use Rattle.std.specs.Prelude.{ℕ, zero, suc, ◌*◌, List, [], ◌∷◌, map}
 use Rattle.branching.specs.Ancestors.{descendants}
 use Rattle.branching.specs.Nodes.{other_nodes}
-
--- a tip is a taxon; a fork is an HTU with its two descendants' clades, by rising node number
-pub data Clade : Type 0 where
-  tip : ℕ → Clade
-  fork : ℕ → Clade → Clade → Clade
+use Rattle.clades.specs.Clades.{Clade, tip, fork}
 
 -- node v above its descendants' clades
 unfoldable pub above : ℕ → List Clade → Clade

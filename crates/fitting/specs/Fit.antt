@@ -1,25 +1,20 @@
 -- The fit of a whole matrix to a branching: chosen states, ranges, fitted lengths and marks (document 01, "Fitting the inner states").
 use Rattle.std.specs.Prelude.{ℕ, Bool, List, ℤ, nat_lt}
-use mathlib.Core.List.{flat_map}
-use Rattle.fitting.specs.Sets.{only}
+use Rattle.clades.specs.Character.{state_of, range_of}
+use Rattle.fitting.specs.Sets.{own_sets, ordered}
 use Rattle.fitting.specs.declared.spans.Span.{Span}
 use Rattle.fitting.specs.declared.characters.States.{States}
 use Rattle.fitting.specs.Clades.{clades_below}
-use Rattle.fitting.specs.Character.{value_at, chosen, ranges}
 use Rattle.fitting.specs.Assignments.{character, branch_length, total}
 
 module _ (tree : List ℕ) (rows : List (List ℤ)) (n : ℕ) where
-  -- the state chosen for node v in character j; a taxon keeps its code
+  -- the state chosen for node v in character j
   unfoldable pub chosen_state : ℕ → ℕ → ℤ
-  chosen_state v j =
-      let code = character rows j in
-      value_at (code v) (flat_map (chosen code (code 1)) (clades_below tree n)) v
+  chosen_state v j = state_of ordered (own_sets (character rows j)) (clades_below tree n) v
 
-  -- the range of HTU v in character j, lowest to highest state; a taxon's is its code
+  -- the range of node v in character j, lowest to highest state
   unfoldable pub range : ℕ → ℕ → Span
-  range v j =
-      let code = character rows j in
-      value_at (only (code v)) (flat_map (ranges code (only (code 1))) (clades_below tree n)) v
+  range v j = range_of ordered (own_sets (character rows j)) (clades_below tree n) v
 
   -- the states of node v in character j: the lowest and the highest of its range, and the chosen one
   unfoldable pub states_in : ℕ → ℕ → States

@@ -1,7 +1,6 @@
 -- Fitting the inner states of a fixed branching, and the assignments that it is measured against (document 01).
 pub mod Sets
 pub mod Clades
-pub mod Character
 pub mod Assignments
 pub mod Fit
 pub mod Trees

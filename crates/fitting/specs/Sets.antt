@@ -1,7 +1,12 @@
 -- Sets of states (document 01, "Fitting the inner states"; Swofford and Maddison 1987): closed intervals of whole numbers.
 use Rattle.std.specs.Prelude.{ℕ, cond, List, [], ◌∷◌, ℤ, pos, ◌≤ℤ◌, int_le, slice_index_or}
 use Rattle.difference.specs.Rows.{apart, lower, higher}
+use Rattle.clades.specs.Kinds.{Kind}
 use Rattle.fitting.specs.declared.spans.Span.{Span}
+
+-- a set has at least one member
+pub record Nonempty (a : Span) : Type 0 where
+  pub ordered : a.low ≤ℤ a.high
 
 -- a state is a member of a set
 pub record In (state : ℤ) (a : Span) : Type 0 where
@@ -11,6 +16,10 @@ pub record In (state : ℤ) (a : Span) : Type 0 where
 -- a taxon's set is its code alone
 unfoldable pub only : ℤ → Span
 only state = record { low = state; high = state }
+
+-- the taxa's own sets
+abbrev pub own_sets : (ℕ → ℤ) → ℕ → Span
+own_sets code v = only (code v)
 
 -- two sets join to their intersection, or, if that is empty, to the smallest interval that touches both
 unfoldable pub join : Span → Span → Span
@@ -48,3 +57,17 @@ unfoldable pub middle : Span → Span → Span → Span
 middle a b c =
     let sorted = in_order (six_ends a b c) in
     record { low = slice_index_or sorted 2 (pos 0); high = slice_index_or sorted 3 (pos 0) }
+
+-- ordered characters: a change costs the absolute difference of the states, and sets are closed intervals
+abbrev pub ordered : Kind
+ordered = record {
+  Set = Span;
+  Proper = Nonempty;
+  In = In;
+  step = apart;
+  nearest = nearest_member;
+  join = join;
+  gap = gap;
+  middle = middle;
+  lowest = λ a. a.low;
+}

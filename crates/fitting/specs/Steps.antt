@@ -13,9 +13,12 @@ use Rattle.difference.specs.Rows.{lower, higher, apart}
 use Rattle.branching.specs.Ancestors.{ancestor}
 use Rattle.branching.specs.Nodes.{other_nodes}
 use Rattle.branching.specs.Within.{branching_within}
-use Rattle.fitting.specs.Sets.{only, join, gap, nearest_member, middle}
-use Rattle.fitting.specs.Clades.{Clade, tip, fork, clade_at, clades_below}
-use Rattle.fitting.specs.Character.{ByNode, value_at, up}
+use Rattle.clades.specs.Clades.{Clade}
+use Rattle.clades.specs.ByNode.{value_at}
+use Rattle.clades.specs.Character.{up}
+use Rattle.clades.specs.Passes.{least_cost, outsides}
+use Rattle.fitting.specs.Sets.{only, own_sets, join, gap, nearest_member, middle, ordered}
+use Rattle.fitting.specs.Clades.{clade_at, clades_below}
 use Rattle.fitting.specs.Assignments.{character}
 use Rattle.fitting.specs.Fit.{chosen_state, states_in}
 use Rattle.fitting.specs.Handing.{state_at}
@@ -43,17 +46,6 @@ pub record GapOf (a b : Span) (r : ℕ) : Type 0 where
 pub record WeighedOf (weight length r : ℕ) : Type 0 where
   pub is : length ≤ 2 ^ 32 → r ≡ weight * length
 
-module _ (code : ℕ → ℤ) where
-  -- the least cost within a clade: the gaps between the sets of sisters
-  unfoldable pub least_cost : Clade → ℕ
-  least_cost (tip v) = 0
-  least_cost (fork v a b) = gap (up code a) (up code b) + (least_cost a + least_cost b)
-
-  -- the outside of each HTU of a clade, as the ranges are found from it
-  unfoldable pub outsides : Span → Clade → ByNode Span
-  outsides outside (tip v) = []
-  outsides outside (fork v a b) = (v, outside) ∷ (outsides (join (up code b) outside) a ++ outsides (join (up code a) outside) b)
-
 module _ (tree : List ℕ) (n : ℕ) where
   -- the clade of node v
   abbrev pub clade_from : ℕ → Clade
@@ -62,11 +54,11 @@ module _ (tree : List ℕ) (n : ℕ) where
   module _ (code : ℕ → ℤ) where
     -- the set of node v, from the tips up
     unfoldable pub set_of : ℕ → Span
-    set_of v = up code (clade_from v)
+    set_of v = up ordered (own_sets code) (clade_from v)
 
     -- the least cost of the clade of node v
     unfoldable pub cost_of : ℕ → ℕ
-    cost_of v = least_cost code (clade_from v)
+    cost_of v = least_cost ordered (own_sets code) (clade_from v)
 
     -- the set of node v and the least cost of its clade
     abbrev pub part_for : ℕ → Part
@@ -74,7 +66,7 @@ module _ (tree : List ℕ) (n : ℕ) where
 
     -- the outside of HTU v: the set of all nodes that are not in its clade
     unfoldable pub outside_of : ℕ → Span
-    outside_of v = value_at (only (code 1)) (flat_map (outsides code (only (code 1))) (clades_below tree n)) v
+    outside_of v = value_at (only (code 1)) (flat_map (outsides ordered (own_sets code) (only (code 1))) (clades_below tree n)) v
 
 -- the length of character j under the chosen states
 unfoldable pub character_length : List ℕ → List (List ℤ) → ℕ → ℕ → ℕ

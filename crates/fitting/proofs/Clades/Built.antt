@@ -10,11 +10,12 @@ use Rattle.branching.specs.Ancestors.{ancestor, descendants}
 use Rattle.branching.specs.Nodes.{other_nodes}
 use Rattle.branching.specs.Facts.{Grown}
 use Rattle.branching.proofs.Descendants.{mem-descendants}
-use Rattle.fitting.specs.Clades.{Clade, tip, fork, above, clade_at, clades_below}
+use Rattle.clades.specs.Clades.{Clade, tip, fork}
+use Rattle.fitting.specs.Clades.{above, clade_at, clades_below}
 use Rattle.fitting.proofs.Cases.{either}
-use Rattle.fitting.proofs.Clades.Sides.{Side, left, right, on}
-use Rattle.fitting.proofs.Clades.Nodes.{has, Distinct, top}
-use Rattle.fitting.proofs.Clades.Cost.{cost}
+use Rattle.clades.proofs.Clades.Sides.{Side, left, right, on}
+use Rattle.clades.proofs.Clades.Nodes.{has, Distinct, top}
+use Rattle.clades.proofs.Clades.Cost.{cost}
 use Rattle.fitting.proofs.Clades.Sums.{sum_clade, count, count_has, distinct_of, size, size_positive, size-fork}
 use Rattle.fitting.proofs.Clades.Walks.{sum_clade_all, climbs_unique}
 use Rattle.fitting.proofs.Clades.Branching.{Climbs, one_below, none_below, two_below, steps_up}
@@ -41,7 +42,7 @@ top_above v (a ∷ []) = refl
 top_above v (a ∷ b ∷ ts) = refl
 
 -- the top node of the clade of node v, to any depth, is v
-top_clade_at : (tree nodes : List ℕ) (depth v : ℕ) → top (clade_at tree nodes depth v) ≡ v
+pub top_clade_at : (tree nodes : List ℕ) (depth v : ℕ) → top (clade_at tree nodes depth v) ≡ v
 unfolding clade_at
 top_clade_at tree nodes zero v = unfold top in refl
 top_clade_at tree nodes (suc depth) v = top_above v (map (λ u. clade_at tree nodes depth u) (descendants tree nodes v))

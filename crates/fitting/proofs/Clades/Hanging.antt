@@ -9,15 +9,16 @@ use Rattle.branching.specs.Ancestors.{ancestor, descendants}
 use Rattle.branching.specs.Nodes.{other_nodes}
 use Rattle.branching.specs.Facts.{Grown}
 use Rattle.branching.proofs.Descendants.{mem-descendants}
-use Rattle.fitting.specs.Clades.{Clade, tip, fork, above, clade_at}
-use Rattle.fitting.specs.Character.{value_at}
+use Rattle.clades.specs.Clades.{Clade, tip, fork}
+use Rattle.fitting.specs.Clades.{above, clade_at}
+use Rattle.clades.specs.ByNode.{value_at}
 use Rattle.fitting.proofs.Cases.{either}
-use Rattle.fitting.proofs.Clades.Sides.{Side, left, right, on, on_map, on_each}
-use Rattle.fitting.proofs.Clades.Parts.{Part, whole, below, part_on, handed, handed_on}
-use Rattle.fitting.proofs.Clades.Downward.{downward, downward_part}
+use Rattle.clades.proofs.Clades.Sides.{Side, left, right, on, on_map, on_each}
+use Rattle.clades.proofs.Clades.Parts.{Part, whole, below, part_on, handed, handed_on}
+use Rattle.clades.proofs.Clades.Downward.{downward, downward_part}
 use Rattle.fitting.proofs.Clades.Sums.{size, size-fork}
 use Rattle.fitting.proofs.Clades.Branching.{Climbs, only_nodes, row1_or_node, none_below, steps_up}
-use Rattle.fitting.proofs.Clades.Built.{Made, Htu, CladeOf, clade_of_lem, none_in, htu_two, htu_descends, clade_to, clade_to_taxon}
+use Rattle.fitting.proofs.Clades.Built.{Made, Htu, CladeOf, clade_of_lem, none_in, htu_two, htu_descends, top_clade_at, clade_to, clade_to_taxon}
 use Rattle.fitting.proofs.Clades.Built.{clade_to_htu, clade_to_whole}
 
 -- a part has no more nodes than the whole
@@ -147,12 +148,20 @@ module _ (n : ℕ) (tree : List ℕ) (grown : Grown n n tree) where
   part-climbs (suc k) v p h c = part-hangs v p h (hangs v p h) (λ q r. part-climbs k (ancestor tree v) q r c)
 
   -- the clade of every node below row 1 is a part of the whole
-  part_of : (v : ℕ) → 2 ≤ v → v ≤ 2 * n - 2 → InWhole (clade_from v)
+  pub part_of : (v : ℕ) → 2 ≤ v → v ≤ 2 * n - 2 → InWhole (clade_from v)
   part_of v p h = let c = steps_up n tree grown v p h in go c.0 c.2
     where
       go : (k : ℕ) → Climbs tree k v → InWhole (clade_from v)
       go zero c = absurd (omega arith)
       go (suc k) c = part-climbs k v p h c
+
+  -- the value of a node among those found from the top down
+  pub value-part : {X A : Type 0} (own : X → Clade → A) (to : Side → X → Clade → Clade → X) (x : X) (otherwise : A) (v : ℕ)
+      (p : InWhole (clade_from v)) → value_at otherwise (downward own to x clade_of.clade) v ≡ own (handed to x p) (clade_from v)
+  value-part own to x otherwise v p =
+      subst (λ u. value_at otherwise (downward own to x clade_of.clade) u ≡ own (handed to x p) (clade_from v))
+      (top_clade_at tree (other_nodes n) (2 * n) v)
+      (downward_part own to (clade_from v) x clade_of.clade p clade_of.is_distinct otherwise)
 
   -- the clade of a node is a clade of n taxa
   pub clade_from_made : (v : ℕ) → 2 ≤ v → v ≤ 2 * n - 2 → Made n tree (clade_from v)
@@ -183,17 +192,6 @@ module _ (n : ℕ) (tree : List ℕ) (grown : Grown n n tree) where
     pub clade_from-htu : clade_from u ≡ fork u (clade_from a) (clade_from b)
     clade_from-htu = (split u a b htu htu-part).is_fork
 
-    -- the value of an HTU among those found from the top down
-    pub value-part : {X A : Type 0} (own : X → Clade → Clade → A) (to : Side → X → Clade → Clade → X) (x : X) (otherwise : A)
-        (p : InWhole (clade_from u)) →
-        value_at otherwise (downward own to x clade_of.clade) u ≡ own (handed to x p) (clade_from a) (clade_from b)
-    value-part own to x otherwise =
-        subst
-        (λ s. (p : InWhole s) →
-        value_at otherwise (downward own to x clade_of.clade) u ≡ own (handed to x p) (clade_from a) (clade_from b))
-        (sym clade_from-htu)
-        (λ p. downward_part own to x u (clade_from a) (clade_from b) clade_of.clade p clade_of.is_distinct otherwise)
-
     -- what an HTU hands on to either side
     pub hands : {X : Type 0} (to : Side → X → Clade → Clade → X) (x : X) (side : Side) (p : InWhole (clade_from u)) →
         (q : InWhole (clade_from (on side a b))) × (handed to x q ≡ to side (handed to x p) (clade_from a) (clade_from b))
@@ -207,7 +205,7 @@ module _ (n : ℕ) (tree : List ℕ) (grown : Grown n n tree) where
         (λ s. (q : InWhole s) × (handed to x q ≡ to side (handed to x p) (clade_from a) (clade_from b)))
         (sym (on_map clade_from side a b)) (
           part_on side u (clade_from a) (clade_from b) clade_of.clade p,
-          handed_on to x side u (clade_from a) (clade_from b) clade_of.clade p,
+          handed_on to side u (clade_from a) (clade_from b) x clade_of.clade p,
         ))
 
   -- to the node that hangs from row 1 is handed what is handed to the whole

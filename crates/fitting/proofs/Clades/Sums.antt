@@ -2,10 +2,11 @@
 use Rattle.std.proofs.Common.{◌≡◌, ℕ, ◌+◌, ◌≤◌, Bool, true, false, ◌||◌, eqb, List, [], ◌∷◌, map, length, sym, refl, true≢false, arith, eq-eqb}
 use Rattle.lists.specs.Sums.{sum_over}
 use Rattle.lists.proofs.Sums.{pick}
-use Rattle.fitting.specs.Clades.{Clade, tip, fork, above}
+use Rattle.clades.specs.Clades.{Clade, tip, fork}
+use Rattle.fitting.specs.Clades.{above}
 use Rattle.fitting.proofs.Cases.{either}
-use Rattle.fitting.proofs.Clades.Sides.{Side, left, right, on, other}
-use Rattle.fitting.proofs.Clades.Nodes.{has, Distinct}
+use Rattle.clades.proofs.Clades.Sides.{Side, left, right, on, other}
+use Rattle.clades.proofs.Clades.Nodes.{has, Distinct}
 
 -- the sum of a quantity over the nodes of a clade
 unfoldable pub sum_clade : (ℕ → ℕ) → Clade → ℕ

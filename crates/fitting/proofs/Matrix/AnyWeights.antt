@@ -14,7 +14,7 @@ use Rattle.branching.specs.Facts.{Branching}
 use Rattle.fitting.specs.Assignments.{branch_length, total, IsLeast, Occurs}
 use Rattle.fitting.specs.Fit.{chosen_state, fitted_total}
 use Rattle.fitting.specs.Rival.{FitIsLeast}
-use Rattle.fitting.proofs.Matrix.EachFitted.{lengths-total}
+use Rattle.fitting.proofs.Matrix.Totals.{lengths-total}
 use Rattle.fitting.proofs.Matrix.ThirdRival.{third_rival}
 
 -- a node has a state in some assignment of least length by one set of weights exactly if it has it by another

@@ -11,20 +11,18 @@ use Rattle.difference.proofs.Laws.Order.{lower-keeps, higher-keeps}
 use Rattle.branching.specs.Ancestors.{ancestor, descendants}
 use Rattle.branching.specs.Nodes.{other_nodes}
 use Rattle.branching.specs.Facts.{Grown}
-use Rattle.fitting.specs.Sets.{only, gap}
+use Rattle.clades.specs.Passes.{least_cost}
+use Rattle.fitting.specs.Sets.{only, own_sets, gap, ordered}
 use Rattle.fitting.specs.declared.spans.Span.{Span}
-use Rattle.fitting.specs.Clades.{Clade, tip, fork}
-use Rattle.fitting.specs.Character.{up}
+use Rattle.clades.specs.Clades.{Clade, tip, fork}
+use Rattle.clades.specs.Character.{up}
 use Rattle.fitting.specs.Assignments.{character, branch_length, total}
 use Rattle.fitting.specs.Fit.{chosen_state, fitted_total}
-use Rattle.fitting.specs.Steps.{least_cost, set_of, cost_of, character_length}
+use Rattle.fitting.specs.Steps.{set_of, cost_of, character_length}
 use Rattle.fitting.proofs.Clades.Sums.{size, size-fork}
 use Rattle.fitting.proofs.Clades.Built.{Made, cost_sum_clade}
 use Rattle.fitting.proofs.Clades.Hanging.{clade_of, clade_from, clade_from_made, clade_from-size}
-use Rattle.fitting.proofs.Sets.Distance.{gap-only}
-use Rattle.fitting.proofs.OneCharacter.Basic.{up_nonempty}
-use Rattle.fitting.proofs.Matrix.IntervalFit.{states-cost}
-use Rattle.fitting.proofs.Matrix.OneClade.{chosen_state-taxon}
+use Rattle.fitting.proofs.Matrix.CharacterLength.{states-length}
 use Rattle.fitting.proofs.Matrix.OnlyCodes.{Each, up-each}
 
 -- the fitted total is the sum of the characters' lengths, each as often as its weight says
@@ -54,7 +52,7 @@ gap-most a b p q =
 
 -- the least cost of a clade is at most 1998 for each of its nodes
 least_cost-most : (n : ℕ) (tree : List ℕ) (code : ℕ → ℤ) → ((u : ℕ) → 1 ≤ u → u ≤ n → Known (code u)) →
-    (t : Clade) → Made n tree t → least_cost code t ≤ size t * 1998
+    (t : Clade) → Made n tree t → least_cost ordered (own_sets code) t ≤ size t * 1998
 unfolding least_cost
 least_cost-most n tree code known (tip v) made = omega arith
 least_cost-most n tree code known (fork v a b) made =
@@ -62,7 +60,7 @@ least_cost-most n tree code known (fork v a b) made =
       arith,
       least_cost-most n tree code known a made.4,
       least_cost-most n tree code known b made.5,
-      gap-most (up code a) (up code b) (up-each Known n tree code known a made.4) (up-each Known n tree code known b made.5),
+      gap-most (up ordered (own_sets code) a) (up ordered (own_sets code) b) (up-each Known n tree code known a made.4) (up-each Known n tree code known b made.5),
       size-fork v a b,
     )
 
@@ -79,15 +77,13 @@ module _ (n : ℕ) (tree : List ℕ) (grown : Grown n n tree) (rows : List (List
       let clade = clade_of n tree grown in
       let taxa : 1 ≤ n = omega (arith, grown.at_least_two) in
       let states : ℕ → ℤ = λ v. chosen_state tree rows n v j in
-      let row1 : states 1 ≡ code 1 = chosen_state-taxon n tree rows clade 1 j taxa in
       let first = clade.of_row1 in
       let root : top ≡ clade.root = cc in
       let same : clade_from n tree grown top ≡ clade.clade = ap (clade_from n tree grown) root ∙ clade.from_root in
-      sym (cost_sum_clade apart n tree states (code 1) clade.clade clade.is_made (ap states clade.from_row1 ∙ row1)
+      sym (cost_sum_clade apart n tree states (states 1) clade.clade clade.is_made (ap states clade.from_row1)
       ∙ clade.sums (λ v. apart (states v) (states (ancestor tree v))))
-      ∙ states-cost n tree rows taxa clade j
-      ∙ ap (λ k. least_cost code clade.clade + k) (sym (gap-only (code 1) (up code clade.clade) (up_nonempty code clade.clade)))
-      ∙ ap (λ t. least_cost code t + gap (up code t) (only (code 1))) (sym same)
+      ∙ states-length n tree rows taxa clade j
+      ∙ ap (λ t. least_cost ordered (own_sets code) t + gap (up ordered (own_sets code) t) (only (code 1))) (sym same)
 
   module _ (known : (u : ℕ) → 1 ≤ u → u ≤ n → Known (code u)) (v : ℕ) (second : 2 ≤ v) (last : v ≤ 2 * n - 2) where
     -- the least cost of a node's clade is at most 3996 for each taxon
@@ -106,5 +102,5 @@ module _ (n : ℕ) (tree : List ℕ) (grown : Grown n n tree) (rows : List (List
     gap_row1 =
         let own = known 1 (omega arith) (omega (arith, grown.at_least_two)) in
         let row1 : Each Known (only (code 1)) = unfold only in record { at_low = own; at_high = own } in
-        gap-most (up code (clade_from n tree grown v)) (only (code 1))
+        gap-most (up ordered (own_sets code) (clade_from n tree grown v)) (only (code 1))
         (up-each Known n tree code known (clade_from n tree grown v) (clade_from_made n tree grown v second last)) row1

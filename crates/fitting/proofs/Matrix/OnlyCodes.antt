@@ -1,23 +1,28 @@
 -- Fitting makes no new values: what holds of the codes of the n taxa of a branching in one character holds of both ends of every set,
 -- of the chosen state of every node, and of both ends of its range.
-use Rattle.std.proofs.Common.{ℕ, zero, suc, ◌-◌, ◌*◌, ◌<◌, ◌≤◌, Bool, true, false, cond, List, [], ◌∷◌, length, get_or, ℤ, pos, sym, subst, ⊎_elim, arith}
-use mathlib.Core.List.Memᴰ
-use mathlib.Core.List.{Memᴰ}
+use Rattle.std.proofs.Common.{◌≡◌, ℕ, zero, suc, ◌-◌, ◌*◌, ◌<◌, ◌≤◌, Bool, true, false, cond, List, [], ◌∷◌, length, get_or, ℤ, pos, sym, ◌∙◌, arith}
 use lib.Signed.{le_z}
 use Rattle.difference.specs.Rows.{lower}
 use Rattle.difference.proofs.Laws.Order.{lower-keeps, higher-keeps}
 use Rattle.branching.specs.Facts.{Grown}
-use Rattle.fitting.specs.Sets.{only, join, nearest_member, insert, in_order, six_ends, middle}
+use Rattle.clades.proofs.Clades.Sides.{Side, left, right, on, other, on_each}
+use Rattle.clades.proofs.Clades.Parts.{Part, whole, below, handed}
+use Rattle.clades.proofs.OneCharacter.Passes.{state_to, outside_to}
+use Rattle.fitting.specs.Sets.{only, own_sets, join, nearest_member, insert, in_order, six_ends, middle, ordered}
 use Rattle.fitting.specs.declared.spans.Span.{Span}
-use Rattle.fitting.specs.Clades.{Clade, tip, fork}
-use Rattle.fitting.specs.Character.{up, chosen, ranges}
+use Rattle.clades.specs.Clades.{Clade, tip, fork}
+use Rattle.clades.specs.Kinds.{among}
+use Rattle.clades.specs.Character.{up, state_of}
+use Rattle.fitting.specs.Clades.{clades_below}
 use Rattle.fitting.specs.Assignments.{character}
 use Rattle.fitting.specs.Fit.{chosen_state, range}
+use Rattle.fitting.specs.Steps.{set_of, outside_of}
 use Rattle.fitting.proofs.Cases.{either}
 use Rattle.fitting.proofs.Sets.Order.{length-in_order}
-use Rattle.fitting.proofs.Clades.Built.{Made, CladeOf, clade_of_lem}
-use Rattle.fitting.proofs.Clades.Taxa.{htu_of}
-use Rattle.fitting.proofs.Matrix.OneClade.{chosen_state-taxon, range-taxon, chosen_state_entry, range_entry}
+use Rattle.fitting.proofs.Clades.Built.{Made, htu_two, htu_descends}
+use Rattle.fitting.proofs.Clades.Hanging.{clade_of, clade_from, clade_from_made, part_of}
+use Rattle.fitting.proofs.Matrix.AnyKind.{outside-part, state-handed, state_row1}
+use Rattle.fitting.proofs.Matrix.ByNode.{state-taxon, range-taxon, range-htu}
 
 module _ (P : ℤ → Type 0) where
   -- it holds of both ends of a set
@@ -81,40 +86,40 @@ module _ (P : ℤ → Type 0) where
     unfolding only
     only-each u p q = record { at_low = each u p q; at_high = each u p q }
 
+    -- the taxa's own sets
+    abbrev own : ℕ → Span
+    own = own_sets code
+
     -- it holds of the set of a clade
-    pub up-each : (t : Clade) → Made n tree t → Each (up code t)
+    pub up-each : (t : Clade) → Made n tree t → Each (up ordered own t)
     unfolding up
     up-each (tip v) made = only-each v (omega arith) made.1
-    up-each (fork v a b) made = join-each (up code a) (up code b) (up-each a made.4) (up-each b made.5)
+    up-each (fork v a b) made = join-each (up ordered own a) (up ordered own b) (up-each a made.4) (up-each b made.5)
 
-    -- it holds of the chosen states of a clade
-    chosen-each : (y : ℤ) → P y → (t : Clade) → Made n tree t → (entry : ℕ × ℤ) → Memᴰ entry (chosen code y t) → P entry.1
-    unfolding chosen up
-    chosen-each y p (tip v) made entry m = absurd (Memᴰ.not-nil m)
-    chosen-each y p (fork v a b) made entry m =
-        let s = nearest_member y (join (up code a) (up code b)) in
-        let q = nearest_member-each y (join (up code a) (up code b)) p (up-each (fork v a b) made) in
-        ⊎_elim
-        (λ e. subst (λ (x : ℕ × ℤ). P x.1) (sym e) q)
-        (λ rest. ⊎_elim (chosen-each s q a made.4 entry) (chosen-each s q b made.5 entry)
-        (Memᴰ.append_cases (chosen code s a) rest))
-        (Memᴰ.cases_cons m)
+    -- it holds of the set of a side of a clade
+    side_each : (side : Side) (v : ℕ) (a b : Clade) → Made n tree (fork v a b) → Each (up ordered own (on side a b))
+    side_each left v a b made = up-each a made.4
+    side_each right v a b made = up-each b made.5
 
-    -- it holds of the ranges of a clade
-    ranges-each : (outside : Span) → Each outside → (t : Clade) → Made n tree t → (entry : ℕ × Span) →
-        Memᴰ entry (ranges code outside t) → Each entry.1
-    unfolding ranges
-    ranges-each outside p (tip v) made entry m = absurd (Memᴰ.not-nil m)
-    ranges-each outside p (fork v a b) made entry m =
-        let q = up-each a made.4 in
-        let r = up-each b made.5 in
-        ⊎_elim
-        (λ e. subst (λ (x : ℕ × Span). Each x.1) (sym e) (middle-each (up code a) (up code b) outside q r p))
-        (λ rest. ⊎_elim
-        (ranges-each (join (up code b) outside) (join-each (up code b) outside r p) a made.4 entry)
-        (ranges-each (join (up code a) outside) (join-each (up code a) outside q p) b made.5 entry)
-        (Memᴰ.append_cases (ranges code (join (up code b) outside) a) rest))
-        (Memᴰ.cases_cons m)
+    -- it holds of the state handed to each part of a clade
+    state-each : (s : Clade) (y : ℤ) → P y → (t : Clade) (p : Part s t) → Made n tree t → P (handed (state_to ordered own) y p)
+    unfolding handed
+    state-each s y h t whole made = h
+    state-each s y h t (below side v a b p) made =
+        state-each s (state_to ordered own side y a b)
+        (unfold state_to up in
+        nearest_member-each y (join (up ordered own a) (up ordered own b)) h (up-each (fork v a b) made))
+        (on side a b) p (on_each (Made n tree) side a b made.4 made.5)
+
+    -- it holds of the set handed to each part of a clade from outside
+    outside-each : (s : Clade) (outside : Span) → Each outside → (t : Clade) (p : Part s t) → Made n tree t →
+        Each (handed (outside_to ordered own) outside p)
+    unfolding handed
+    outside-each s outside h t whole made = h
+    outside-each s outside h t (below side v a b p) made =
+        outside-each s (outside_to ordered own side outside a b)
+        (unfold outside_to in join-each (up ordered own (on (other side) a b)) outside (side_each (other side) v a b made) h)
+        (on side a b) p (on_each (Made n tree) side a b made.4 made.5)
 
   module _ (n : ℕ) (tree : List ℕ) (grown : Grown n n tree) (rows : List (List ℤ)) (j : ℕ)
       (each : (u : ℕ) → 1 ≤ u → u ≤ n → P (character rows j u)) (v : ℕ) (first : 1 ≤ v) (last : v ≤ 2 * n - 2) where
@@ -122,25 +127,53 @@ module _ (P : ℤ → Type 0) where
     abbrev code : ℕ → ℤ
     code = character rows j
 
-    -- the clade of the branching
-    abbrev clade_of : CladeOf n tree
-    clade_of = clade_of_lem n tree grown
-
-    -- row 1 is one of the taxa
-    one-taxon : 1 ≤ n
-    one-taxon = omega (arith, grown.at_least_two)
+    -- it holds of row 1's code
+    row1_each : P (code 1)
+    row1_each = each 1 (omega arith) (omega (arith, grown.at_least_two))
 
     -- it holds of the chosen state of each node of a branching
     pub chosen_state-each : P (chosen_state tree rows n v j)
     chosen_state-each = either v n
-        (λ l. rw (chosen_state-taxon n tree rows clade_of v j l) (each v first l))
-        (λ l. chosen-each n tree code each (code 1) (each 1 (omega arith) one-taxon) clade_of.clade clade_of.is_made
-        (v, chosen_state tree rows n v j) (chosen_state_entry n tree rows clade_of v j (htu_of n tree clade_of v l last)))
+        (λ l. rw (state-taxon n tree grown rows j v first l) (each v first l))
+        (λ l. unfold chosen_state in above l)
+      where
+        lowest1 : (ordered.lowest (among ordered (only (code 1)) (up ordered (own_sets code) (clade_of n tree grown).clade))) ≡ code 1
+        lowest1 = sym (state_row1 n tree grown ordered (own_sets code))
+            ∙ unfold chosen_state in state-taxon n tree grown rows j 1 (omega arith) (omega (arith, grown.at_least_two))
+
+        above : n < v → P (state_of ordered (own_sets code) (clades_below tree n) v)
+        above l =
+            let second : 2 ≤ v = omega (arith, grown.at_least_two) in
+            let part = part_of n tree grown v second last in
+            rw (state-handed n tree grown ordered (own_sets code) v part)
+            (nearest_member-each _ (up ordered (own_sets code) (clade_from n tree grown v))
+            (state-each n tree code each (clade_from n tree grown v) _ (rw lowest1 row1_each) (clade_of n tree grown).clade part
+            (clade_of n tree grown).is_made)
+            (up-each n tree code each (clade_from n tree grown v) (clade_from_made n tree grown v second last)))
 
     -- it holds of the range of each node of a branching
     pub range-each : Each (range tree rows n v j)
     range-each = either v n
-        (λ l. rw (range-taxon n tree rows clade_of v j l) (only-each n tree code each v first l))
-        (λ l. ranges-each n tree code each (only (code 1)) (only-each n tree code each 1 (omega arith) one-taxon)
-        clade_of.clade clade_of.is_made (v, range tree rows n v j) (range_entry n tree rows clade_of v j
-        (htu_of n tree clade_of v l last)))
+        (λ l. rw (range-taxon n tree grown rows j v first l) (only-each n tree code each v first l))
+        (λ l.
+        let two = htu_two n tree grown v l last in
+        let a = two.0 in
+        let b = two.1 in
+        let htu = two.2 in
+        let da = htu_descends n tree grown left v a b htu in
+        let db = htu_descends n tree grown right v a b htu in
+        rw (range-htu n tree grown rows j v a b htu)
+        (unfold set_of outside_of in
+        middle-each (up ordered (own_sets code) (clade_from n tree grown a)) (up ordered (own_sets code) (clade_from n tree grown b)) _
+        (up-each n tree code each (clade_from n tree grown a) (clade_from_made n tree grown a da.second da.last))
+        (up-each n tree code each (clade_from n tree grown b) (clade_from_made n tree grown b db.second db.last))
+        (outside_in l)))
+      where
+        outside_in : n < v → Each (outside_of tree n code v)
+        outside_in l =
+            let second : 2 ≤ v = omega (arith, grown.at_least_two) in
+            let part = part_of n tree grown v second last in
+            unfold outside_of in
+            rw (outside-part n tree grown ordered (own_sets code) v part)
+            (outside-each n tree code each (clade_from n tree grown v) (only (code 1))
+            (only-each n tree code each 1 (omega arith) (omega (arith, grown.at_least_two))) (clade_of n tree grown).clade part (clade_of n tree grown).is_made)

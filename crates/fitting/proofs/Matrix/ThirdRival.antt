@@ -1,57 +1,91 @@
--- Demand 3 about the third rival, for every matrix, all weights and every branching of its taxa.
-use Rattle.std.proofs.Common.{◌≡◌, ℕ, ◌≤◌, true, List, ℤ, refl, subst, arith}
-use mathlib.Core.Logic.{by_cases}
-use mathlib.Core.List.{flat_map}
-use native.Mathlib.Decide.{dec_le}
+-- Demand 3 about the third rival, and M-107's marks, for every matrix of single codes, all weights and every branching of its taxa.
+use Rattle.std.proofs.Common.{◌≡◌, ℕ, ◌-◌, ◌*◌, ◌≤◌, Bool, true, ltb, ◌↔◌, List, ℤ}
 use Rattle.lists.specs.Numbers.{numbers}
-use Rattle.matrix.specs.Shape.{last_node, weight_of}
-use Rattle.matrix.specs.Questions.{are_weights}
-use Rattle.difference.specs.Rows.{weighing}
-use Rattle.difference.proofs.Laws.Weights.{weight_of-within}
-use Rattle.branching.specs.Ancestors.{descendants}
-use Rattle.branching.specs.Nodes.{other_nodes}
-use Rattle.branching.specs.Facts.{Branching}
 use Rattle.lists.specs.Sums.{sum_over}
-use Rattle.branching.proofs.Whole.{branching-grown}
-use Rattle.lists.specs.Filters.{keep}
-use Rattle.fitting.specs.Sets.{In}
-use Rattle.fitting.specs.Clades.{clades_below}
-use Rattle.fitting.specs.Character.{value_at}
-use Rattle.fitting.specs.Assignments.{character, total, IsAssignment}
+use Rattle.matrix.specs.Shape.{weight_of}
+use Rattle.matrix.specs.Questions.{are_weights}
+use Rattle.difference.specs.Rows.{part, weighing}
+use Rattle.difference.proofs.Laws.Weights.{weight_of-within}
+use Rattle.branching.specs.Ancestors.{ancestor}
+use Rattle.branching.specs.Facts.{Branching}
+use Rattle.fitting.specs.Sets.{In, own_sets, gap, ordered}
+use Rattle.fitting.specs.declared.spans.Span.{Span}
+use Rattle.fitting.specs.Assignments.{character, branch_length, IsAssignment, IsLeast}
 use Rattle.fitting.specs.Fit.{chosen_state, range, fitted_total}
 use Rattle.fitting.specs.Rival.{FitIsLeast}
-use Rattle.fitting.proofs.Clades.Built.{clade_of_lem}
-use Rattle.fitting.proofs.OneCharacter.Weighed.{weighed-fit}
-use Rattle.fitting.proofs.Matrix.IntervalFit.{interval-fit}
-use Rattle.fitting.proofs.Matrix.EachFitted.{lengths-total, taxon_occurs, fit-is_least}
+use Rattle.fitting.proofs.Sets.Distance.{only_nonempty}
+use Rattle.fitting.proofs.Sets.Single.{only_code, code-only}
+use Rattle.fitting.proofs.Sets.IsKind.{ordered_laws}
+use Rattle.fitting.proofs.Matrix.Totals.{lengths-total}
+use Rattle.fitting.proofs.Matrix.Mixed.{Assignment, Shortest, Claim, mixed_claim, ranges_apart, mark_of}
 
--- row 1 alone: no branch, no HTU, and a total of 0
-alone : (step : ℕ → ℤ → ℤ → ℕ) (m : ℕ) (tree : List ℕ) (rows : List (List ℤ)) → FitIsLeast step tree rows 1 m
-alone step m tree rows = record {
-  assigns = keeps;
-  lengths = lengths-total step 1 m tree rows;
-  least = λ states h. unfold fitted_total in least states h;
-  ranges = λ v j s p q r l.
-      let taxon : v ≤ 1 = unfold last_node in omega arith in
-      unfold range clades_below other_nodes numbers descendants keep flat_map value_at in
-      taxon_occurs step tree rows 1 m (chosen_state tree rows 1) (record { assigns = keeps; least = least }) v j s p taxon r l;
-}
-  where
-    keeps : IsAssignment rows 1 m (chosen_state tree rows 1)
-    keeps = record { keeps = λ v j p q r s. unfold chosen_state clades_below other_nodes numbers descendants keep flat_map value_at in refl }
+module _ (tree : List ℕ) (rows : List (List ℤ)) (n m : ℕ) where
+  -- how far the ranges of a node and of its ancestor lie from each other, in all characters together
+  unfoldable pub ranges_between : ℕ → ℕ
+  ranges_between v = sum_over (λ j. gap (range tree rows n v j) (range tree rows n (ancestor tree v) j)) (numbers 1 m)
 
-    least : (states : ℕ → ℕ → ℤ) → IsAssignment rows 1 m states → total step tree 1 m (chosen_state tree rows 1) ≤ total step tree 1 m states
-    least states h = unfold total other_nodes numbers sum_over in omega arith
+  -- the branch from node v to its immediate ancestor cannot vanish if in some character the ranges of its ends do not meet
+  unfoldable pub forced : ℕ → Bool
+  forced v = ltb 0 (ranges_between v)
 
--- by any weights from 1 to 9 the chosen states have least length and the ranges are those of all assignments of least length, for every branching of n taxa
-pub third_rival : (weights : List ℕ) (n m : ℕ) (tree : List ℕ) (rows : List (List ℤ)) → 1 ≤ n → are_weights weights m ≡ true
-    → Branching n tree → FitIsLeast (weighing weights).step tree rows n m
-third_rival weights n m tree rows taxa weighed branching =
-    by_cases
-    (dec_le 2 n)
-    (λ two.
-    let clade = clade_of_lem n tree (branching-grown n tree two branching) in
-    fit-is_least (weighing weights).step n m tree rows two clade (λ j r l.
-    weighed-fit (weight_of weights j) (weight_of-within weights m weighed j r l).0 (character rows j) clade.clade
-    (λ v. chosen_state tree rows n v j) (λ v s. In s (range tree rows n v j)) (interval-fit n tree rows taxa clade j)))
-    (λ one. subst (λ k. FitIsLeast (weighing weights).step tree rows k m) (omega arith) (alone (weighing weights).step m tree rows))
+module _ (weights : List ℕ) (n m : ℕ) (tree : List ℕ) (rows : List (List ℤ)) (taxa : 1 ≤ n) (weighed : are_weights weights m ≡ true)
+    (branching : Branching n tree) where
+  -- what a change costs
+  abbrev step : ℕ → ℤ → ℤ → ℕ
+  step = (weighing weights).step
+
+  -- the taxa's own sets: their codes
+  abbrev own : ℕ → ℕ → Span
+  own j = own_sets (character rows j)
+
+  -- a taxon may have its code alone
+  abbrev Own : ℕ → ℕ → ℤ → Type 0
+  Own j v s = In s (own j v)
+
+  -- the claim for ordered characters with single codes
+  claim : Claim (λ j. ordered) (weight_of weights) own tree n m
+  claim = mixed_claim (λ j. ordered) (weight_of weights) own tree n m taxa branching (record {
+    laws = λ j r l. ordered_laws;
+    weighed = λ j r l. (weight_of-within weights m weighed j r l).0;
+    proper = λ v j p q r l. only_nonempty (character rows j v);
+  })
+
+  -- an assignment that keeps the codes takes members of the own sets
+  members : (states : ℕ → ℕ → ℤ) → IsAssignment rows n m states → Assignment Own step tree n m states
+  members states h = record { keeps = λ v j p q r l. code-only (states v j) (character rows j v) (h.keeps v j p q r l) }
+
+  -- and the other way
+  codes : (states : ℕ → ℕ → ℤ) → Assignment Own step tree n m states → IsAssignment rows n m states
+  codes states h = record { keeps = λ v j p q r l. only_code (states v j) (character rows j v) (h.keeps v j p q r l) }
+
+  -- an assignment of least length is so among those that take members of the own sets
+  shortest : (states : ℕ → ℕ → ℤ) → IsLeast step tree rows n m states → Shortest Own step tree n m states
+  shortest states h = record { assigns = members states h.assigns; least = λ others k. h.least others (codes others k) }
+
+  -- and the other way
+  least : (states : ℕ → ℕ → ℤ) → Shortest Own step tree n m states → IsLeast step tree rows n m states
+  least states h = record { assigns = codes states h.assigns; least = λ others k. h.least others (members others k) }
+
+  -- by any weights from 1 to 9 the chosen states have least length and the ranges are those of all assignments of least length
+  pub third_rival : FitIsLeast step tree rows n m
+  unfolding part chosen_state range fitted_total
+  third_rival =
+      let ours = least (chosen_state tree rows n) claim.shortest in
+      record {
+        assigns = ours.assigns;
+        lengths = lengths-total step n m tree rows;
+        least = ours.least;
+        ranges = λ v j s p q r l.
+            let iff = claim.ranges v j s p q r l in (
+              λ i. let h = iff.0 i in record { states = h.states; is_least = least h.states h.is_least; here = h.here },
+              λ o. iff.1 (record { states = o.states; is_least = shortest o.states o.is_least; here = o.here }),
+            );
+      }
+
+  -- a branch cannot vanish exactly if every assignment of least length gives it a length of at least 1
+  pub forced_iff : (v : ℕ) → 2 ≤ v → v ≤ 2 * n - 2 → (forced tree rows n m v ≡ true)
+      ↔ ((states : ℕ → ℕ → ℤ) → IsLeast step tree rows n m states → 1 ≤ branch_length step tree m states v)
+  unfolding part range forced ranges_between mark_of ranges_apart
+  forced_iff v p q =
+      let iff = claim.marks v p q in
+      (λ e states h. iff.0 e states (shortest states h), λ all. iff.1 (λ states h. all states (least states h)))

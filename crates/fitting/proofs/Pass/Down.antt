@@ -17,7 +17,7 @@ use Rattle.branching.specs.declared.walk.Below.{Below}
 use Rattle.fitting.specs.declared.characters.Part.{Part}
 use Rattle.fitting.specs.declared.characters.Seen.{Seen}
 use Rattle.fitting.proofs.Cases.{either}
-use Rattle.fitting.proofs.Clades.Sides.{on, other}
+use Rattle.clades.proofs.Clades.Sides.{on, other}
 use Rattle.fitting.proofs.Clades.Built.{Htu, htu_two, htu_descends}
 use Rattle.fitting.proofs.Clades.Hanging.{Hangs, from_row1, from_htu, hangs}
 use Rattle.fitting.proofs.Matrix.ByNode.{state-htu, outside-first, outside_below}
@@ -46,7 +46,7 @@ module _ (n : ℕ) (tree : List ℕ) (rows : List (List ℤ)) (j : ℕ) (codes :
         let own = codes_are.are v (walk.within i high).0 l in record {
           state = is
               ∙ ap (λ (own : Option ℤ). state_of own a above) own
-              ∙ sym (taxon-state n tree branches rows j v codes_are.taxon l);
+              ∙ sym (taxon-state n tree branches rows j v (walk.within i high).0 l);
           outside = λ over. absurd (omega arith);
         }
 
@@ -118,10 +118,9 @@ module _ (n : ℕ) (tree : List ℕ) (rows : List (List ℤ)) (j : ℕ) (codes :
             let beside : (part_at parts (on (other side) a b)).set ≡ set_of tree n code (on (other side) a b) =
             ap (λ (p : Part). p.set) (parts_are (on (other side) a b) (omega (arith, d.second)) d.last) in
             let over : n < u = htu'.above in
-            let below-it : Htu n tree (on side a b) lower.0 lower.1 = subst (λ k. Htu n tree k lower.0 lower.1) e lower.2 in
             rw (codes_are.none u over most, w)
             (ap₂ join beside (above_right.outside over)
-            ∙ sym (outside_below n tree grown rows j side u a b lower.0 lower.1 htu' below-it)
+            ∙ sym (outside_below n tree grown rows j side u a b htu')
             ∙ ap (outside_of tree n code) (sym e))
 
         -- what is kept of it is right

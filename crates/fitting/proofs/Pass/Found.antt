@@ -12,7 +12,7 @@ use Rattle.branching.specs.declared.walk.Below.{Below}
 use Rattle.fitting.specs.declared.characters.Part.{Part}
 use Rattle.fitting.specs.declared.characters.Seen.{Seen}
 use Rattle.fitting.proofs.Cases.{either}
-use Rattle.fitting.proofs.Clades.Sides.{left, right}
+use Rattle.clades.proofs.Clades.Sides.{left, right}
 use Rattle.fitting.proofs.Clades.Built.{htu_two, htu_descends}
 use Rattle.fitting.proofs.Matrix.ByNode.{range-htu}
 use Rattle.fitting.proofs.Pass.Standing.{taxa-most, grown_of, last_several, two_kept, taxon-state, taxon-range}
@@ -37,8 +37,8 @@ module _ (n : ℕ) (tree : List ℕ) (rows : List (List ℤ)) (j : ℕ) (codes :
   taxon_found : v ≤ n → record { low = code v; high = code v; chosen = code v } ≡ states_in tree rows n v j
   taxon_found l =
       unfold only in
-      states_with_lem tree rows n v j (only (code v)) (code v) (taxon-range n tree branches rows j v codes_are.taxon l)
-      (taxon-state n tree branches rows j v codes_are.taxon l)
+      states_with_lem tree rows n v j (only (code v)) (code v) (taxon-range n tree branches rows j v first l)
+      (taxon-state n tree branches rows j v first l)
 
   -- an HTU's range comes from the sets of its descendants and its outside
   htu_found : n < v → 2 ≤ n → (a b : Part) → a ≡ part_at parts (below_at below v).first → b ≡ part_at parts (below_at below v).second

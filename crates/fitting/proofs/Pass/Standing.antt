@@ -21,14 +21,15 @@ use Rattle.branching.proofs.Walks.{walk_later}
 use Rattle.fitting.specs.Plans.{sister_in}
 use Rattle.fitting.specs.Sets.{only}
 use Rattle.fitting.specs.Clades.{clades_below}
-use Rattle.fitting.specs.Character.{value_at}
+use Rattle.clades.specs.ByNode.{value_at}
 use Rattle.fitting.specs.Assignments.{character}
 use Rattle.fitting.specs.Fit.{chosen_state, range}
 use Rattle.branching.specs.declared.walk.Below.{Below}
-use Rattle.fitting.proofs.Clades.Sides.{Side, left, right, on, other}
+use Rattle.clades.proofs.Clades.Sides.{Side, left, right, on, other}
 use Rattle.fitting.proofs.Clades.Built.{Htu, htu_descends}
 use Rattle.fitting.proofs.Clades.Hanging.{clade_of}
-use Rattle.fitting.proofs.Matrix.OneClade.{chosen_state-taxon, range-taxon}
+use Rattle.clades.specs.Character.{state_of, range_of, row1_range}
+use Rattle.fitting.proofs.Matrix.ByNode.{state-taxon, range-taxon}
 
 module _ (n : ℕ) (tree : List ℕ) (branches : branching_within n tree ≡ true) where
   -- what passes the test is a branching of at most 64 taxa
@@ -84,27 +85,30 @@ descendant_behind n tree nodes grown walk side u a b i htu h at =
     (place.0, walk_later n tree nodes walk i place.0 h place.1 other (ap (ancestor tree) here ∙ d.from ∙ sym at), place.1, here)
 
 -- a taxon keeps its code under the chosen states, and its range is its code alone
-module _ (n : ℕ) (tree : List ℕ) (branches : branching_within n tree ≡ true) (rows : List (List ℤ)) (j v : ℕ) (some : 1 ≤ n)
+module _ (n : ℕ) (tree : List ℕ) (branches : branching_within n tree ≡ true) (rows : List (List ℤ)) (j v : ℕ) (first : 1 ≤ v)
     (l : v ≤ n) where
   -- of one taxon there is no HTU
-  one-taxon : {A : Type 0} (P : ℕ → A) (x : A) → P 1 ≡ x → (2 ≤ n → ⊥) → P n ≡ x
-  one-taxon P x e one = let is : n ≡ 1 = omega arith in rw is e
+  one-taxon : {A : Type 0} (P : ℕ → ℕ → A) (f : ℕ → A) → P 1 1 ≡ f 1 → (2 ≤ n → ⊥) → P n v ≡ f v
+  one-taxon P f e one =
+      let is : n ≡ 1 = omega arith in
+      let same : v ≡ 1 = omega arith in
+      rw (is, same) e
 
   -- its chosen state
   pub taxon-state : chosen_state tree rows n v j ≡ character rows j v
   taxon-state =
       by_cases (dec_le 2 n)
-      (λ two. chosen_state-taxon n tree rows (clade_of n tree (grown_of n tree branches two)) v j l)
-      (one-taxon (λ k. chosen_state tree rows k v j) (character rows j v)
-      (unfold chosen_state clades_below other_nodes numbers descendants keep flat_map value_at in refl))
+      (λ two. state-taxon n tree (grown_of n tree branches two) rows j v first l)
+      (one-taxon (λ k u. chosen_state tree rows k u j) (character rows j)
+      (unfold chosen_state state_of row1_range clades_below other_nodes numbers descendants keep flat_map value_at only in refl))
 
   -- its range
   pub taxon-range : range tree rows n v j ≡ only (character rows j v)
   taxon-range =
       by_cases (dec_le 2 n)
-      (λ two. range-taxon n tree rows (clade_of n tree (grown_of n tree branches two)) v j l)
-      (one-taxon (λ k. range tree rows k v j) (only (character rows j v))
-      (unfold range clades_below other_nodes numbers descendants keep flat_map value_at in refl))
+      (λ two. range-taxon n tree (grown_of n tree branches two) rows j v first l)
+      (one-taxon (λ k u. range tree rows k u j) (λ u. only (character rows j u))
+      (unfold range range_of row1_range clades_below other_nodes numbers descendants keep flat_map value_at in refl))
 
 -- the other one of two descendants
 pub sister_on : (side : Side) (a b : ℕ) → sister_in (record { first = a; second = b }) (on side a b) ≡ on (other side) a b

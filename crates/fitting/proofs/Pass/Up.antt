@@ -14,7 +14,7 @@ use Rattle.fitting.specs.declared.spans.Span.{Span}
 use Rattle.branching.specs.declared.walk.Below.{Below}
 use Rattle.fitting.specs.declared.characters.Part.{Part}
 use Rattle.fitting.proofs.Cases.{either}
-use Rattle.fitting.proofs.Clades.Sides.{Side, left, right, on}
+use Rattle.clades.proofs.Clades.Sides.{Side, left, right, on}
 use Rattle.fitting.proofs.Clades.Built.{Htu, htu_two}
 use Rattle.fitting.proofs.Matrix.ByNode.{set-taxon, set-htu, cost-taxon, cost-htu}
 use Rattle.fitting.proofs.Matrix.LeastCost.{cost-most}

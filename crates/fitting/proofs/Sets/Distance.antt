@@ -1,21 +1,16 @@
 -- Laws of state sets: how far a state lies from a set, from two sets and from their join.
-use Rattle.std.proofs.Common.{◌≡◌, ℕ, ◌+◌, ◌-◌, ◌*◌, ◌≤◌, min, max, [], ◌∷◌, ℤ, ◌≤ℤ◌, sym, ◌∙◌, subst, arith}
-use native.Mathlib.Nat.{max_comm, min_comm}
+use Rattle.std.proofs.Common.{◌≡◌, ℕ, ◌+◌, ◌-◌, ◌*◌, ◌≤◌, min, max, [], ◌∷◌, ℤ, sym, subst, arith}
 use lib.Signed.{≤ℤ_refl}
 use Rattle.difference.specs.Rows.{apart}
-use Rattle.difference.proofs.Laws.Codes.{apart-sym}
 use Rattle.difference.proofs.Laws.Places.{place, apart-place, lower-place, higher-place, le_place, place_le, everywhere}
-use Rattle.fitting.specs.Sets.{In, only, join, gap, nearest_member}
+use Rattle.clades.specs.Kinds.{offset as offset_in}
+use Rattle.fitting.specs.Sets.{Nonempty, In, only, join, gap, nearest_member, ordered}
 use Rattle.fitting.specs.declared.spans.Span.{Span}
-use Rattle.fitting.proofs.Sets.Ends.{either_side, join_apart, in_join, nearest_apart}
-
--- a set has at least one member
-pub record Nonempty (a : Span) : Type 0 where
-  pub ordered : a.low ≤ℤ a.high
+use Rattle.fitting.proofs.Sets.Ends.{either_side, join_apart, in_join}
 
 -- how far a state lies from a set: its difference from the nearest member
-unfoldable pub offset : ℤ → Span → ℕ
-offset s a = apart s (nearest_member s a)
+abbrev pub offset : ℤ → Span → ℕ
+offset s a = offset_in ordered s a
 
 -- the set from one state to another
 abbrev pub span : ℤ → ℤ → Span
@@ -27,9 +22,9 @@ module _ (K : ℕ) where
   places l h = span (place K l) (place K h)
 
   -- how far a place lies from such a set
-  offset_places : (s l h : ℕ) → l ≤ h → offset (place K s) (places l h) ≡ (l - s) + (s - h)
-  unfolding offset nearest_member
-  offset_places s l h p = simp (lower-place, higher-place, apart-place) (omega arith)
+  pub offset-places : (s l h : ℕ) → l ≤ h → offset (place K s) (places l h) ≡ (l - s) + (s - h)
+  unfolding offset_in nearest_member
+  offset-places s l h p = simp (lower-place, higher-place, apart-place) (omega arith)
 
   -- how far two such sets lie from each other
   gap-places : (l h l' h' : ℕ) → gap (places l h) (places l' h') ≡ max l l' - min h h'
@@ -77,42 +72,19 @@ nearest_member_in s a = everywhere (λ z. Nonempty (span (z 1) (z 2)) → In (ne
     rw (nearest_member-places K (n 0) (n 1) (n 2)) (in_places K (omega arith) (omega arith)))
     (s ∷ a.low ∷ a.high ∷ [])
 
--- from a state to a set it is at most as far as over another state
-pub offset_triangle : (y s : ℤ) (a : Span) → Nonempty a → offset y a ≤ apart y s + offset s a
-offset_triangle y s a = everywhere
-    (λ z. Nonempty (span (z 2) (z 3)) → offset (z 0) (span (z 2) (z 3)) ≤ apart (z 0) (z 1) + offset (z 1) (span (z 2) (z 3)))
-    (λ K n p.
-    let q = nonempty_places K (n 2) (n 3) p in
-    simp (apart-place, offset_places K (n 0) (n 2) (n 3) q, offset_places K (n 1) (n 2) (n 3) q) (omega arith))
-    (y ∷ s ∷ a.low ∷ a.high ∷ [])
-
--- from a taxon's set a state is as far as from its code
-pub offset_only : (y s : ℤ) → offset y (only s) ≡ apart y s
-unfolding only
-offset_only y s = everywhere (λ z. offset (z 0) (span (z 1) (z 1)) ≡ apart (z 0) (z 1))
-    (λ K n. rw (offset_places K (n 0) (n 1) (n 1) (omega arith), apart-place K (n 0) (n 1)) (omega arith))
-    (y ∷ s ∷ [])
-
 -- from the two ends of a set it is twice as far as from the set, and the set's width
-pub offset_ends : (s : ℤ) (a : Span) → Nonempty a → apart s a.low + apart s a.high ≡ 2 * offset s a + apart a.low a.high
-offset_ends s a = everywhere
+pub offset-ends : (s : ℤ) (a : Span) → Nonempty a → apart s a.low + apart s a.high ≡ 2 * offset s a + apart a.low a.high
+offset-ends s a = everywhere
     (λ z. Nonempty (span (z 1) (z 2)) → apart (z 0) (z 1) + apart (z 0) (z 2) ≡ 2 * offset (z 0) (span (z 1) (z 2)) + apart (z 1) (z 2))
     (λ K n p.
     let q = nonempty_places K (n 1) (n 2) p in
-    rw (apart-place K (n 0) (n 1), apart-place K (n 0) (n 2), apart-place K (n 1) (n 2), offset_places K (n 0) (n 1) (n 2) q)
+    rw (apart-place K (n 0) (n 1), apart-place K (n 0) (n 2), apart-place K (n 1) (n 2), offset-places K (n 0) (n 1) (n 2) q)
     (either_side (n 0) (n 1) (n 2) q))
     (s ∷ a.low ∷ a.high ∷ [])
 
--- two sets are as far from each other in either order
-pub gap_comm : (a b : Span) → gap a b ≡ gap b a
-gap_comm a b = everywhere (λ z. gap (span (z 0) (z 1)) (span (z 2) (z 3)) ≡ gap (span (z 2) (z 3)) (span (z 0) (z 1)))
-    (λ K n.
-    rw (gap-places K (n 0) (n 1) (n 2) (n 3), gap-places K (n 2) (n 3) (n 0) (n 1), max_comm (n 0) (n 2), min_comm (n 1) (n 3)))
-    (a.low ∷ a.high ∷ b.low ∷ b.high ∷ [])
-
 -- to two sets it is at least as far as to their join and from one set to the other
-pub offset_join : (s : ℤ) (a b : Span) → Nonempty a → Nonempty b → gap a b + offset s (join a b) ≤ offset s a + offset s b
-offset_join s a b = everywhere
+pub offset-join : (s : ℤ) (a b : Span) → Nonempty a → Nonempty b → gap a b + offset s (join a b) ≤ offset s a + offset s b
+offset-join s a b = everywhere
     (λ z. Nonempty (span (z 1) (z 2)) → Nonempty (span (z 3) (z 4)) →
     gap (span (z 1) (z 2)) (span (z 3) (z 4)) + offset (z 0) (join (span (z 1) (z 2)) (span (z 3) (z 4)))
     ≤ offset (z 0) (span (z 1) (z 2)) + offset (z 0) (span (z 3) (z 4)))
@@ -122,9 +94,9 @@ offset_join s a b = everywhere
     rw (
       join-places K (n 1) (n 2) (n 3) (n 4),
       gap-places K (n 1) (n 2) (n 3) (n 4),
-      offset_places K (n 0) (n 1) (n 2) p',
-      offset_places K (n 0) (n 3) (n 4) q',
-      offset_places K (n 0) (min (max (n 1) (n 3)) (min (n 2) (n 4)))
+      offset-places K (n 0) (n 1) (n 2) p',
+      offset-places K (n 0) (n 3) (n 4) q',
+      offset-places K (n 0) (min (max (n 1) (n 3)) (min (n 2) (n 4)))
           (max (max (n 1) (n 3)) (min (n 2) (n 4))) (omega arith),
     )
     (join_apart (n 0) (n 1) (n 2) (n 3) (n 4)))
@@ -140,28 +112,6 @@ offset_in_join s a b = everywhere
     let q' = nonempty_places K (n 3) (n 4) q in
     let r' = rw (join-places K (n 1) (n 2) (n 3) (n 4)) at r in
     let i = places_in K (n 0) _ _ r' in
-    rw (gap-places K (n 1) (n 2) (n 3) (n 4), offset_places K (n 0) (n 1) (n 2) p', offset_places K (n 0) (n 3) (n 4) q')
+    rw (gap-places K (n 1) (n 2) (n 3) (n 4), offset-places K (n 0) (n 1) (n 2) p', offset-places K (n 0) (n 3) (n 4) q')
     (in_join (n 0) (n 1) (n 2) (n 3) (n 4) p' q' i.0 i.1))
     (s ∷ a.low ∷ a.high ∷ b.low ∷ b.high ∷ [])
-
--- the member of a set nearest to another set's low end is as far from that set as the two sets are
-pub offset_nearest_member : (a b : Span) → Nonempty a → Nonempty b → offset (nearest_member b.low a) b ≡ gap a b
-offset_nearest_member a b = everywhere
-    (λ z. Nonempty (span (z 0) (z 1)) → Nonempty (span (z 2) (z 3)) →
-    offset (nearest_member (z 2) (span (z 0) (z 1))) (span (z 2) (z 3)) ≡ gap (span (z 0) (z 1)) (span (z 2) (z 3)))
-    (λ K n p q.
-    let p' = nonempty_places K (n 0) (n 1) p in
-    let q' = nonempty_places K (n 2) (n 3) q in
-    rw (
-      nearest_member-places K (n 2) (n 0) (n 1),
-      gap-places K (n 0) (n 1) (n 2) (n 3),
-      offset_places K (max (n 0) (min (n 2) (n 1))) (n 2) (n 3) q',
-    )
-    (nearest_apart (n 0) (n 1) (n 2) (n 3) p' q'))
-    (a.low ∷ a.high ∷ b.low ∷ b.high ∷ [])
-
--- a set is as far from one state's set as from the state
-pub gap-only : (s : ℤ) (a : Span) → Nonempty a → gap a (only s) ≡ offset s a
-unfolding only
-gap-only s a p = sym (offset_nearest_member a (only s) p (only_nonempty s)) ∙ offset_only (nearest_member s a) s
-    ∙ unfold offset in apart-sym (nearest_member s a) s

@@ -41,14 +41,3 @@ in_join s l h l' h' p p' =
     (λ c. min_cases (λ y. min l y ≤ s → s ≤ max l y → ((l - s) + (s - h)) + ((l' - s) + (s - h')) ≡ l - y) h h'
     (λ d. between s l h (λ e f g. omega arith) (λ e f g. omega arith))
     (λ d. between s l h' (λ e f g. omega arith) (λ e f g. omega arith)))
-
--- the member of l to h nearest to l' is as far from l' to h' as the two sets are
-pub nearest_apart : (l h l' h' : ℕ) → l ≤ h → l' ≤ h' →
-    (l' - max l (min l' h)) + (max l (min l' h) - h') ≡ max l l' - min h h'
-nearest_apart l h l' h' p p' = either l l'
-    (λ c. either l' h
-    (λ d. rw (max-eq_right c, min-eq_left d, max-eq_right c) (omega arith))
-    (λ d. rw (max-eq_right c, min-eq_right (le_of_lt d), max-eq_right p) (omega arith)))
-    (λ c.
-    let d : l' ≤ h = omega arith in
-    simp (min-eq_left d, max-eq_left (le_of_lt c)) (omega arith))

@@ -2,10 +2,10 @@
 use Rattle.std.proofs.Common.{◌≡◌, min, max, ◌↔◌, [], ◌∷◌, ℤ, arith}
 use native.Mathlib.Nat.{max_comm, min_comm}
 use Rattle.difference.proofs.Laws.Places.{place, everywhere}
-use Rattle.fitting.specs.Sets.{In, join, nearest_member}
+use Rattle.fitting.specs.Sets.{Nonempty, In, join, nearest_member}
 use Rattle.fitting.specs.declared.spans.Span.{Span}
 use Rattle.fitting.proofs.Cases.{either}
-use Rattle.fitting.proofs.Sets.Distance.{Nonempty, span, join-places, nearest_member-places, nonempty_places, in_places, places_in}
+use Rattle.fitting.proofs.Sets.Distance.{span, join-places, nearest_member-places, nonempty_places, in_places, places_in}
 use Rattle.fitting.proofs.Sets.Distance.{nearest_member_in}
 
 -- two sets touch if they have a state in common
