@@ -1,6 +1,5 @@
 -- What is proved about the floor and the index.
 pub mod Ends
-pub mod Reaching
 pub mod NeverPasses
 pub mod Division
 pub mod Columns

@@ -19,14 +19,17 @@ use Rattle.difference.proofs.Laws.Weights.{part-sym, part_self, part_triangle}
 use Rattle.branching.specs.Growing.{branching}
 use Rattle.branching.proofs.Test.{branching_iff}
 use Rattle.branching.proofs.Whole.{branching-grown}
+use Rattle.clades.proofs.Sets.Laws.{Distance}
+use Rattle.clades.proofs.OneCharacter.CharacterFit.{Node}
+use Rattle.clades.proofs.OneCharacter.Reach.{reach}
 use Rattle.fitting.specs.Assignments.{character, total, IsAssignment}
 use Rattle.fitting.specs.Fit.{chosen_state, fitted_total}
 use Rattle.fitting.proofs.Clades.Built.{CladeOf, clade_of_lem}
-use Rattle.fitting.proofs.Matrix.EachFitted.{cost_of, total-cost}
+use Rattle.fitting.proofs.Clades.Taxa.{node_of}
+use Rattle.fitting.proofs.Matrix.Totals.{cost_of, total-cost}
 use Rattle.fitting.proofs.Matrix.ThirdRival.{third_rival}
 use Rattle.consistency.specs.Floor.{lowest, highest, codes_of, character_floor, floor, FloorNeverPasses}
 use Rattle.consistency.proofs.Ends.{lowest-keeps, highest-keeps}
-use Rattle.consistency.proofs.Reaching.{Distance, reach_above, reach_across}
 
 -- the codes of the taxa in a character are as many as the taxa
 length-codes_of : (rows : List (List ℤ)) (n j : ℕ) → length (codes_of rows n j) ≡ n
@@ -59,30 +62,9 @@ module _ (step : ℕ → ℤ → ℤ → ℕ) (distances : Distances step) (n m 
   abbrev cost_in : ℕ → ℕ
   cost_in j = cost_of step n tree clade_of states j
 
-  -- a taxon differs in a character from row 1 by no more than it costs
-  from_row1_lem : (j u : ℕ) → 1 ≤ u → u ≤ n → step j (states u j) (states 1 j) ≤ cost_in j
-  from_row1_lem j u p q =
-      by_cases (dec_le 2 u)
-      (λ second. reach_above (step j) (distances j) (λ w. states w j) (states 1 j) clade_of.clade u (clade_of.has_all u second (omega arith)))
-      (λ first.
-      let row1 : u ≡ 1 = omega arith in
-      rw row1 (omega (arith, (distances j).none (states 1 j))))
-
-  -- two taxa differ in a character by no more than it costs
-  two_taxa : (j u v : ℕ) → 1 ≤ u → u ≤ n → 1 ≤ v → v ≤ n → step j (states u j) (states v j) ≤ cost_in j
-  two_taxa j u v p q r s =
-      by_cases (dec_le 2 u)
-      (λ second-u.
-      by_cases (dec_le 2 v)
-      (λ second-v.
-      reach_across (step j) (distances j) (λ w. states w j) (states 1 j) clade_of.clade u v (clade_of.has_all u second-u (omega arith))
-      (clade_of.has_all v second-v (omega arith)))
-      (λ first-v.
-      let row1 : v ≡ 1 = omega arith in
-      rw row1 (from_row1_lem j u p q)))
-      (λ first-u.
-      let row1 : u ≡ 1 = omega arith in
-      rw row1 (omega (arith, (distances j).same (states 1 j) (states v j), from_row1_lem j v r s)))
+  -- a taxon is a node of the clade, or row 1
+  taxon_node : (v : ℕ) → 1 ≤ v → v ≤ n → Node clade_of.clade v
+  taxon_node v p q = node_of n tree clade_of v p (omega arith)
 
   -- a character costs at least its floor
   character-least : (j : ℕ) → Memᴰ j (numbers 1 m) → character_floor (step j) (codes_of rows n j) ≤ cost_in j
@@ -91,7 +73,8 @@ module _ (step : ℕ → ℤ → ℤ → ℕ) (distances : Distances step) (n m 
       let within = numbers-within 1 m j i in
       let last : j ≤ m = omega (arith, within.1) in
       ends-keep (λ high low. step j high low ≤ cost_in j) rows n j (omega arith) (λ u v p q r s.
-      rw (sym (assignment.keeps u j p q within.0 last), sym (assignment.keeps v j r s within.0 last)) (two_taxa j u v p q r s))
+      rw (sym (assignment.keeps u j p q within.0 last), sym (assignment.keeps v j r s within.0 last))
+      (reach (step j) clade_of.clade (λ w. states w j) (distances j) u v (taxon_node u p q) (taxon_node v r s)))
 
   -- so the total is at least the floor
   several-least : floor step rows n m ≤ total step tree n m states
@@ -107,7 +90,7 @@ module _ (step : ℕ → ℤ → ℤ → ℕ) (distances : Distances step) (n m 
 alone-floor : (step : ℕ → ℤ → ℤ → ℕ) → Distances step → (m : ℕ) (rows : List (List ℤ)) → floor step rows 1 m ≡ 0
 unfolding floor character_floor codes_of numbers highest lowest
 alone-floor step distances m rows =
-    sum_none (λ j. step j (character rows j 1) (character rows j 1)) (numbers 1 m) (λ j i. (distances j).none (character rows j 1))
+    sum_none (λ j. step j (character rows j 1) (character rows j 1)) (numbers 1 m) (λ j i. (distances j).self (character rows j 1))
 
 -- the claim, as long as what a step costs is a distance
 floor-least : (step : ℕ → ℤ → ℤ → ℕ) → Distances step → (n m : ℕ) (rows : List (List ℤ)) → 1 ≤ n → FloorNeverPasses step rows n m
@@ -125,8 +108,8 @@ floor-least step distances n m rows taxon = record {
 pub floor_never_passes : (weights : List ℕ) (n m : ℕ) (rows : List (List ℤ)) → 1 ≤ n → FloorNeverPasses (weighing weights).step rows n m
 floor_never_passes weights n m rows taxon =
     floor-least (weighing weights).step (λ j. record {
-      same = part-sym (weight_of weights j);
-      none = part_self (weight_of weights j);
+      self = part_self (weight_of weights j);
+      turned = part-sym (weight_of weights j);
       triangle = part_triangle (weight_of weights j);
     }) n m rows taxon
 

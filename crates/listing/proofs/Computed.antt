@@ -35,7 +35,8 @@ use Rattle.wagner.specs.Next as wagner-Next
 use Rattle.wagner.specs.Build as wagner-Build
 use Rattle.fitting.specs.Sets as fitting-Sets
 use Rattle.fitting.specs.Clades as fitting-Clades
-use Rattle.fitting.specs.Character as fitting-Character
+use Rattle.clades.specs.ByNode as clades-ByNode
+use Rattle.clades.specs.Character as clades-Character
 use Rattle.fitting.specs.Assignments as fitting-Assignments
 use Rattle.fitting.specs.Fit as fitting-Fit
 use Rattle.consistency.specs.Floor as consistency-Floor
@@ -84,8 +85,9 @@ unfolding flat_map matrix-Shape.row matrix-Shape.in_range matrix-Shape.last_node
     wagner-Next.by_advancement wagner-Next.hangings wagner-Next.taxon_of wagner-Next.by_closeness wagner-Next.next_by lists-Pairs.pairs
     wagner-Build.added_length wagner-Build.build_on wagner-Build.build wagner-Build.wagner wagner-Build.wagner_length
     wagner-Build.wagner_branches fitting-Sets.only fitting-Sets.join fitting-Sets.nearest_member fitting-Sets.insert fitting-Sets.in_order
-    fitting-Sets.middle fitting-Clades.above fitting-Clades.clade_at fitting-Clades.clades_below fitting-Character.value_at
-    fitting-Character.up fitting-Character.chosen fitting-Character.ranges fitting-Assignments.character
+    fitting-Sets.middle fitting-Clades.above fitting-Clades.clade_at fitting-Clades.clades_below clades-ByNode.value_at
+    clades-Character.up clades-Character.chosen clades-Character.ranges clades-Character.row1_range
+    clades-Character.state_of clades-Character.range_of fitting-Assignments.character
     fitting-Assignments.branch_length fitting-Assignments.total fitting-Fit.chosen_state fitting-Fit.range fitting-Fit.fitted_length
     fitting-Fit.fitted_total fitting-Fit.marked consistency-Floor.lowest consistency-Floor.highest consistency-Floor.codes_of
     consistency-Floor.character_floor consistency-Floor.floor consistency-Index.index lines-Lines.line lines-Lines.hyphen lines-Lines.htu_name lines-Lines.node_name

@@ -21,7 +21,7 @@ use Rattle.branching.proofs.RowLengths.{OfLength}
 use Rattle.wagner.specs.Build.{wagner_length, added_length}
 use Rattle.wagner.proofs.Difference.{wagner-length}
 use Rattle.fitting.specs.Fit.{fitted_length, fitted_total}
-use Rattle.fitting.proofs.Matrix.EachFitted.{lengths-total}
+use Rattle.fitting.proofs.Matrix.Totals.{lengths-total}
 use Rattle.listing.specs.Meant.{order_meant, measure_meant}
 use Rattle.listing.proofs.Parts.{links_of, built_of}
 
