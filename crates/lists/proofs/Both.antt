@@ -91,3 +91,9 @@ module _ {a r : Bool} (b : Bool) where
   -- where the first is false, the second answers for the two
   pub or_second : {s : Bool} → r ≡ false → r ≡ a → s ≡ b → s ≡ a || b
   or_second f ea eb = eb ∙ ap (λ x. x || b) (sym f ∙ ea)
+
+-- two tests that follow from each other are the same
+pub same_test : (a b : Bool) → (a ≡ true → b ≡ true) → (b ≡ true → a ≡ true) → a ≡ b
+same_test true b f g = sym (f refl)
+same_test false true f g = g refl
+same_test false false f g = refl
