@@ -1,7 +1,7 @@
 -- The questions put to what is lent with a call.
 use Rattle.std.specs.Prelude.{List, ℕ}
-use Rattle.matrix.specs.Outcomes.{Asked}
-use Rattle.matrix.specs.Questions.{ask_matrix, ask_nodes}
+use Rattle.matrix_form.specs.Outcomes.{Asked}
+use Rattle.matrix_form.specs.Questions.{ask_matrix, ask_nodes}
 use Rattle.matrix.specs.declared.lent.Lent.{Lent}
 
 -- those on the matrix and its weights alone

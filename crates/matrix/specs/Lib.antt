@@ -1,7 +1,2 @@
--- The shapes of the lent lists, the refusals and their numbers, and the questions put to a lent matrix (document 01).
-pub mod Shape
-pub mod Refusals
-pub mod Outcomes
-pub mod Questions
+-- What the methods of what is lent with a call answer. The questions themselves stand in `matrix_form`.
 pub mod Lent
-pub mod NodeRows

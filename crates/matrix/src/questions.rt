@@ -1,7 +1,7 @@
 // What is asked of numbers, codes and nodes. Each answers what its definition in specs/ answers, for every input.
 ghost use Rattle.std.specs.Prelude.{◌≡◌, ◌≤◌, ◌-◌, ◌^◌, min};
-ghost use Rattle.matrix.specs.Shape.{most_taxa, row, in_range, last_node};
-ghost use Rattle.matrix.specs.Questions.{within_limits, one_to, all_in_range, rows_in_range, nodes_exist};
+ghost use Rattle.matrix_form.specs.Shape.{most_taxa, row, in_range, last_node};
+ghost use Rattle.matrix_form.specs.Questions.{within_limits, one_to, all_in_range, rows_in_range, nodes_exist};
 
 use crate::rows::row;
 use crate::{HIGHEST_CODE, LOWEST_CODE, MOST_CHARACTERS, MOST_TAXA};
@@ -14,7 +14,7 @@ pub fn in_range(code: i32) -> bool
 }
 
 // Whether an item, counted from 1, is one of `last`.
-#[tactic(auto, using(crate::proofs::Between::nat_between), unfolding(crate::specs::Questions::one_to))]
+#[tactic(auto, using(matrix_form::proofs::Between::nat_between), unfolding(matrix_form::specs::Questions::one_to))]
 pub fn one_to(last: usize, item: usize) -> bool
     ensures { result ≡ one_to last item }
 {
@@ -22,7 +22,7 @@ pub fn one_to(last: usize, item: usize) -> bool
 }
 
 // Whether n is 1 to 64 and m is 1 to 128.
-#[tactic(auto, unfolding(crate::specs::Questions::within_limits))]
+#[tactic(auto, unfolding(matrix_form::specs::Questions::within_limits))]
 pub fn within_limits(n: usize, m: usize) -> bool
     ensures { result ≡ within_limits n m }
 {
@@ -30,7 +30,7 @@ pub fn within_limits(n: usize, m: usize) -> bool
 }
 
 // Whether every code of a row is from -999 to 999.
-#[tactic(auto, unfolding(crate::specs::Questions::all_in_range, lists::specs::Tests::every))]
+#[tactic(auto, unfolding(matrix_form::specs::Questions::all_in_range, lists::specs::Tests::every))]
 pub fn all_in_range(codes: &[i32]) -> bool
     ensures { result ≡ all_in_range codes.now }
 {
@@ -45,7 +45,7 @@ pub fn rows_in_range(matrix: &[i32], m: usize, n: usize) -> bool
 }
 
 // The last node: 2n-2, and for n = 1 node 1. Where 2n-2 is past what a number holds, the highest number.
-#[tactic(auto, unfolding(crate::specs::Shape::last_node))]
+#[tactic(auto, unfolding(matrix_form::specs::Shape::last_node))]
 pub fn last_node(n: usize) -> usize
     ensures { result ≡ min (last_node n) (2 ^ 64 - 1) }
 {
@@ -53,7 +53,7 @@ pub fn last_node(n: usize) -> usize
 }
 
 // Whether every node of a list exists.
-#[tactic(auto, unfolding(crate::specs::Questions::nodes_exist, lists::specs::Tests::every, crate::specs::Shape::last_node))]
+#[tactic(auto, unfolding(matrix_form::specs::Questions::nodes_exist, lists::specs::Tests::every, matrix_form::specs::Shape::last_node))]
 pub(crate) fn nodes_exist(n: usize, nodes: &[usize]) -> bool
     requires { n ≤ most_taxa }
     ensures { result ≡ nodes_exist n nodes.now }

@@ -1,7 +1,7 @@
 // The rows of a lent matrix.
 ghost use Rattle.std.specs.Prelude.{◌≡◌, min};
-ghost use Rattle.matrix.specs.Shape.{row_start, row};
-ghost use Rattle.matrix.specs.NodeRows.{with_row};
+ghost use Rattle.matrix_form.specs.Shape.{row_start, row};
+ghost use Rattle.matrix_form.specs.NodeRows.{with_row};
 
 use crate::COLUMNS;
 
@@ -14,7 +14,7 @@ pub fn row_start(len: usize, v: usize) -> usize
 
 // The row of node v: its codes for characters 1 to m, as far as the list goes.
 // Kept: no plainer, `chunks` parts the list into rows of 128, and m can be more: the codes then go on in the next row.
-#[tactic(auto, using(crate::proofs::Row::row_part))]
+#[tactic(auto, using(matrix_form::proofs::Row::row_part))]
 pub fn row(matrix: &[i32], m: usize, v: usize) -> &[i32]
     ensures { result.now ≡ row matrix.now m v }
 {

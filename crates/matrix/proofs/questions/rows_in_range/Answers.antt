@@ -5,8 +5,8 @@ use Rattle.std.proofs.Common.{rules, tests, ◌+◌}
 use Rattle.std.proofs.lemmas.Iterator.{YieldsList-from_range}
 use Rattle.std.proofs.lemmas.Iterator.Search.{all_from_yields_List}
 use Rattle.lists.proofs.Every.{every_behind}
-use Rattle.matrix.specs.Shape.{row}
-use Rattle.matrix.specs.Questions.{all_in_range, rows_in_range}
+use Rattle.matrix_form.specs.Shape.{row}
+use Rattle.matrix_form.specs.Questions.{all_in_range, rows_in_range}
 use Rattle.matrix.proofs.questions.rows_in_range.Goals as goal
 
 pub returns : goal.returns

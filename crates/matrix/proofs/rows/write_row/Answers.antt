@@ -6,7 +6,7 @@ use lib.IntN.{ℤ}
 use lib.ListN.{length, length-take}
 use Rattle.lists.specs.Over.{over}
 use Rattle.lists.proofs.Over.{over-part_put}
-use Rattle.matrix.proofs.NodeRows.{with_row-part}
+use Rattle.matrix_form.proofs.NodeRows.{with_row-part}
 use Rattle.matrix.proofs.rows.write_row.Goals as goal
 
 pub returns : goal.returns

@@ -11,14 +11,14 @@ use lib.Dec.{leb, eqb}
 use lib.IntN.{ℤ}
 use lib.ListN.{length, get_or}
 use Rattle.lists.proofs.Both.{or_cases}
-use Rattle.matrix.proofs.Row.{row-length}
+use Rattle.matrix_form.proofs.Row.{row-length}
 use Rattle.lists.specs.Numbers.{numbers}
-use Rattle.matrix.specs.Shape.{columns, matrix_size, row, last_node}
-use Rattle.matrix.specs.Outcomes.{Asked, ask, and_then}
-use Rattle.matrix.specs.Questions.{one_to, within_limits, all_in_range, rows_in_range, are_weights, ask_matrix, LentMatrix, LentWeights}
-use Rattle.matrix.specs.Questions.{nodes_exist, htu_in_range, htus_in_range, ask_nodes}
-use Rattle.matrix.specs.declared.refusal.Refusal.{Refusal}
-use Rattle.matrix.specs.declared.refusal.Refusal.TheVariants.{BeyondLimits, CodeRange, ListSize, NotThere, WeightForm}
+use Rattle.matrix_form.specs.Shape.{columns, matrix_size, row, last_node}
+use Rattle.matrix_form.specs.Outcomes.{Asked, ask, and_then}
+use Rattle.matrix_form.specs.Questions.{one_to, within_limits, all_in_range, rows_in_range, are_weights, ask_matrix, LentMatrix, LentWeights}
+use Rattle.matrix_form.specs.Questions.{nodes_exist, htu_in_range, htus_in_range, ask_nodes}
+use Rattle.matrix_form.specs.declared.refusal.Refusal.{Refusal}
+use Rattle.matrix_form.specs.declared.refusal.Refusal.TheVariants.{BeyondLimits, CodeRange, ListSize, NotThere, WeightForm}
 use Rattle.lists.proofs.Every.{every_at, every-from, every_iff}
 use Rattle.lists.proofs.Numbers.{length-numbers, get_or-numbers}
 

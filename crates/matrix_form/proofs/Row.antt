@@ -8,7 +8,7 @@ use native.Mathlib.Omega.{arith}
 use lib.IntN.{ℤ, pos}
 use lib.ListN.{length, get_or, take, drop, length-take, length-drop}
 use lib.Seq.{take_all, get_or-take, get_or-drop, ext_get_or}
-use Rattle.matrix.specs.Shape.{columns, matrix_size, row_start, row}
+use Rattle.matrix_form.specs.Shape.{columns, matrix_size, row_start, row}
 
 -- what is lent as the row of node v: of the list from where it begins, or from its end, the first m codes
 pub row_part : (codes : List ℤ) (m v start count : ℕ) → start ≡ min (length codes) (row_start v) → count ≡ min m (length (drop start codes))

@@ -12,9 +12,9 @@ use Rattle.lists.specs.Over.{over}
 use Rattle.lists.proofs.Numbers.{length_map_numbers, map-numbers}
 use Rattle.lists.proofs.Over.{length_over, over-before, over-behind, over_item, over-part, over_past}
 use Rattle.lists.proofs.Stripes.{Narrow, length-stripes, stripes-before, stripes-else, stripes_item}
-use Rattle.matrix.specs.Shape.{columns, row_start, row}
-use Rattle.matrix.specs.NodeRows.{row_of, rows_of, with_row, with_rows}
-use Rattle.matrix.proofs.Row.{row_same}
+use Rattle.matrix_form.specs.Shape.{columns, row_start, row}
+use Rattle.matrix_form.specs.NodeRows.{row_of, rows_of, with_row, with_rows}
+use Rattle.matrix_form.proofs.Row.{row_same}
 
 -- the row of the node behind the first i
 pub row_of-next : (rows : List (List ℤ)) (i : ℕ) → row_of rows (suc i) ≡ get_or rows i []

@@ -1,8 +1,8 @@
 -- Asking in order, and what an input brings (document 01, "The questions put to an input"): what was asked for, or one refusal number with
 -- a line.
 use Rattle.std.specs.Prelude.{◌≡◌, Bool, true, false, ℕ, Result, Ok, Err, MatchResult}
-use Rattle.matrix.specs.Refusals.{refusal_number}
-use Rattle.matrix.specs.declared.refusal.Refusal.{Refusal}
+use Rattle.matrix_form.specs.Refusals.{refusal_number}
+use Rattle.matrix_form.specs.declared.refusal.Refusal.{Refusal}
 
 -- what the questions put to an input answer: nothing refuses it, or the first "no"
 abbrev pub Asked : Type 0

@@ -2,7 +2,7 @@
 use Rattle.std.specs.Prelude.{List, [], map, ℕ, ◌-◌, ℤ, get_or}
 use Rattle.lists.specs.Numbers.{numbers}
 use Rattle.lists.specs.Over.{over, stripes}
-use Rattle.matrix.specs.Shape.{columns, row_start, row}
+use Rattle.matrix_form.specs.Shape.{columns, row_start, row}
 
 -- the row of node v
 unfoldable pub row_of : List (List ℤ) → ℕ → List ℤ

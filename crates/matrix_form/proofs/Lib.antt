@@ -1,4 +1,4 @@
--- Laws about the definitions of this crate.
+-- Laws of rows and of questions; computed examples.
 pub mod Between
 pub mod Passing
 pub mod Answering

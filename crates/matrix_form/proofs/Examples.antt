@@ -4,18 +4,19 @@ use mathlib.Core.Path.{◌≡◌, refl}
 use mathlib.Core.Bool.{true, false}
 use mathlib.Core.List.{List, [], ◌∷◌, map}
 use Prim.Native.Nat.{ℕ}
-use lib.IntN.{ℤ, pos}
+use lib.IntN.{ℤ, pos, negsuc}
 use lib.ListN.{replicate, set}
 use Rattle.lists.specs.Numbers.{numbers}
 use Rattle.lists.specs.Tests.{every}
-use Rattle.matrix.specs.Shape.{matrix_size, columns, row, in_range, is_weight, weight_at, weight_of}
-use Rattle.matrix.specs.Questions.{one_to, within_limits, all_in_range, rows_in_range, are_weights, ask_matrix}
-use Rattle.matrix.specs.Refusals.{refusal_number}
-use Rattle.matrix.specs.Outcomes.{Asked, ask, and_then, Outcome, value, refused, on_line, answered, asked_says, afterwards}
-use Rattle.matrix.specs.declared.refusal.Refusal.{Refusal}
-use Rattle.matrix.specs.declared.refusal.Refusal.TheVariants.{FileTooLong, FileEmpty, FirstLine, BeyondLimits, LineMissing}
-use Rattle.matrix.specs.declared.refusal.Refusal.TheVariants.{NameForm, NameTaken, FieldCount, CodeForm, CodeRange, FileGoesOn}
-use Rattle.matrix.specs.declared.refusal.Refusal.TheVariants.{ListSize, NotThere, NotBranching, UnknownOrder, WeightForm, BranchForm}
+use Rattle.matrix_form.specs.Shape.{matrix_size, columns, row_start, row, in_range, last_node, is_weight, weight_at, weight_of}
+use Rattle.matrix_form.specs.Questions.{one_to, within_limits, all_in_range, rows_in_range, are_weights, ask_matrix}
+use Rattle.matrix_form.specs.Questions.{nodes_exist, htu_in_range, htus_in_range, ask_nodes}
+use Rattle.matrix_form.specs.Refusals.{refusal_number}
+use Rattle.matrix_form.specs.Outcomes.{Asked, ask, and_then, Outcome, value, refused, on_line, answered, asked_says, afterwards}
+use Rattle.matrix_form.specs.declared.refusal.Refusal.{Refusal}
+use Rattle.matrix_form.specs.declared.refusal.Refusal.TheVariants.{FileTooLong, FileEmpty, FirstLine, BeyondLimits, LineMissing}
+use Rattle.matrix_form.specs.declared.refusal.Refusal.TheVariants.{NameForm, NameTaken, FieldCount, CodeForm, CodeRange, FileGoesOn}
+use Rattle.matrix_form.specs.declared.refusal.Refusal.TheVariants.{ListSize, NotThere, NotBranching, UnknownOrder, WeightForm, BranchForm}
 
 -- every refusal, in the order of the papers' numbers
 abbrev all : List Refusal
@@ -78,6 +79,14 @@ zeros = replicate matrix_size (pos 0)
 abbrev bad_code : List ℤ
 bad_code = set zeros 0 (pos 1000)
 
+-- a matrix with a code out of range in row 2
+abbrev row_2 : List ℤ
+row_2 = set zeros 128 (pos 1000)
+
+-- a matrix with a code out of range in row 4, that of the first HTU of three taxa
+abbrev bad_htu : List ℤ
+bad_htu = set zeros 384 (pos 1000)
+
 -- lent weights of 1, of a number
 abbrev ones : ℕ → List ℕ
 ones size = replicate size 1
@@ -98,11 +107,48 @@ pub record SizeExamples : Type 0 where
   pub full : sized 16128 ≡ Ok tt
   pub fewer : sized 16127 ≡ Err ListSize
   pub more : sized 16129 ≡ Err ListSize
+  -- n is 1 to 64, m is 1 to 128
+  pub limits : within_limits 1 1 ∷ within_limits 64 128 ∷ within_limits 65 128 ∷ within_limits 64 129 ∷ within_limits 0 1 ∷ []
+      ≡ true ∷ true ∷ false ∷ false ∷ false ∷ []
+  -- a code is from -999 to 999
+  pub codes : map in_range (pos 999 ∷ negsuc 998 ∷ pos 1000 ∷ negsuc 999 ∷ []) ≡ true ∷ true ∷ false ∷ false ∷ []
+  -- each row begins 128 places behind the one before it
+  pub begins : map row_start (1 ∷ 2 ∷ 126 ∷ []) ≡ 0 ∷ 128 ∷ 16000 ∷ []
+  -- the last row of the taxa is asked, and no row behind it
+  pub last_row : ask_matrix row_2 (ones columns) 2 1 ≡ Err CodeRange
+  pub behind : ask_matrix row_2 (ones columns) 1 1 ≡ Ok tt
 
 -- they are as said
 pub size_examples : SizeExamples
 unfolding numbers every row in_range one_to within_limits all_in_range rows_in_range is_weight are_weights ask_matrix
-size_examples = record { counted = refl; full = refl; fewer = refl; more = refl }
+size_examples =
+    record {
+      counted = refl;
+      full = refl;
+      fewer = refl;
+      more = refl;
+      limits = refl;
+      codes = refl;
+      begins = refl;
+      last_row = refl;
+      behind = refl;
+    }
+
+-- the nodes of a matrix of three taxa
+pub record NodeExamples : Type 0 where
+  -- the last node is 2n-2, and node 1 for n = 1
+  pub last : map last_node (1 ∷ 2 ∷ 3 ∷ 64 ∷ []) ≡ 1 ∷ 2 ∷ 4 ∷ 126 ∷ []
+  -- an HTU exists, node 5 does not: 13, before the 10 of the HTU's row; an HTU that is not named is not read
+  pub htu : ask_nodes zeros (ones columns) 3 1 (1 ∷ 4 ∷ []) ≡ Ok tt
+  pub beyond : ask_nodes bad_htu (ones columns) 3 1 (4 ∷ 5 ∷ []) ≡ Err NotThere
+  pub htu_row : ask_nodes bad_htu (ones columns) 3 1 (1 ∷ 4 ∷ []) ≡ Err CodeRange
+  pub unread : ask_nodes bad_htu (ones columns) 3 1 (1 ∷ 3 ∷ []) ≡ Ok tt
+
+-- they are as said
+pub node_examples : NodeExamples
+unfolding numbers every row in_range last_node one_to within_limits all_in_range rows_in_range is_weight are_weights ask_matrix
+    nodes_exist htu_in_range htus_in_range ask_nodes
+node_examples = record { last = refl; htu = refl; beyond = refl; htu_row = refl; unread = refl }
 
 -- weights, and their questions among those on a matrix of two taxa and one character
 pub record WeightExamples : Type 0 where

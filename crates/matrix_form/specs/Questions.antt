@@ -2,9 +2,9 @@
 use Rattle.std.specs.Prelude.{List, Bool, true, ◌&&◌, ◌||◌, ◌≡◌, ℕ, ◌≤◌, leb, eqb, ℤ, length, take, Ok}
 use Rattle.lists.specs.Numbers.{numbers}
 use Rattle.lists.specs.Tests.{every}
-use Rattle.matrix.specs.Outcomes.{Asked, ask, and_then}
-use Rattle.matrix.specs.Shape.{most_taxa, most_characters, columns, matrix_size, row, in_range, is_weight, last_node}
-use Rattle.matrix.specs.declared.refusal.Refusal.TheVariants.{BeyondLimits, CodeRange, ListSize, NotThere, WeightForm}
+use Rattle.matrix_form.specs.Outcomes.{Asked, ask, and_then}
+use Rattle.matrix_form.specs.Shape.{most_taxa, most_characters, columns, matrix_size, row, in_range, is_weight, last_node}
+use Rattle.matrix_form.specs.declared.refusal.Refusal.TheVariants.{BeyondLimits, CodeRange, ListSize, NotThere, WeightForm}
 
 -- an item, counted from 1, is one of `last`
 unfoldable pub one_to : ℕ → ℕ → Bool

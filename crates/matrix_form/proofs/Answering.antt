@@ -1,8 +1,8 @@
 -- What a call that puts questions first hands back, from what its questions answer.
 use mathlib.Core.Path.{◌≡◌}
 use Rattle.std.specs.Prelude.{Result, Ok, Err, IsOkAnd}
-use Rattle.matrix.specs.Outcomes.{Asked, Answers}
-use Rattle.matrix.specs.declared.refusal.Refusal.{Refusal}
+use Rattle.matrix_form.specs.Outcomes.{Asked, Answers}
+use Rattle.matrix_form.specs.declared.refusal.Refusal.{Refusal}
 
 module _ {A : Type 0} (asked : Asked) (P : A → Type 0) where
   -- a value, where they pass, of which P holds
