@@ -1,5 +1,2 @@
--- Difference, median and interval difference of rows (document 01, "Differences, medians, intervals").
-pub mod Rows
-pub mod Answers
-pub mod Calls
+-- The nodes of a lent matrix as a struct, and the differences between them. What a difference is stands in `difference_form`.
 pub mod Nodes

@@ -1,16 +1,16 @@
 // The calls on a lent matrix of n taxa and m characters: difference, interval difference and medians of its nodes.
 ghost use Rattle.std.specs.Prelude.{◌≡◌};
-ghost use Rattle.matrix.specs.Outcomes.{result_says};
-ghost use Rattle.difference.specs.Calls.{difference_answer, interval_answer, MediansAnswer};
+ghost use Rattle.matrix_form.specs.Outcomes.{result_says};
+ghost use Rattle.difference_form.specs.Calls.{difference_answer, interval_answer, MediansAnswer};
 
 use crate::nodes::Nodes;
 use crate::rows::write_medians;
 use matrix::COLUMNS;
 use matrix::lent::Lent;
-use matrix::refusal::Refusal;
+use matrix_form::refusal::Refusal;
 
 // The difference of nodes a and b.
-#[tactic(auto, using(matrix::proofs::Passing::nodes_passed), unfolding(crate::specs::Calls::difference_answer, crate::specs::Rows::node_difference))]
+#[tactic(auto, using(matrix_form::proofs::Passing::nodes_passed), unfolding(difference_form::specs::Calls::difference_answer, difference_form::specs::Rows::node_difference))]
 pub fn difference(lent: &Lent, a: usize, b: usize) -> Result<u64, Refusal>
     ensures { result_says result ≡ difference_answer lent.now.matrix.now lent.now.weights.now lent.now.n lent.now.m a b }
 {
@@ -19,7 +19,7 @@ pub fn difference(lent: &Lent, a: usize, b: usize) -> Result<u64, Refusal>
 }
 
 // The interval difference of node b from the interval between nodes c and d.
-#[tactic(auto, using(matrix::proofs::Passing::nodes_passed), unfolding(crate::specs::Calls::interval_answer))]
+#[tactic(auto, using(matrix_form::proofs::Passing::nodes_passed), unfolding(difference_form::specs::Calls::interval_answer))]
 pub fn interval_difference(lent: &Lent, b: usize, c: usize, d: usize) -> Result<u64, Refusal>
     ensures { result_says result ≡ interval_answer lent.now.matrix.now lent.now.weights.now lent.now.n lent.now.m b c d }
 {
@@ -28,7 +28,7 @@ pub fn interval_difference(lent: &Lent, b: usize, c: usize, d: usize) -> Result<
 }
 
 // Writes the medians of nodes a, b and c over the first m codes of a lent row of 128.
-#[tactic(auto, using(matrix::proofs::Passing::nodes_passed), unfolding(crate::specs::Calls::ask_medians))]
+#[tactic(auto, using(matrix_form::proofs::Passing::nodes_passed), unfolding(difference_form::specs::Calls::ask_medians))]
 pub fn medians(lent: &Lent, a: usize, b: usize, c: usize, out: &mut [i32]) -> Result<(), Refusal>
     ensures { MediansAnswer lent.now.matrix.now lent.now.weights.now lent.now.n lent.now.m a b c out.old out.new result }
 {

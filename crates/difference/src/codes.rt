@@ -1,9 +1,9 @@
 // The absolute difference of two codes and the median of three, for every i32.
 ghost use Rattle.std.specs.Prelude.{◌≡◌, ◌≤◌, ◌^◌};
-ghost use Rattle.difference.specs.Rows.{apart, part, lower, higher, median};
+ghost use Rattle.difference_form.specs.Rows.{apart, part, lower, higher, median};
 
 // The absolute difference of two codes.
-#[tactic(auto, unfolding(crate::specs::Rows::apart))]
+#[tactic(auto, unfolding(difference_form::specs::Rows::apart))]
 pub fn apart(a: i32, b: i32) -> u64
     ensures { result ≡ apart a b }
 {
@@ -20,7 +20,7 @@ pub fn part(weight: u8, a: i32, b: i32) -> u64
 
 // Kept: no plainer, floors and ranges promise by the definition `lower`, which a call of std's min would have to be shown to be each time.
 // The lower of two codes.
-#[tactic(auto, using(crate::proofs::Laws::Codes::int_min_lower))]
+#[tactic(auto, using(difference_form::proofs::Laws::Codes::int_min_lower))]
 pub fn lower(a: i32, b: i32) -> i32
     ensures { result ≡ lower a b }
 {
@@ -29,7 +29,7 @@ pub fn lower(a: i32, b: i32) -> i32
 
 // Kept: no plainer, as `lower`.
 // The higher of two codes.
-#[tactic(auto, using(crate::proofs::Laws::Codes::int_max_higher))]
+#[tactic(auto, using(difference_form::proofs::Laws::Codes::int_max_higher))]
 pub fn higher(a: i32, b: i32) -> i32
     ensures { result ≡ higher a b }
 {
@@ -37,7 +37,7 @@ pub fn higher(a: i32, b: i32) -> i32
 }
 
 // The middle one of three codes.
-#[tactic(auto, unfolding(crate::specs::Rows::median))]
+#[tactic(auto, unfolding(difference_form::specs::Rows::median))]
 pub fn median(a: i32, b: i32, c: i32) -> i32
     ensures { result ≡ median a b c }
 {

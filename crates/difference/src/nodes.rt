@@ -1,7 +1,7 @@
 // The nodes of a lent matrix, as far as their rows and differences go.
 ghost use Rattle.std.specs.Prelude.{◌≡◌, ◌≤◌, ◌*◌, ◌^◌};
-ghost use Rattle.matrix.specs.Shape.{most_characters, row};
-ghost use Rattle.difference.specs.Rows.{difference, interval_difference, node_difference};
+ghost use Rattle.matrix_form.specs.Shape.{most_characters, row};
+ghost use Rattle.difference_form.specs.Rows.{difference, interval_difference, node_difference};
 
 use crate::rows;
 use matrix::lent::Lent;
@@ -15,7 +15,7 @@ pub struct Nodes<'a> {
 
 impl<'a> Nodes<'a> {
     // The difference of nodes a and b.
-    #[tactic(auto, using(matrix::proofs::Row::row_128), unfolding(crate::specs::Rows::node_difference))]
+    #[tactic(auto, using(matrix_form::proofs::Row::row_128), unfolding(difference_form::specs::Rows::node_difference))]
     pub fn difference(&self, a: usize, b: usize) -> u64
         ensures is { result ≡ node_difference (difference self.now.lent.weights.now) (row self.now.lent.matrix.now self.now.lent.m) a b }
         ensures most { result ≤ most_characters * 2 ^ 40 }
@@ -24,7 +24,7 @@ impl<'a> Nodes<'a> {
     }
 
     // The interval difference of node b from the interval between nodes c and d.
-    #[tactic(auto, using(matrix::proofs::Row::row_128))]
+    #[tactic(auto, using(matrix_form::proofs::Row::row_128))]
     pub fn interval_difference(&self, b: usize, c: usize, d: usize) -> u64
         ensures { result ≡ interval_difference self.now.lent.weights.now (row self.now.lent.matrix.now self.now.lent.m b)
             (row self.now.lent.matrix.now self.now.lent.m c) (row self.now.lent.matrix.now self.now.lent.m d) }

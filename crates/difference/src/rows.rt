@@ -1,9 +1,9 @@
 // Difference, medians and interval difference of rows of any length.
 ghost use Rattle.std.specs.Prelude.{◌≡◌, ◌≤◌, ◌*◌, ◌^◌, length, take};
-ghost use Rattle.matrix.specs.Shape.{most_characters};
-ghost use Rattle.difference.specs.Answers.{DifferenceOf};
+ghost use Rattle.matrix_form.specs.Shape.{most_characters};
+ghost use Rattle.difference.specs.Nodes.{DifferenceOf};
 ghost use Rattle.lists.specs.Over.{over};
-ghost use Rattle.difference.specs.Rows.{difference, unweighted, medians, interval_difference};
+ghost use Rattle.difference_form.specs.Rows.{difference, unweighted, medians, interval_difference};
 
 use crate::codes::{median, part};
 use matrix::{LIGHTEST, MOST_CHARACTERS};
@@ -49,7 +49,7 @@ pub fn difference(weights: &[u8], xs: &[i32], ys: &[i32]) -> u64
 
 // Kept: no plainer, as `weighed`.
 // The interval difference of b from the interval between c and d, over their first 128 characters.
-#[tactic(auto, unfolding(crate::specs::Rows::interval_by))]
+#[tactic(auto, unfolding(difference_form::specs::Rows::interval_by))]
 pub fn interval_difference(weights: &[u8], b: &[i32], c: &[i32], d: &[i32]) -> u64
     ensures { result ≡ interval_difference weights.now (take most_characters b.now)
         (take most_characters c.now) (take most_characters d.now) }

@@ -4,8 +4,8 @@ use Prim.Native.Nat.{◌*◌, ◌≤◌}
 use native.Mathlib.Omega.{arith}
 use lib.Signed.{nat_abs-le}
 use mir.Facts.{to_z-of_z}
-use Rattle.difference.specs.Rows.{part}
-use Rattle.difference.proofs.Laws.Weights.{part-most}
+use Rattle.difference_form.specs.Rows.{part}
+use Rattle.difference_form.proofs.Laws.Weights.{part-most}
 use Rattle.difference.proofs.codes.part.Goals as goal
 
 -- the product is the part of the character

@@ -8,10 +8,10 @@ use Rattle.std.proofs.lemmas.Iterator.Consumers.{YieldsList-at, sum_by_from_yiel
 use Rattle.std.proofs.lemmas.Iterator.Adapters.{fits_from_length, at_most_from_yields_List}
 use Rattle.std.proofs.lemmas.Slice.Zip.{length-zip}
 use Rattle.std.specs.List.{zip}
-use Rattle.difference.proofs.Pairs.{pairs_yielded, sum_bounded}
-use Rattle.difference.proofs.Laws.Sums.{light_part, parts-unweighted}
-use Rattle.difference.specs.Rows.{unweighted}
-use Rattle.difference.proofs.Laws.Splits.{bounded_by_length}
+use Rattle.difference_form.proofs.Pairs.{pairs_yielded, sum_bounded}
+use Rattle.difference_form.proofs.Laws.Sums.{light_part, parts-unweighted}
+use Rattle.difference_form.specs.Rows.{unweighted}
+use Rattle.difference_form.proofs.Laws.Splits.{bounded_by_length}
 use Rattle.difference.proofs.rows.alike.Goals as goal
 
 pub sum-requires-clause-fits : goal.sum-requires-clause-fits

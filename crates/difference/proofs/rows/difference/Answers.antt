@@ -4,8 +4,8 @@ use Prim.Native.Nat.{ℕ, ◌+◌, ◌-◌, ◌*◌, ◌≤◌}
 use native.Mathlib.Omega.{arith}
 use lib.ListN.{length, take, drop, length-take, length-drop}
 use Rattle.std.proofs.lemmas.List.{drop-take}
-use Rattle.difference.specs.Rows.{difference, unweighted}
-use Rattle.difference.proofs.Laws.Splits.{difference-parted}
+use Rattle.difference_form.specs.Rows.{difference, unweighted}
+use Rattle.difference_form.proofs.Laws.Splits.{difference-parted}
 use Rattle.difference.proofs.rows.difference.Goals as goal
 
 -- the two sums make the difference

@@ -8,10 +8,10 @@ use Rattle.std.proofs.lemmas.Iterator.Consumers.{YieldsList-at, sum_by_from_yiel
 use Rattle.std.proofs.lemmas.Iterator.Adapters.{fits_from_length, at_most_from_yields_List}
 use Rattle.std.proofs.lemmas.Slice.Zip.{length-zip}
 use Rattle.std.specs.List.{zip}
-use Rattle.difference.proofs.Pairs.{triples_yielded, sum_bounded}
-use Rattle.difference.proofs.Laws.Sums.{weighed_part, parts-difference}
-use Rattle.difference.specs.Rows.{difference}
-use Rattle.difference.proofs.Laws.Splits.{bounded_by_length}
+use Rattle.difference_form.proofs.Pairs.{triples_yielded, sum_bounded}
+use Rattle.difference_form.proofs.Laws.Sums.{weighed_part, parts-difference}
+use Rattle.difference_form.specs.Rows.{difference}
+use Rattle.difference_form.proofs.Laws.Splits.{bounded_by_length}
 use Rattle.difference.proofs.rows.weighed.Goals as goal
 
 pub sum-requires-clause-fits : goal.sum-requires-clause-fits

@@ -11,9 +11,9 @@ use mir.Syntax.{w32}
 use mir.Facts.{to_z-of_z}
 use Rattle.lists.specs.Over.{over}
 use Rattle.lists.proofs.Over.{over-snoc, over-part}
-use Rattle.difference.specs.Rows.{median, medians}
-use Rattle.difference.proofs.Laws.Rows.{medians_take_suc, length-medians}
-use Rattle.difference.proofs.Laws.Parts.{medians-take}
+use Rattle.difference_form.specs.Rows.{median, medians}
+use Rattle.difference_form.proofs.Laws.Rows.{medians_take_suc, length-medians}
+use Rattle.difference_form.proofs.Laws.Parts.{medians-take}
 use Rattle.difference.proofs.rows.write_medians.Goals as goal
 
 -- one character more

@@ -3,7 +3,7 @@
 use mathlib.Core.Path.{◌≡◌}
 use lib.ListN.{take}
 use Rattle.lists.specs.Over.{over}
-use Rattle.difference.specs.Rows.{medians}
+use Rattle.difference_form.specs.Rows.{medians}
 use Rattle.difference.proofs.rows.write_medians.Given as goal
 
 abbrev pub invariant-loop-j : goal.invariant-loop-j

@@ -11,11 +11,11 @@ use lib.Dec.{leb}
 use lib.IntN.{ℤ, nat_abs}
 use lib.ListN.{length, drop}
 use Rattle.lists.specs.Tests.{every}
-use Rattle.matrix.specs.Shape.{in_range, is_weight, weight_at, weight_of, heaviest}
-use Rattle.matrix.specs.Questions.{are_weights}
-use Rattle.difference.specs.Rows.{apart, part, median, difference, unweighted}
-use Rattle.difference.proofs.Laws.Codes.{apart-sym, apart_self, apart-zero, apart_triangle, apart-most, apart-in_range}
-use Rattle.difference.proofs.Laws.Codes.{median-between}
+use Rattle.matrix_form.specs.Shape.{in_range, is_weight, weight_at, weight_of, heaviest}
+use Rattle.matrix_form.specs.Questions.{are_weights}
+use Rattle.difference_form.specs.Rows.{apart, part, median, difference, unweighted}
+use Rattle.difference_form.proofs.Laws.Codes.{apart-sym, apart_self, apart-zero, apart_triangle, apart-most, apart-in_range}
+use Rattle.difference_form.proofs.Laws.Codes.{median-between}
 
 -- ---- the part of one character
 

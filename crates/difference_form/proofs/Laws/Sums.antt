@@ -7,9 +7,9 @@ use lib.IntN.{ℤ}
 use lib.ListN.{length}
 use Rattle.std.specs.List.{sum_by, zip}
 use Rattle.std.proofs.lemmas.List.Sums.{sum_by-cons}
-use Rattle.matrix.specs.Shape.{weight_at}
-use Rattle.difference.specs.Rows.{part, difference, unweighted}
-use Rattle.difference.proofs.Laws.Weights.{part-alone}
+use Rattle.matrix_form.specs.Shape.{weight_at}
+use Rattle.difference_form.specs.Rows.{part, difference, unweighted}
+use Rattle.difference_form.proofs.Laws.Weights.{part-alone}
 
 -- the part of a pair of codes with its weight
 abbrev pub weighed_part : (ℤ × ℤ) × ℕ → ℕ

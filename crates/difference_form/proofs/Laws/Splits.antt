@@ -9,9 +9,9 @@ use lib.IntN.{ℤ}
 use lib.ListN.{length, take, drop, length-take, length-drop}
 use lib.Seq.{drop-drop, get_or-drop}
 use Rattle.std.proofs.lemmas.List.{get_or_past, get_or-take, take-take}
-use Rattle.matrix.specs.Shape.{weight_at}
-use Rattle.difference.specs.Rows.{part, difference, unweighted}
-use Rattle.difference.proofs.Laws.Weights.{difference-weights, difference-alike}
+use Rattle.matrix_form.specs.Shape.{weight_at}
+use Rattle.difference_form.specs.Rows.{part, difference, unweighted}
+use Rattle.difference_form.proofs.Laws.Weights.{difference-weights, difference-alike}
 
 -- a row differs by nothing from one without characters
 pub difference-nil : (weights : List ℕ) (xs : List ℤ) → difference weights xs [] ≡ 0

@@ -2,7 +2,7 @@
 -- (document 02, M-101). A row is a list of whole-number codes, one for each character.
 use Rattle.std.specs.Prelude.{List, [], ◌∷◌, cond, ℕ, ◌+◌, ◌-◌, ◌*◌, ◌/◌, ℤ, ◌-ℤ◌, nat_abs, drop}
 use Rattle.std.specs.Int.Signed.{le_z}
-use Rattle.matrix.specs.Shape.{weight_at, weight_of}
+use Rattle.matrix_form.specs.Shape.{weight_at, weight_of}
 
 -- the absolute difference of two codes
 unfoldable pub apart : ℤ → ℤ → ℕ

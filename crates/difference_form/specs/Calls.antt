@@ -1,11 +1,11 @@
 -- What the calls on a lent matrix answer: the questions of document 01 in their order, then the definition.
 use Rattle.std.specs.Prelude.{◌≡◌, List, [], ◌∷◌, ℕ, eqb, ℤ, length}
 use Rattle.lists.specs.Over.{over}
-use Rattle.matrix.specs.Shape.{columns, row}
-use Rattle.matrix.specs.Outcomes.{Asked, Outcome, answered, asked_says, ask, afterwards}
-use Rattle.matrix.specs.Questions.{ask_nodes}
-use Rattle.matrix.specs.declared.refusal.Refusal.TheVariants.{ListSize}
-use Rattle.difference.specs.Rows.{difference, medians, interval_difference}
+use Rattle.matrix_form.specs.Shape.{columns, row}
+use Rattle.matrix_form.specs.Outcomes.{Asked, Outcome, answered, asked_says, ask, afterwards}
+use Rattle.matrix_form.specs.Questions.{ask_nodes}
+use Rattle.matrix_form.specs.declared.refusal.Refusal.TheVariants.{ListSize}
+use Rattle.difference_form.specs.Rows.{difference, medians, interval_difference}
 
 -- the difference of nodes a and b
 unfoldable pub difference_answer : List ℤ → List ℕ → ℕ → ℕ → ℕ → ℕ → Outcome ℕ

@@ -7,7 +7,7 @@ use borrow.Author.Tests.{ltb-true, leb-false}
 use lib.Dec.{T, le→leb}
 use lib.IntN.{ℤ, pos, negsuc}
 use lib.Signed.{le_z, lt_z, ◌≤ℤ◌, le_z_yes, lt_z_no}
-use Rattle.difference.specs.Rows.{lower, higher, median}
+use Rattle.difference_form.specs.Rows.{lower, higher, median}
 
 -- ---- tests
 

@@ -2,8 +2,8 @@
 use mathlib.Core.Path.{◌≡◌, refl}
 use lib.IntN.{pos, negsuc}
 use lib.ListN.{replicate}
-use Rattle.matrix.specs.Shape.{columns, heaviest, weight_at}
-use Rattle.difference.specs.Rows.{apart, part, difference, most_difference, unweighted, most_unweighted}
+use Rattle.matrix_form.specs.Shape.{columns, heaviest, weight_at}
+use Rattle.difference_form.specs.Rows.{apart, part, difference, most_difference, unweighted, most_unweighted}
 
 -- 128 times 9 times 1998
 pub largest : difference (replicate columns heaviest) (replicate columns (negsuc 998)) (replicate columns (pos 999)) ≡ most_difference

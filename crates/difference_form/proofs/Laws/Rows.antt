@@ -6,14 +6,14 @@ use Prim.Native.Nat.{ℕ, zero, suc, ◌+◌, ◌*◌, ◌≤◌, ◌<◌, min}
 use native.Mathlib.Omega.{arith}
 use lib.IntN.{ℤ, pos}
 use lib.ListN.{length, get_or, take, drop}
-use Rattle.matrix.specs.Shape.{in_range, weight_at}
+use Rattle.matrix_form.specs.Shape.{in_range, weight_at}
 use Rattle.lists.specs.Tests.{every}
-use Rattle.matrix.specs.Questions.{all_in_range, are_weights}
-use Rattle.difference.specs.Rows.{part, median, difference, most_difference, unweighted, most_unweighted}
-use Rattle.difference.specs.Rows.{medians, interval_difference, interval_by}
-use Rattle.difference.proofs.Laws.Codes.{apart-in_range, median_swap, median_rotate, median-in_range}
-use Rattle.difference.proofs.Laws.Weights.{part-sym, part_self, part-zero, part_triangle, part-between, part-in_range}
-use Rattle.difference.proofs.Laws.Weights.{weight_within, weight_at-drop, are_weights-first}
+use Rattle.matrix_form.specs.Questions.{all_in_range, are_weights}
+use Rattle.difference_form.specs.Rows.{part, median, difference, most_difference, unweighted, most_unweighted}
+use Rattle.difference_form.specs.Rows.{medians, interval_difference, interval_by}
+use Rattle.difference_form.proofs.Laws.Codes.{apart-in_range, median_swap, median_rotate, median-in_range}
+use Rattle.difference_form.proofs.Laws.Weights.{part-sym, part_self, part-zero, part_triangle, part-between, part-in_range}
+use Rattle.difference_form.proofs.Laws.Weights.{weight_within, weight_at-drop, are_weights-first}
 
 -- ---- the difference of two rows
 

@@ -7,13 +7,13 @@ use lib.IntN.{ℤ, pos, negsuc}
 use lib.ListN.{replicate, set}
 use Rattle.lists.specs.Numbers.{numbers}
 use Rattle.lists.specs.Tests.{every}
-use Rattle.matrix.specs.Shape.{matrix_size, columns, row, in_range, is_weight, weight_at, weight_of, last_node}
-use Rattle.matrix.specs.declared.refusal.Refusal.TheVariants.{BeyondLimits, CodeRange, ListSize, NotThere, WeightForm}
-use Rattle.matrix.specs.Outcomes.{Outcome, value, refused, result_says, asked_says}
-use Rattle.matrix.specs.Questions.{one_to, within_limits, all_in_range, rows_in_range, are_weights, ask_matrix, nodes_exist, htu_in_range, htus_in_range}
-use Rattle.matrix.specs.Questions.{ask_nodes}
-use Rattle.difference.specs.Rows.{apart, part, lower, higher, median, medians, difference, interval_by, weighing}
-use Rattle.difference.specs.Calls.{difference_answer, interval_answer, ask_medians}
+use Rattle.matrix_form.specs.Shape.{matrix_size, columns, row, in_range, is_weight, weight_at, weight_of, last_node}
+use Rattle.matrix_form.specs.declared.refusal.Refusal.TheVariants.{BeyondLimits, CodeRange, ListSize, NotThere, WeightForm}
+use Rattle.matrix_form.specs.Outcomes.{Outcome, value, refused, result_says, asked_says}
+use Rattle.matrix_form.specs.Questions.{one_to, within_limits, all_in_range, rows_in_range, are_weights, ask_matrix, nodes_exist, htu_in_range, htus_in_range}
+use Rattle.matrix_form.specs.Questions.{ask_nodes}
+use Rattle.difference_form.specs.Rows.{apart, part, lower, higher, median, medians, difference, interval_by, weighing}
+use Rattle.difference_form.specs.Calls.{difference_answer, interval_answer, ask_medians}
 
 -- what a length handed back says: the length; or the number of the refusal, with line 0
 length-says : result_says {A = ℕ} (Ok 7)

@@ -8,13 +8,13 @@ use Prim.Native.Nat.{ℕ, ◌≤◌}
 use native.Mathlib.Omega.{arith}
 use lib.IntN.{ℤ}
 use lib.ListN.{length}
-use Rattle.matrix.specs.Shape.{row}
-use Rattle.matrix.specs.Outcomes.{value}
-use Rattle.matrix.specs.Questions.{ask_nodes}
-use Rattle.matrix.proofs.Passing.{nodes_passed, node_passed}
-use Rattle.difference.specs.Rows.{difference, most_difference, medians}
-use Rattle.difference.specs.Calls.{difference_answer, interval_answer}
-use Rattle.difference.proofs.Laws.Rows.{difference_limit, interval-median}
+use Rattle.matrix_form.specs.Shape.{row}
+use Rattle.matrix_form.specs.Outcomes.{value}
+use Rattle.matrix_form.specs.Questions.{ask_nodes}
+use Rattle.matrix_form.proofs.Passing.{nodes_passed, node_passed}
+use Rattle.difference_form.specs.Rows.{difference, most_difference, medians}
+use Rattle.difference_form.specs.Calls.{difference_answer, interval_answer}
+use Rattle.difference_form.proofs.Laws.Rows.{difference_limit, interval-median}
 
 -- a difference that is handed back is at most 2,301,696
 pub call_most : (codes : List ℤ) (weights : List ℕ) (n m a b : ℕ) → ask_nodes codes weights n m (a ∷ b ∷ []) ≡ Ok tt

@@ -11,11 +11,11 @@ use lib.Dec.{T, leb→le}
 use lib.IntN.{ℤ, pos, negsuc, nat_abs, sub_ℕ, ◌-ℤ◌, +ℤ_idr}
 use lib.Signed.{◌≤ℤ◌, ≤ℤ_refl, le_z, lt_z, non_neg, pos-nat_abs}
 use Rattle.std.specs.Int.{int_min, int_max}
-use Rattle.matrix.specs.Shape.{in_range}
-use Rattle.difference.specs.Rows.{apart, lower, higher, median}
-use Rattle.difference.proofs.Laws.Order.{le_z-true, le_z-false, lt_z-true, lt_z-false, ≤ℤ-total, cond-keeps, median-keeps}
-use Rattle.difference.proofs.Laws.Places.{place, sub_cases, everywhere, place_le, le_place, apart-place, lower-place, higher-place}
-use Rattle.difference.proofs.Laws.Places.{median-place}
+use Rattle.matrix_form.specs.Shape.{in_range}
+use Rattle.difference_form.specs.Rows.{apart, lower, higher, median}
+use Rattle.difference_form.proofs.Laws.Order.{le_z-true, le_z-false, lt_z-true, lt_z-false, ≤ℤ-total, cond-keeps, median-keeps}
+use Rattle.difference_form.proofs.Laws.Places.{place, sub_cases, everywhere, place_le, le_place, apart-place, lower-place, higher-place}
+use Rattle.difference_form.proofs.Laws.Places.{median-place}
 
 -- ---- the order of codes, and the lower and the higher of two
 

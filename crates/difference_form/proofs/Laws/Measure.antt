@@ -10,9 +10,9 @@ use Rattle.lists.specs.Numbers.{numbers}
 use Rattle.lists.specs.Sums.{sum_over}
 use Rattle.lists.proofs.Numbers.{numbers-within}
 use Rattle.lists.proofs.Sums.{sum_same}
-use Rattle.matrix.specs.Shape.{weight_at, weight_of}
-use Rattle.difference.specs.Rows.{part, difference, weighing, plain}
-use Rattle.difference.proofs.Laws.Weights.{weight_at-drop, part-alone, difference-weights, difference-alike}
+use Rattle.matrix_form.specs.Shape.{weight_at, weight_of}
+use Rattle.difference_form.specs.Rows.{part, difference, weighing, plain}
+use Rattle.difference_form.proofs.Laws.Weights.{weight_at-drop, part-alone, difference-weights, difference-alike}
 
 -- the part of the character at a place
 part_at : List ℕ → List ℤ → List ℤ → ℕ → ℕ

@@ -4,7 +4,7 @@ use mathlib.Core.List.{List, [], ◌∷◌}
 use Prim.Native.Nat.{ℕ, zero, suc}
 use lib.IntN.{ℤ}
 use lib.ListN.{take}
-use Rattle.difference.specs.Rows.{median, medians}
+use Rattle.difference_form.specs.Rows.{median, medians}
 
 -- the front of the medians is the medians of the fronts
 pub medians-take : (k : ℕ) (xs ys zs : List ℤ) → medians (take k xs) (take k ys) (take k zs) ≡ take k (medians xs ys zs)

@@ -9,8 +9,8 @@ use lib.Dec.{ltb, leb→le, le→leb}
 use lib.IntN.{ℤ, pos, negsuc, sub_ℕ, nat_abs}
 use lib.ListN.{get_or}
 use lib.Signed.{le_z, ◌≤ℤ◌, le_z_yes}
-use Rattle.difference.specs.Rows.{apart, lower, higher, median}
-use Rattle.difference.proofs.Laws.Order.{le_z-true, le_z-false, cond-keeps}
+use Rattle.difference_form.specs.Rows.{apart, lower, higher, median}
+use Rattle.difference_form.proofs.Laws.Order.{le_z-true, le_z-false, cond-keeps}
 
 -- the code that stands n places above -K
 unfoldable pub place : ℕ → ℕ → ℤ
