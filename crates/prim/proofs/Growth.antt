@@ -9,13 +9,13 @@ use Rattle.std.specs.Prelude.{Option, Some, None, option_and_then, option_to_lis
 use Rattle.lists.specs.Sums.{sum_over}
 use Rattle.lists.specs.Least.{least_item}
 use Rattle.lists.proofs.Keep.{mem-length}
-use Rattle.difference.specs.Rows.{most_difference}
-use Rattle.prim.specs.Network.{Link, taxa, network_length, unplaced, next, grow, network}
+use Rattle.difference_form.specs.Rows.{most_difference}
+use Rattle.prim_form.specs.Network.{Link, taxa, network_length, unplaced, next, grow, network}
 use Rattle.prim.specs.Answers.{Holds}
 use Rattle.prim.specs.Growing.{WithLink, Keeps, moved_link, link_length}
 use Rattle.prim.specs.declared.answer.Network.{Network}
-use Rattle.prim.proofs.Unplaced.{mem-unplaced, length-unplaced, length_unplaced_next}
-use Rattle.prim.proofs.Placing.{Placing, Step, done, placing, placing-step, grow-done, grow-next}
+use Rattle.prim_form.proofs.Unplaced.{mem-unplaced, length-unplaced, length_unplaced_next}
+use Rattle.prim_form.proofs.Placing.{Placing, Step, done, placing, placing-step, grow-done, grow-next}
 use Rattle.prim.proofs.Waiting.{kept_links, next-kept, place-keeps}
 use Rattle.prim.proofs.Holding.{network_length-snoc, taxa-snoc, length-snoc}
 

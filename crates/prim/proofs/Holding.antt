@@ -7,7 +7,7 @@ use lib.ListN.{length, get_or, take, length-append}
 use Rattle.filled.specs.Filling.{Pushed}
 use Rattle.lists.proofs.Sums.{sum_snoc}
 use Rattle.lists.proofs.Filled.{filled-first, filled_at, filled-snoc}
-use Rattle.prim.specs.Network.{Link, taxa, network_length}
+use Rattle.prim_form.specs.Network.{Link, taxa, network_length}
 use Rattle.prim.specs.Answers.{no_link, Holds, most_links}
 use Rattle.prim.specs.Growing.{WithLink}
 use Rattle.prim.specs.declared.answer.Network.{Network}

@@ -7,20 +7,20 @@ use Prim.Native.Nat.{ℕ, ◌≤◌, ◌<◌}
 use native.Mathlib.Omega.{arith}
 use lib.IntN.{ℤ}
 use lib.ListN.{length}
-use Rattle.difference.specs.Rows.{node_difference, difference, unweighted, most_difference}
-use Rattle.matrix.specs.Shape.{row, weight_at}
-use Rattle.matrix.specs.Questions.{LentMatrix, LentWeights, ask_matrix}
-use Rattle.matrix.specs.declared.refusal.Refusal.{Refusal}
-use Rattle.matrix.proofs.Answering.{answers-passed}
-use Rattle.matrix.proofs.Row.{row-most, row-length}
-use Rattle.difference.proofs.Laws.Rows.{difference-sym, difference_limit}
-use Rattle.difference.proofs.Laws.Weights.{difference-weights, difference-alike}
-use Rattle.prim.specs.Network.{network}
-use Rattle.prim.specs.Rival.{IsTaxon, Connected, Shortest, links_length}
+use Rattle.difference_form.specs.Rows.{node_difference, difference, unweighted, most_difference}
+use Rattle.matrix_form.specs.Shape.{row, weight_at}
+use Rattle.matrix_form.specs.Questions.{LentMatrix, LentWeights, ask_matrix}
+use Rattle.matrix_form.specs.declared.refusal.Refusal.{Refusal}
+use Rattle.matrix_form.proofs.Answering.{answers-passed}
+use Rattle.matrix_form.proofs.Row.{row-most, row-length}
+use Rattle.difference_form.proofs.Laws.Rows.{difference-sym, difference_limit}
+use Rattle.difference_form.proofs.Laws.Weights.{difference-weights, difference-alike}
+use Rattle.prim_form.specs.Network.{network}
+use Rattle.prim_form.specs.Rival.{IsTaxon, Connected, Shortest, links_length}
 use Rattle.prim.specs.Answers.{Holds, NetworkAnswer}
 use Rattle.prim.specs.declared.answer.Network.{Network}
-use Rattle.prim.proofs.Shortest.{shortest}
-use Rattle.prim.proofs.Agreement.{network_agrees}
+use Rattle.prim_form.proofs.Shortest.{shortest}
+use Rattle.prim_form.proofs.Agreement.{network_agrees}
 
 -- two taxa of a lent matrix differ by at most 2,301,696
 pub taxa-most : (codes : List ℤ) (weights : List ℕ) (n m x y : ℕ) → LentMatrix codes n m → LentWeights weights m → IsTaxon n x

@@ -1,14 +1,5 @@
--- Laws of the Prim Network, and that no connected network is shorter.
-pub mod Examples
-pub mod Unplaced
-pub mod Placing
-pub mod Agreement
-pub mod Connected
-pub mod Links
-pub mod Shortest
+-- Laws of what is kept while the Prim Network grows.
 pub mod Lent
-pub mod InPlace
 pub mod Waiting
 pub mod Holding
 pub mod Growth
-pub mod Rings

@@ -15,9 +15,9 @@ use Rattle.lists.specs.Tests.{among}
 use Rattle.lists.proofs.Keep.{keep_twice}
 use Rattle.lists.proofs.Least.{first_least-map, first_least_snoc_less, first_least_snoc_stays}
 use Rattle.lists.proofs.Numbers.{numbers-append}
-use Rattle.prim.specs.Network.{Link, unplaced, nearest_placed, distance, link, next}
+use Rattle.prim_form.specs.Network.{Link, unplaced, nearest_placed, distance, link, next}
 use Rattle.prim.specs.Growing.{first_link, moved_link, link_length, Keeps}
-use Rattle.prim.proofs.Unplaced.{without-nothing}
+use Rattle.prim_form.proofs.Unplaced.{without-nothing}
 
 -- the links that are kept
 abbrev pub kept_links : List (Option Link) → List Link

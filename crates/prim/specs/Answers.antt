@@ -1,12 +1,12 @@
 -- What the call for the Prim Network of a lent matrix answers.
 use Rattle.std.specs.Prelude.{◌≡◌, List, ℕ, ℤ, length, Result}
-use Rattle.matrix.specs.Shape.{row}
-use Rattle.difference.specs.Rows.{node_difference, difference}
+use Rattle.matrix_form.specs.Shape.{row}
+use Rattle.difference_form.specs.Rows.{node_difference, difference}
 use Rattle.lists.specs.Filled.{filled}
-use Rattle.matrix.specs.Outcomes.{Answers}
-use Rattle.matrix.specs.Questions.{ask_matrix}
-use Rattle.matrix.specs.declared.refusal.Refusal.{Refusal}
-use Rattle.prim.specs.Network.{Link, network_length, network}
+use Rattle.matrix_form.specs.Outcomes.{Answers}
+use Rattle.matrix_form.specs.Questions.{ask_matrix}
+use Rattle.matrix_form.specs.declared.refusal.Refusal.{Refusal}
+use Rattle.prim_form.specs.Network.{Link, network_length, network}
 use Rattle.prim.specs.declared.answer.Network.{Network}
 
 -- a link of zeros

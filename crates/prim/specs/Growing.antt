@@ -3,7 +3,7 @@
 -- `later` is the list of the taxa placed after row 1.
 use Rattle.std.specs.Prelude.{◌≡◌, List, ◌++◌, [], ◌∷◌, Option, Some, None, cond, ℕ, eqb, ltb, map, filter_map}
 use Rattle.prim.specs.Answers.{Holds}
-use Rattle.prim.specs.Network.{Link, unplaced, link}
+use Rattle.prim_form.specs.Network.{Link, unplaced, link}
 use Rattle.prim.specs.declared.answer.Network.{Network}
 
 -- the length of a link

@@ -1,5 +1,4 @@
--- The Prim Network, what it is compared with: any connected list of links between taxa (document 01), and what the functions promise.
-pub mod Network
-pub mod Rival
+-- What the call for the Prim Network answers, by the struct that it hands back, and what the private functions promise. What the network is
+-- stands in `prim_form`.
 pub mod Answers
 pub mod Growing

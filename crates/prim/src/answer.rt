@@ -1,15 +1,7 @@
 // What the call for the Prim Network hands back.
 use filled::Filled;
 use matrix::MOST_TAXA;
-
-// Kept: no plainer, a branch record has these types for other things.
-// A link: the taxon that it places, the placed taxon that this one joins, and their difference.
-#[derive(Clone, Copy, Default, PartialEq, Eq)]
-pub struct Link {
-    pub taxon: usize,
-    pub joined: usize,
-    pub length: u64,
-}
+use prim_form::answer::Link;
 
 // A network places at most 63 taxa behind row 1.
 // Kept: no plainer, `wagner` has this number for its placements: they are equal since each taxon behind row 1 has one of each, and each is said where its list is.

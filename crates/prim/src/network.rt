@@ -4,16 +4,17 @@ ghost use Rattle.std.specs.Prelude.{◌≡◌, [], ◌+◌, ◌<◌, ◌^◌, ma
 ghost use Rattle.difference.specs.Nodes.{between};
 ghost use Rattle.lists.specs.Numbers.{numbers};
 ghost use Rattle.lists.specs.Least.{least_item};
-ghost use Rattle.matrix.specs.Questions.{LentMatrix, LentWeights};
-ghost use Rattle.prim.specs.Network.{network};
+ghost use Rattle.matrix_form.specs.Questions.{LentMatrix, LentWeights};
+ghost use Rattle.prim_form.specs.Network.{network};
 ghost use Rattle.prim.specs.Answers.{Holds, NetworkAnswer};
 ghost use Rattle.prim.specs.Growing.{WithLink, first_link, moved_link, link_length};
 
-use crate::answer::{Link, MOST_LINKS, Network};
+use crate::answer::{MOST_LINKS, Network};
 use difference::nodes::Nodes;
 use filled::Filled;
 use matrix::lent::Lent;
-use matrix::refusal::Refusal;
+use matrix_form::refusal::Refusal;
+use prim_form::answer::Link;
 use std::array;
 
 // The link of taxon v before any is placed behind row 1: to row 1, if v is one of the taxa.
@@ -80,7 +81,7 @@ impl Default for Network {
     ghost is_default = { Holds [] };
 
     // A network without links.
-    #[tactic(auto, unfolding(crate::specs::Network::network_length, lists::specs::Sums::sum_over, lists::specs::Filled::filled))]
+    #[tactic(auto, unfolding(prim_form::specs::Network::network_length, lists::specs::Sums::sum_over, lists::specs::Filled::filled))]
     fn default() -> Network {
         Network {
             links: Filled::none(Link::default()),
@@ -119,7 +120,7 @@ fn grow(nodes: &Nodes) -> Network
 }
 
 // The Prim Network of a lent matrix, by the weights of its characters.
-#[tactic(auto, using(matrix::proofs::Passing::matrix_passed, matrix::proofs::Passing::weights_passed))]
+#[tactic(auto, using(matrix_form::proofs::Passing::matrix_passed, matrix_form::proofs::Passing::weights_passed))]
 pub fn network(lent: &Lent) -> Result<Network, Refusal>
     ensures { NetworkAnswer lent.now.matrix.now lent.now.weights.now lent.now.n lent.now.m result }
 {

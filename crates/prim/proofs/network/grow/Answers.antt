@@ -4,9 +4,9 @@ use mathlib.Core.List.{List}
 use Prim.Native.Nat.{ℕ, ◌≤◌}
 use native.Mathlib.Omega.{arith}
 use lib.IntN.{ℤ}
-use Rattle.matrix.specs.Shape.{row}
-use Rattle.difference.specs.Rows.{node_difference, difference, most_difference}
-use Rattle.matrix.specs.Questions.{LentMatrix, LentWeights}
+use Rattle.matrix_form.specs.Shape.{row}
+use Rattle.difference_form.specs.Rows.{node_difference, difference, most_difference}
+use Rattle.matrix_form.specs.Questions.{LentMatrix, LentWeights}
 use Rattle.prim.proofs.Growth.{grown-start, grown_end, grown_room, grown-next}
 use Rattle.prim.proofs.Waiting.{start-keeps}
 use Rattle.prim.proofs.Lent.{taxa-most}

@@ -6,9 +6,9 @@ use native.Mathlib.Omega.{arith}
 use lib.ListN.{length, set, get_or}
 use Rattle.std.specs.Prelude.{Option, None, option_and_then}
 use Rattle.difference.specs.Nodes.{between}
-use Rattle.prim.specs.Network.{Link}
+use Rattle.prim_form.specs.Network.{Link}
 use Rattle.prim.specs.Growing.{moved_link}
-use Rattle.prim.proofs.InPlace.{changed_more, changed_all}
+use Rattle.prim_form.proofs.InPlace.{changed_more, changed_all}
 use Rattle.prim.proofs.network.place.Goals as goal
 
 pub loop-kept-preserved : goal.loop-kept-preserved

@@ -2,7 +2,7 @@
 use mathlib.Core.Path.{◌≡◌}
 use Rattle.std.specs.Prelude.{option_and_then}
 use Rattle.difference.specs.Nodes.{between}
-use Rattle.prim.proofs.InPlace.{changed}
+use Rattle.prim_form.proofs.InPlace.{changed}
 use Rattle.prim.specs.Growing.{moved_link}
 use Rattle.prim.proofs.network.place.Given as goal
 

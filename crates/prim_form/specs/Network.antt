@@ -5,7 +5,7 @@ use Rattle.lists.specs.Sums.{sum_over}
 use Rattle.lists.specs.Least.{first_least}
 use Rattle.lists.specs.Numbers.{numbers}
 use Rattle.lists.specs.Filters.{without}
-use Rattle.prim.specs.declared.answer.Link.{Link as HandedBack}
+use Rattle.prim_form.specs.declared.answer.Link.{Link as HandedBack}
 
 -- a link, as it is handed back: the taxon that it places, the placed taxon that this one joins, and their difference
 abbrev pub Link : Type 0

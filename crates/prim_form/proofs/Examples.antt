@@ -4,17 +4,17 @@ use mathlib.Core.List.{List, [], ◌∷◌, ◌++◌}
 use Prim.Native.Nat.{ℕ, ◌-◌}
 use lib.IntN.{ℤ, pos, negsuc}
 use lib.ListN.{length, replicate}
-use Rattle.matrix.specs.Shape.{row, columns}
-use Rattle.difference.specs.Rows.{node_difference, difference}
-use Rattle.difference.specs.Rows
+use Rattle.matrix_form.specs.Shape.{row, columns}
+use Rattle.difference_form.specs.Rows.{node_difference, difference}
+use Rattle.difference_form.specs.Rows
 use Rattle.lists.specs.Filters
 use Rattle.lists.specs.Least
 use Rattle.lists.specs.Numbers
 use Rattle.lists.specs.Tests
 use Rattle.lists.specs.Sums
-use Rattle.matrix.specs.Shape
-use Rattle.prim.specs.Network.{Link, network, network_length}
-use Rattle.prim.specs.Network
+use Rattle.matrix_form.specs.Shape
+use Rattle.prim_form.specs.Network.{Link, network, network_length}
+use Rattle.prim_form.specs.Network
 
 -- a lent matrix's codes, from its rows
 abbrev lent : List (List ℤ) → List ℤ

@@ -9,9 +9,9 @@ use native.Mathlib.Decide.{ℕ_discrete}
 use Rattle.lists.specs.Tests.{every}
 use Rattle.lists.proofs.Both.{and_left, and_right}
 use Rattle.lists.proofs.Every.{every_iff}
-use Rattle.matrix.specs.Questions.{one_to}
-use Rattle.matrix.proofs.Passing.{one_to-true}
-use Rattle.prim.specs.Rival.{Joins, Reached, start, step, IsTaxon, Connected}
+use Rattle.matrix_form.specs.Questions.{one_to}
+use Rattle.matrix_form.proofs.Passing.{one_to-true}
+use Rattle.prim_form.specs.Rival.{Joins, Reached, start, step, IsTaxon, Connected}
 
 -- a link is gone along its direction
 forwards : Joins {A = ℕ} ((2, 3) ∷ []) 2 3

@@ -6,10 +6,10 @@ use Prim.Native.Nat.{ℕ, zero, suc, ◌-◌}
 use native.Mathlib.Omega.{arith}
 use Rattle.lists.specs.Least.{first_least}
 use Rattle.lists.proofs.Least.{first_least-mem, first_least_congr}
-use Rattle.prim.specs.Network.{Link, unplaced, nearest_placed, distance, link, next, grow, network}
-use Rattle.prim.specs.Rival.{IsTaxon}
-use Rattle.prim.proofs.Unplaced.{not-unplaced, placed-taxon, added-taxon}
-use Rattle.prim.proofs.Placing.{Step, done, placing, placing-step, grow-done, grow-next}
+use Rattle.prim_form.specs.Network.{Link, unplaced, nearest_placed, distance, link, next, grow, network}
+use Rattle.prim_form.specs.Rival.{IsTaxon}
+use Rattle.prim_form.proofs.Unplaced.{not-unplaced, placed-taxon, added-taxon}
+use Rattle.prim_form.proofs.Placing.{Step, done, placing, placing-step, grow-done, grow-next}
 
 module _ (d d' : ℕ → ℕ → ℕ) (n : ℕ) (agree : (x y : ℕ) → IsTaxon n x → IsTaxon n y → d x y ≡ d' x y) where
   module _ (later : List ℕ) (all : (x : ℕ) → Memᴰ x later → IsTaxon n x) where

@@ -7,7 +7,7 @@ use mathlib.Core.Logic.{◌⊎◌, inl, inr, ⊎_map}
 use Prim.Native.Nat.{ℕ, ◌+◌}
 use native.Mathlib.Omega.{arith}
 use Rattle.lists.specs.Sums.{sum_over}
-use Rattle.prim.specs.Rival.{Joins, Reached, start, step, links_length}
+use Rattle.prim_form.specs.Rival.{Joins, Reached, start, step, links_length}
 
 module _ {A : Type 0} where
   -- a list without the element at one place

@@ -11,8 +11,8 @@ use lib.ListN.{length}
 use lib.Seq.{append_snoc}
 use Rattle.lists.specs.Least.{first_least}
 use Rattle.lists.proofs.Least.{first_least-mem, first_least-least}
-use Rattle.prim.specs.Network.{Link, taxa, unplaced, nearest_placed, distance, link, next, grow, network}
-use Rattle.prim.proofs.Unplaced.{decide_mem, mem-unplaced, length-unplaced, length_unplaced_next}
+use Rattle.prim_form.specs.Network.{Link, taxa, unplaced, nearest_placed, distance, link, next, grow, network}
+use Rattle.prim_form.proofs.Unplaced.{decide_mem, mem-unplaced, length-unplaced, length_unplaced_next}
 
 -- what is true of a link when it is made: it is the next one, places an unplaced taxon, joins it to a placed one, has their
 -- difference as length, and no unplaced taxon is nearer to a placed one

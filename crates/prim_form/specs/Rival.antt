@@ -3,7 +3,7 @@
 use Rattle.std.specs.Prelude.{◌≡◌, ◌⊎◌, ℕ, ◌≤◌}
 use mathlib.Core.List.{List, Memᴰ, map}
 use Rattle.lists.specs.Sums.{sum_over}
-use Rattle.prim.specs.Network.{Link, network, network_length}
+use Rattle.prim_form.specs.Network.{Link, network, network_length}
 
 -- links between nodes of any kind A: each is the pair of its ends
 module _ {A : Type 0} where

@@ -16,8 +16,8 @@ use Rattle.lists.proofs.Numbers.{mem-numbers, length-numbers}
 use Rattle.lists.specs.Tests.{among}
 use Rattle.lists.proofs.Keep.{keep-mem, mem-keep}
 use borrow.Author.Tests.{not-true}
-use Rattle.prim.specs.Network.{unplaced}
-use Rattle.prim.specs.Rival.{IsTaxon}
+use Rattle.prim_form.specs.Network.{unplaced}
+use Rattle.prim_form.specs.Rival.{IsTaxon}
 
 -- the test finds only taxa of the list
 pub among-true : (v : ℕ) (xs : List ℕ) → among v xs ≡ true → Memᴰ v xs

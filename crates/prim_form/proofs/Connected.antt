@@ -8,10 +8,10 @@ use Prim.Native.Nat.{ℕ, ◌-◌, ◌*◌, ◌≤◌}
 use native.Mathlib.Omega.{arith}
 use Rattle.lists.proofs.Sums.{sum_most}
 use Rattle.lists.specs.Sums.{sum_over}
-use Rattle.prim.specs.Network.{Link, network_length, network}
-use Rattle.prim.specs.Rival.{Reached, start, step, links_length, IsTaxon, Connected, link_ends}
-use Rattle.prim.proofs.Placing.{Grown, complete, follows, network-grown, network-length, network-link}
-use Rattle.prim.proofs.Unplaced.{decide_mem, IsPlaced, not-placed, not-unplaced, placed-taxon, added-taxon}
+use Rattle.prim_form.specs.Network.{Link, network_length, network}
+use Rattle.prim_form.specs.Rival.{Reached, start, step, links_length, IsTaxon, Connected, link_ends}
+use Rattle.prim_form.proofs.Placing.{Grown, complete, follows, network-grown, network-length, network-link}
+use Rattle.prim_form.proofs.Unplaced.{decide_mem, IsPlaced, not-placed, not-unplaced, placed-taxon, added-taxon}
 
 module _ {d : ℕ → ℕ → ℕ} {n : ℕ} where
   -- the sum of the differences of the links' ends is the total

@@ -6,12 +6,12 @@ use mathlib.Core.Logic.{inl, inr}
 use Prim.Native.Nat.{ℕ, zero, suc, ◌-◌, ◌≤◌}
 use native.Mathlib.Omega.{arith}
 use Rattle.lists.specs.Sums.{sum_over}
-use Rattle.prim.specs.Network.{network_length, grow, network}
-use Rattle.prim.specs.Rival.{Joins, Reached, links_length, IsTaxon, Connected, Shortest}
-use Rattle.prim.proofs.Links.{Enlarged, Leaving, Spared, exchange, Reached_mono, others, of_others, links_length-others}
-use Rattle.prim.proofs.Placing.{Step, done, placing, placing-step, grow-done, grow-next}
-use Rattle.prim.proofs.Connected.{network-connected, network_sum}
-use Rattle.prim.proofs.Unplaced.{decide_mem, IsPlaced, not-placed, not-unplaced}
+use Rattle.prim_form.specs.Network.{network_length, grow, network}
+use Rattle.prim_form.specs.Rival.{Joins, Reached, links_length, IsTaxon, Connected, Shortest}
+use Rattle.prim_form.proofs.Links.{Enlarged, Leaving, Spared, exchange, Reached_mono, others, of_others, links_length-others}
+use Rattle.prim_form.proofs.Placing.{Step, done, placing, placing-step, grow-done, grow-next}
+use Rattle.prim_form.proofs.Connected.{network-connected, network_sum}
+use Rattle.prim_form.proofs.Unplaced.{decide_mem, IsPlaced, not-placed, not-unplaced}
 
 -- the placed taxa and one more
 enlarged : (later : List ℕ) (v x : ℕ) → Enlarged (IsPlaced later) v x → IsPlaced (later ++ (v ∷ [])) x

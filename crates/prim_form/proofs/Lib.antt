@@ -1,0 +1,10 @@
+-- Laws of the Prim Network, and that no connected network is shorter.
+pub mod Examples
+pub mod Unplaced
+pub mod Placing
+pub mod Agreement
+pub mod Connected
+pub mod Links
+pub mod Shortest
+pub mod InPlace
+pub mod Rings
