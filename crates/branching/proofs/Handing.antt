@@ -4,17 +4,17 @@ use mathlib.Core.List.{List}
 use Prim.Native.Nat.{ℕ}
 use lib.IntN.{ℤ}
 use Rattle.std.specs.Prelude.{Result, Ok, Err}
-use Rattle.matrix.specs.Outcomes.{value}
-use Rattle.matrix.specs.declared.refusal.Refusal.{Refusal}
-use Rattle.matrix.proofs.Passing.{matrix_passed}
+use Rattle.matrix_form.specs.Outcomes.{value}
+use Rattle.matrix_form.specs.declared.refusal.Refusal.{Refusal}
+use Rattle.matrix_form.proofs.Passing.{matrix_passed}
 use Rattle.branching.specs.declared.placement.Placed.{Placed}
 use Rattle.branching.specs.declared.placement.NotPlaced.{NotPlaced}
 use Rattle.branching.specs.declared.tree.Tree.{Tree}
-use Rattle.branching.specs.Ancestors.{ancestors}
-use Rattle.branching.specs.Asking.{ask_placement}
+use Rattle.branching.specs.Views.{ancestors}
+use Rattle.tree_form.specs.Asking.{ask_placement}
 use Rattle.branching.specs.Unasked.{UnaskedDone}
 use Rattle.branching.specs.Placed.{place_in, matrix_placed, placement_says, placed_says, tree_back, PlacementDone}
-use Rattle.branching.proofs.Passed.{placement_asked}
+use Rattle.tree_form.proofs.Passed.{placement_asked}
 use Rattle.branching.proofs.Unasked.{unasked-placed}
 
 module _ (codes : List ℤ) (weights : List ℕ) (n m : ℕ) (tree : Tree) (b : ℕ) where

@@ -1,33 +1,7 @@
--- The laws of trees, and the tests for growing trees and branchings computed on examples.
-pub mod Examples
-pub mod Refusals
-pub mod Descendants
-pub mod BranchSums
-pub mod Climbing
-pub mod Nodes
-pub mod Counts
-pub mod Test
-pub mod Hanging
-pub mod Ranges
-pub mod LeastKey
+-- Laws of tree structs and of the private functions.
 pub mod Places
-pub mod Within
-pub mod Descending
-pub mod Walks
-pub mod Along
-pub mod Lending
-pub mod LentNumbers
-pub mod Linking
-pub mod Lengths
-pub mod Whole
-pub mod Records
-pub mod Placing
-pub mod RowLengths
-pub mod Rival
 pub mod Searching
 pub mod Unasked
-pub mod Passed
-pub mod Mapped
 pub mod Handing
 pub mod Standing
 pub mod PlacedLaws

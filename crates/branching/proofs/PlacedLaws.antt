@@ -7,21 +7,22 @@ use Prim.Native.Nat.{ℕ, suc, ◌+◌, ◌-◌, ◌≤◌, ◌<◌}
 use native.Mathlib.Omega.{arith}
 use lib.IntN.{ℤ, pos}
 use lib.ListN.{length, get_or}
-use Rattle.matrix.specs.Shape.{row, row_start}
-use Rattle.matrix.specs.NodeRows.{rows_of}
+use Rattle.matrix_form.specs.Shape.{row, row_start}
+use Rattle.matrix_form.specs.NodeRows.{rows_of}
 use Rattle.std.specs.Prelude.{Result, Ok}
 use Rattle.branching.specs.declared.placement.Placed.{Placed}
 use Rattle.branching.specs.declared.placement.NotPlaced.{NotPlaced}
-use Rattle.branching.specs.Ancestors.{ancestors, ancestor}
-use Rattle.branching.specs.Nodes.{taxa_placed, Unplaced}
-use Rattle.branching.specs.Growing.{row_one_alone}
-use Rattle.branching.specs.Facts.{Grown, GrowingTree, alone, several}
-use Rattle.branching.specs.Hanging.{next_htu}
-use Rattle.branching.specs.Asking.{ask_placement}
-use Rattle.branching.specs.Placing.{median_row}
+use Rattle.tree_form.specs.Ancestors.{ancestor}
+use Rattle.branching.specs.Views.{ancestors}
+use Rattle.tree_form.specs.Nodes.{taxa_placed, Unplaced}
+use Rattle.tree_form.specs.Growing.{row_one_alone}
+use Rattle.tree_form.specs.Facts.{Grown, GrowingTree, alone, several}
+use Rattle.tree_form.specs.Hanging.{next_htu}
+use Rattle.tree_form.specs.Asking.{ask_placement}
+use Rattle.tree_form.specs.Placing.{median_row}
 use Rattle.branching.specs.Placed.{last_row, place_in, matrix_placed, placement_says, tree_back, PlacementDone}
-use Rattle.branching.proofs.Test.{alone_iff}
-use Rattle.branching.proofs.Passed.{placement_asked}
+use Rattle.tree_form.proofs.Test.{alone_iff}
+use Rattle.tree_form.proofs.Passed.{placement_asked}
 use Rattle.branching.proofs.Unasked.{written_first}
 use Rattle.branching.proofs.Standing.{Standing, asked_standing, standing_passes}
 use Rattle.branching.proofs.Standing.{placed-size, placed-else, placed_standing, placed-medians}

@@ -13,25 +13,19 @@ use borrow.Author.Tests.{eq-eqb, eqb-true, le-leb, lt-leb, leb-true, lt-ltb, ltb
 use Rattle.lists.specs.Tests.{every}
 use Rattle.lists.specs.Filters.{keep}
 use Rattle.lists.specs.Numbers.{numbers}
-use Rattle.lists.proofs.Both.{eqb_iff, and_iff, and_left, and_right, and_both, or_cases, or_left, or_right}
+use Rattle.lists.proofs.Both.{same_test, eqb_iff, and_iff, and_left, and_right, and_both, or_cases, or_left, or_right}
 use Rattle.lists.proofs.Keep.{keep-none}
 use Rattle.lists.proofs.Numbers.{numbers-within, numbers-append}
-use Rattle.matrix.specs.Shape.{last_node}
-use Rattle.branching.specs.Ancestors.{ancestor}
-use Rattle.branching.specs.Nodes.{has_ancestor, in_tree, nodes_in, other_nodes, taxa_placed}
-use Rattle.branching.specs.Growing.{descendant_count, descendants_wanted, climbs, grown}
-use Rattle.branching.specs.Facts.{InTree, ReachesRoot, root, Grown}
+use Rattle.matrix_form.specs.Shape.{last_node}
+use Rattle.tree_form.specs.Ancestors.{ancestor}
+use Rattle.tree_form.specs.Nodes.{has_ancestor, in_tree, nodes_in, other_nodes, taxa_placed}
+use Rattle.tree_form.specs.Growing.{descendant_count, descendants_wanted, climbs, grown}
+use Rattle.tree_form.specs.Facts.{InTree, ReachesRoot, root, Grown}
 use Rattle.branching.specs.Testing.{node_right, place_right}
-use Rattle.branching.proofs.Nodes.{ancestor-place, has_ancestor_iff, in_tree_iff, taxa_placed_le}
-use Rattle.branching.proofs.Climbing.{climbs_reaches}
-use Rattle.branching.proofs.Test.{places_iff, grown-fact, grown_test, reaches_within}
-use Rattle.branching.proofs.Counts.{grown-within}
-
--- two tests that follow from each other are the same
-pub same_test : (a b : Bool) → (a ≡ true → b ≡ true) → (b ≡ true → a ≡ true) → a ≡ b
-same_test true b f g = sym (f refl)
-same_test false true f g = g refl
-same_test false false f g = refl
+use Rattle.tree_form.proofs.Nodes.{ancestor-place, has_ancestor_iff, in_tree_iff, taxa_placed_le}
+use Rattle.tree_form.proofs.Climbing.{climbs_reaches}
+use Rattle.tree_form.proofs.Test.{places_iff, grown-fact, grown_test, reaches_within}
+use Rattle.tree_form.proofs.Counts.{grown-within}
 
 -- what is kept of two lists, one after the other
 pub keep_append : (test : ℕ → Bool) (us vs : List ℕ) → keep test (us ++ vs) ≡ keep test us ++ keep test vs

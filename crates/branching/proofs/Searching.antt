@@ -9,18 +9,19 @@ use Rattle.std.specs.Prelude.{Option, Some, None, MatchOption}
 use Rattle.lists.specs.Over.{over}
 use Rattle.lists.specs.Least.{least_of}
 use Rattle.lists.proofs.Over.{over_item, length_over}
-use Rattle.matrix.specs.Shape.{row}
-use Rattle.matrix.specs.NodeRows.{with_row}
-use Rattle.matrix.proofs.Row.{row-most}
-use Rattle.difference.specs.Rows.{medians}
-use Rattle.difference.proofs.Laws.Rows.{length-medians}
+use Rattle.matrix_form.specs.Shape.{row}
+use Rattle.matrix_form.specs.NodeRows.{with_row}
+use Rattle.matrix_form.proofs.Row.{row-most}
+use Rattle.difference_form.specs.Rows.{medians}
+use Rattle.difference_form.proofs.Laws.Rows.{length-medians}
 use Rattle.branching.specs.declared.tree.Tree.{Tree}
-use Rattle.branching.specs.Ancestors.{ancestors, ancestor}
-use Rattle.branching.specs.Hanging.{hung, next_htu}
-use Rattle.branching.specs.Within.{next_htu_within}
-use Rattle.branching.proofs.Within.{next-plain}
-use Rattle.branching.proofs.Nodes.{node_nodes_in}
-use Rattle.branching.specs.Nodes.{nodes_in, other_nodes}
+use Rattle.tree_form.specs.Ancestors.{ancestor}
+use Rattle.branching.specs.Views.{ancestors}
+use Rattle.tree_form.specs.Hanging.{hung, next_htu}
+use Rattle.tree_form.specs.Within.{next_htu_within}
+use Rattle.tree_form.proofs.Within.{next-plain}
+use Rattle.tree_form.proofs.Nodes.{node_nodes_in}
+use Rattle.tree_form.specs.Nodes.{nodes_in, other_nodes}
 use Rattle.branching.specs.Unasked.{interval_at, medians_at, nearest_at, hung_at}
 use Rattle.branching.specs.Nearest.{NearestOf, Leaves}
 

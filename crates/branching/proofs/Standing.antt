@@ -1,6 +1,6 @@
 -- A growing tree that stands in a lent matrix with the rows of its HTUs, as the questions of a placement let it pass; and the one that a
 -- placement leaves, which stands in the matrix that it leaves. So nothing that a placement hands back is refused by the next one.
-use Rattle.branching.specs.RowLengths.{node_interval}
+use Rattle.tree_form.specs.RowLengths.{node_interval}
 use mathlib.Core.Path.{◌≡◌, refl, sym, ap, ap₂, ◌∙◌}
 use mathlib.Core.Logic.{⊎_elim, by_cases}
 use mathlib.Core.Bool.{true}
@@ -16,29 +16,29 @@ use Rattle.lists.specs.Numbers.{numbers}
 use Rattle.lists.proofs.Both.{or_cases, or_right}
 use Rattle.lists.proofs.Every.{every_iff}
 use Rattle.lists.proofs.Numbers.{numbers-within, numbers-among}
-use Rattle.matrix.specs.Shape.{row, row_start}
-use Rattle.matrix.specs.NodeRows.{row_of, rows_of, with_row}
-use Rattle.matrix.specs.Questions.{LentMatrix, LentWeights, all_in_range, htu_in_range, htus_in_range}
+use Rattle.matrix_form.specs.Shape.{row, row_start}
+use Rattle.matrix_form.specs.NodeRows.{row_of, rows_of, with_row}
+use Rattle.matrix_form.specs.Questions.{LentMatrix, LentWeights, all_in_range, htu_in_range, htus_in_range}
 use Rattle.std.specs.Prelude.{Ok}
-use Rattle.matrix.proofs.Passing.{matrix_passes, matrix_passed, weights_passed}
-use Rattle.matrix.proofs.Row.{row-length}
-use Rattle.matrix.proofs.NodeRows.{length-rows_of, row_of-rows_of, length-with_row, with_row-same, with_row-else, with_row-other, with_rows-rows}
-use Rattle.difference.specs.Rows.{difference, most_difference, node_difference, interval_by}
-use Rattle.difference.proofs.Laws.Rows.{medians-in_range, difference_limit}
-use Rattle.branching.specs.Ancestors.{ancestor}
-use Rattle.branching.specs.Nodes.{taxa_placed, Unplaced}
-use Rattle.branching.specs.Growing.{growing_tree}
-use Rattle.branching.specs.Facts.{Grown, GrowingTree, alone, several}
-use Rattle.branching.specs.Asking.{htus_of, ask_placement}
-use Rattle.branching.specs.Placing.{AfterPlacing, median_row, nearest_interval, link_first, hang, from_interval}
+use Rattle.matrix_form.proofs.Passing.{matrix_passes, matrix_passed, weights_passed}
+use Rattle.matrix_form.proofs.Row.{row-length}
+use Rattle.matrix_form.proofs.NodeRows.{length-rows_of, row_of-rows_of, length-with_row, with_row-same, with_row-else, with_row-other, with_rows-rows}
+use Rattle.difference_form.specs.Rows.{difference, most_difference, node_difference, interval_by}
+use Rattle.difference_form.proofs.Laws.Rows.{medians-in_range, difference_limit}
+use Rattle.tree_form.specs.Ancestors.{ancestor}
+use Rattle.tree_form.specs.Nodes.{taxa_placed, Unplaced}
+use Rattle.tree_form.specs.Growing.{growing_tree}
+use Rattle.tree_form.specs.Facts.{Grown, GrowingTree, alone, several}
+use Rattle.tree_form.specs.Asking.{htus_of, ask_placement}
+use Rattle.tree_form.specs.Placing.{AfterPlacing, median_row, nearest_interval, link_first, hang, from_interval}
 use Rattle.branching.specs.Placed.{last_row, place_in, matrix_placed}
-use Rattle.branching.proofs.Test.{growing-fact, growing_test, growing-placed}
-use Rattle.branching.proofs.Counts.{taxa_placed_lt}
-use Rattle.branching.proofs.Placing.{place-first, place-later, place_grows, place-places, nearest_node}
-use Rattle.branching.proofs.RowLengths.{OfLength, Growth, median_row_sized}
-use Rattle.branching.proofs.Rival.{difference_laws}
-use Rattle.branching.proofs.Passed.{PlacementAsked, asked_placement}
-use Rattle.branching.proofs.Nodes.{taxa_placed_le}
+use Rattle.tree_form.proofs.Test.{growing-fact, growing_test, growing-placed}
+use Rattle.tree_form.proofs.Counts.{taxa_placed_lt}
+use Rattle.tree_form.proofs.Placing.{place-first, place-later, place_grows, place-places, nearest_node}
+use Rattle.tree_form.proofs.RowLengths.{OfLength, Growth, median_row_sized}
+use Rattle.tree_form.proofs.Rival.{difference_laws}
+use Rattle.tree_form.proofs.Passed.{PlacementAsked, asked_placement}
+use Rattle.tree_form.proofs.Nodes.{taxa_placed_le}
 use Rattle.branching.proofs.Unasked.{one-row, written_first, written_later}
 
 -- a growing tree with k of n taxa placed, in a lent matrix in which the rows of its HTUs have codes from -999 to 999

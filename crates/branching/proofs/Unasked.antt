@@ -12,26 +12,27 @@ use lib.ListN.{length, drop, drop_of_length-le}
 use lib.Seq.{drop_at}
 use Rattle.lists.specs.Over.{stripes}
 use Rattle.lists.proofs.Least.{least_of_congr, least_of-none}
-use Rattle.matrix.specs.Shape.{row}
-use Rattle.matrix.specs.NodeRows.{row_of, rows_of, with_row, with_rows}
-use Rattle.matrix.proofs.NodeRows.{length-rows_of, row_of-rows_of}
-use Rattle.difference.specs.Rows.{difference, node_difference}
-use Rattle.branching.specs.declared.placement.Placement.{Placement}
+use Rattle.matrix_form.specs.Shape.{row}
+use Rattle.matrix_form.specs.NodeRows.{row_of, rows_of, with_row, with_rows}
+use Rattle.matrix_form.proofs.NodeRows.{length-rows_of, row_of-rows_of}
+use Rattle.difference_form.specs.Rows.{difference, node_difference}
+use Rattle.tree_form.specs.declared.placement.Placement.{Placement}
 use Rattle.branching.specs.declared.placement.Placed.{Placed}
-use Rattle.branching.specs.Ancestors.{ancestors, ancestor}
-use Rattle.branching.specs.Nodes.{nodes_in, other_nodes, Unplaced}
-use Rattle.branching.specs.Growing.{growing_tree}
-use Rattle.branching.specs.Facts.{Grown, GrowingTree, alone, several}
-use Rattle.branching.specs.Hanging.{next_htu}
-use Rattle.branching.specs.RowLengths.{node_interval}
-use Rattle.branching.specs.Placing.{AfterPlacing, median_row, from_interval, nearest_interval, link_first, hang}
+use Rattle.tree_form.specs.Ancestors.{ancestor}
+use Rattle.branching.specs.Views.{ancestors}
+use Rattle.tree_form.specs.Nodes.{nodes_in, other_nodes, Unplaced}
+use Rattle.tree_form.specs.Growing.{growing_tree}
+use Rattle.tree_form.specs.Facts.{Grown, GrowingTree, alone, several}
+use Rattle.tree_form.specs.Hanging.{next_htu}
+use Rattle.tree_form.specs.RowLengths.{node_interval}
+use Rattle.tree_form.specs.Placing.{AfterPlacing, median_row, from_interval, nearest_interval, link_first, hang}
 use Rattle.branching.specs.Unasked.{no_placement, AfterUnasked, interval_at, medians_at, linked_at, nearest_at, hung_at, placed_at, unasked}
 use Rattle.branching.specs.Unasked.{UnaskedDone}
 use Rattle.branching.specs.Nearest.{Leaves}
 use Rattle.branching.specs.Placed.{last_row, place_in, matrix_placed}
-use Rattle.branching.proofs.Nodes.{node_nodes_in}
-use Rattle.branching.proofs.Test.{growing-fact}
-use Rattle.branching.proofs.Placing.{place-first, place-later, nearest_node}
+use Rattle.tree_form.proofs.Nodes.{node_nodes_in}
+use Rattle.tree_form.proofs.Test.{growing-fact}
+use Rattle.tree_form.proofs.Placing.{place-first, place-later, nearest_node}
 
 -- a placement all of whose numbers are 0
 pub zero_placement : (p : Placement) → (p.taxon ≡ 0) × ((p.lower ≡ 0) × ((p.upper ≡ 0) × ((p.htu ≡ 0) × (p.added ≡ 0)))) → p ≡ no_placement

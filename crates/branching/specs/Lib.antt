@@ -1,19 +1,10 @@
--- Trees as lists of immediate ancestors; growing trees and branchings; branch records and lengths.
-pub mod Ancestors
-pub mod Nodes
-pub mod Growing
-pub mod Facts
-pub mod Hanging
-pub mod Within
+-- The view from the tree struct to its list, what a placement on a struct hands back, the questions of a finished tree, and what the
+-- private functions promise.
+-- What a reader has to believe of trees stands in `tree_form`, and speaks of lists.
+pub mod Views
 pub mod Testing
-pub mod Walks
-pub mod Steps
-pub mod Branches
-pub mod Asking
-pub mod LentNumbers
-pub mod RowLengths
-pub mod Placing
-pub mod Rival
+pub mod Places
 pub mod Unasked
 pub mod Placed
 pub mod Nearest
+pub mod Finished

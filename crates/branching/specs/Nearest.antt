@@ -2,7 +2,7 @@
 -- The nearest interval that is found, and what the two ways to place a taxon promise.
 use Rattle.std.specs.Prelude.{◌≡◌, List, ℕ, ◌≤◌, ℤ, Option, MatchOption}
 use Rattle.branching.specs.declared.placement.Placed.{Placed}
-use Rattle.branching.specs.Ancestors.{ancestors}
+use Rattle.branching.specs.Views.{ancestors}
 use Rattle.branching.specs.Unasked.{AfterUnasked, nearest_at}
 
 -- r is the nearest interval of a tree, by its lower end, and none if no node other than row 1 is in the tree

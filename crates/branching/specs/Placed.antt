@@ -1,17 +1,17 @@
 -- What a placement on a tree handed in hands back, and what the lent matrix then holds.
 use Rattle.std.specs.Prelude.{◌≡◌, List, ℕ, suc, ◌+◌, ◌-◌, ℤ, drop, Result, Ok, Err}
-use Rattle.matrix.specs.NodeRows.{rows_of, with_rows}
-use Rattle.matrix.specs.Refusals.{refusal_number}
-use Rattle.matrix.specs.Outcomes.{Outcome, value, refused, answered, asked_says, afterwards}
-use Rattle.difference.specs.Rows.{difference}
+use Rattle.matrix_form.specs.NodeRows.{rows_of, with_rows}
+use Rattle.matrix_form.specs.Refusals.{refusal_number}
+use Rattle.matrix_form.specs.Outcomes.{Outcome, value, refused, answered, asked_says, afterwards}
+use Rattle.difference_form.specs.Rows.{difference}
 use Rattle.branching.specs.declared.tree.Tree.{Tree}
-use Rattle.branching.specs.declared.placement.Placement.{Placement}
+use Rattle.tree_form.specs.declared.placement.Placement.{Placement}
 use Rattle.branching.specs.declared.placement.Placed.{Placed}
 use Rattle.branching.specs.declared.placement.NotPlaced.{NotPlaced}
-use Rattle.branching.specs.Ancestors.{ancestors}
-use Rattle.branching.specs.Nodes.{taxa_placed}
-use Rattle.branching.specs.Asking.{ask_placement}
-use Rattle.branching.specs.Placing.{AfterPlacing, place}
+use Rattle.branching.specs.Views.{ancestors}
+use Rattle.tree_form.specs.Nodes.{taxa_placed}
+use Rattle.tree_form.specs.Asking.{ask_placement}
+use Rattle.tree_form.specs.Placing.{AfterPlacing, place}
 
 -- the last node that has a row: the n taxa, and behind them the HTUs of a growing tree with k of them placed, the last of which is n+k-2
 unfoldable pub last_row : ℕ → List ℕ → ℕ

@@ -1,10 +1,10 @@
 -- For the proofs of the private functions alone; no public contract cites this file.
 -- The test for a growing tree, place by place.
 use Rattle.std.specs.Prelude.{List, Bool, cond, ◌&&◌, ◌||◌, ℕ, ◌+◌, ◌-◌, leb, ltb, eqb}
-use Rattle.matrix.specs.Shape.{last_node}
-use Rattle.branching.specs.Ancestors.{ancestor}
-use Rattle.branching.specs.Nodes.{has_ancestor, in_tree}
-use Rattle.branching.specs.Growing.{descendant_count, descendants_wanted, climbs}
+use Rattle.matrix_form.specs.Shape.{last_node}
+use Rattle.tree_form.specs.Ancestors.{ancestor}
+use Rattle.tree_form.specs.Nodes.{has_ancestor, in_tree}
+use Rattle.tree_form.specs.Growing.{descendant_count, descendants_wanted, climbs}
 
 -- node v, which has an ancestor: its ancestor is in the tree, it has as many descendants as it has to have, and going up reaches node 1
 unfoldable pub node_right : ℕ → List ℕ → ℕ → Bool

@@ -3,15 +3,16 @@
 -- is the placement of `Placing.antt` (`proofs/Unasked.antt` `unasked-placed`).
 use Rattle.std.specs.Prelude.{◌≡◌, List, cond, ◌&&◌, ℕ, zero, suc, leb, ℤ}
 use Rattle.lists.specs.Least.{least_of}
-use Rattle.matrix.specs.Shape.{most_taxa, most_characters, row}
-use Rattle.matrix.specs.NodeRows.{with_row}
-use Rattle.difference.specs.Rows.{difference, medians, interval_difference}
-use Rattle.branching.specs.declared.placement.Placement.{Placement}
+use Rattle.matrix_form.specs.Shape.{most_taxa, most_characters, row}
+use Rattle.matrix_form.specs.NodeRows.{with_row}
+use Rattle.difference_form.specs.Rows.{difference, medians, interval_difference}
+use Rattle.tree_form.specs.declared.placement.Placement.{Placement}
 use Rattle.branching.specs.declared.placement.Placed.{Placed}
-use Rattle.branching.specs.Ancestors.{ancestors, ancestor}
-use Rattle.branching.specs.Nodes.{nodes_in, other_nodes}
-use Rattle.branching.specs.Hanging.{linked, hung, next_htu}
-pub use Rattle.branching.specs.Placing.{no_placement}
+use Rattle.tree_form.specs.Ancestors.{ancestor}
+use Rattle.branching.specs.Views.{ancestors}
+use Rattle.tree_form.specs.Nodes.{nodes_in, other_nodes}
+use Rattle.tree_form.specs.Hanging.{linked, hung, next_htu}
+pub use Rattle.tree_form.specs.Placing.{no_placement}
 
 -- what a placement leaves: the tree, what was done, and the codes of the matrix
 pub record AfterUnasked : Type 0 where

@@ -1,12 +1,13 @@
 // The test whether a tree is a growing tree, place by place.
 ghost use Rattle.std.specs.Prelude.{◌≡◌, ◌≤◌, length};
-ghost use Rattle.matrix.specs.Shape.{most_taxa};
-ghost use Rattle.branching.specs.Ancestors.{ancestors};
-ghost use Rattle.branching.specs.Nodes.{taxa_placed};
-ghost use Rattle.branching.specs.Growing.{descendant_count, descendants_wanted, grown};
+ghost use Rattle.matrix_form.specs.Shape.{most_taxa};
+ghost use Rattle.branching.specs.Views.{ancestors};
+ghost use Rattle.tree_form.specs.Nodes.{taxa_placed};
+ghost use Rattle.tree_form.specs.Growing.{descendant_count, descendants_wanted, grown};
 ghost use Rattle.branching.specs.Testing.{node_right, place_right};
 
-use crate::tree::{PLACES, Tree, last_node};
+use crate::tree::{Tree, last_node};
+use tree_form::tree::PLACES;
 
 // A tree that may be a growing tree of n taxa, and how many of them it has placed.
 #[derive(Clone, Copy)]
@@ -29,7 +30,7 @@ impl<'a> Candidate<'a> {
     }
 
     // Whether node v, which has an ancestor, is right.
-    #[tactic(auto, unfolding(crate::specs::Testing::node_right, matrix::specs::Shape::last_node))]
+    #[tactic(auto, unfolding(crate::specs::Testing::node_right, matrix_form::specs::Shape::last_node))]
     fn node_right(&self, v: usize) -> bool
         ensures { result ≡ node_right self.now.n (ancestors self.now.tree.now) v }
     {
@@ -42,7 +43,7 @@ impl<'a> Candidate<'a> {
 
     // Whether place v is right.
     // Kept: no plainer, a place of a tree holds 0 for no ancestor, and what is right of it goes by that: an Option would be made of the 0 for this test.
-    #[tactic(auto, using(matrix::proofs::Between::nat_between, crate::proofs::Nodes::taxa_placed_le), unfolding(crate::specs::Testing::place_right, crate::specs::Nodes::has_ancestor))]
+    #[tactic(auto, using(matrix_form::proofs::Between::nat_between, tree_form::proofs::Nodes::taxa_placed_le), unfolding(crate::specs::Testing::place_right, tree_form::specs::Nodes::has_ancestor))]
     fn place_right(&self, v: usize) -> bool
         ensures { result ≡ place_right self.now.n self.now.placed (ancestors self.now.tree.now) v }
     {
@@ -65,7 +66,7 @@ impl<'a> Candidate<'a> {
 }
 
 // Of how many nodes node v has to be the immediate ancestor.
-#[tactic(auto, unfolding(crate::specs::Growing::descendants_wanted))]
+#[tactic(auto, unfolding(tree_form::specs::Growing::descendants_wanted))]
 fn descendants_wanted(n: usize, v: usize) -> usize
     ensures { result ≡ descendants_wanted n v }
 {

@@ -1,8 +1,8 @@
 // One placement: a taxon goes onto a growing tree, which comes out one taxon larger.
 ghost use Rattle.std.specs.Prelude.{◌≡◌, ◌≤◌};
-ghost use Rattle.matrix.specs.Shape.{most_taxa, most_characters};
-ghost use Rattle.matrix.specs.NodeRows.{with_row};
-ghost use Rattle.branching.specs.Ancestors.{ancestors};
+ghost use Rattle.matrix_form.specs.Shape.{most_taxa, most_characters};
+ghost use Rattle.matrix_form.specs.NodeRows.{with_row};
+ghost use Rattle.branching.specs.Views.{ancestors};
 ghost use Rattle.branching.specs.Unasked.{medians_at, interval_at, linked_at, hung_at, UnaskedDone};
 ghost use Rattle.branching.specs.Nearest.{NearestOf, Leaves};
 ghost use Rattle.branching.specs.Placed.{PlacementDone};
@@ -12,20 +12,10 @@ use crate::tree::{Tree, last_node};
 use difference::nodes::Nodes;
 use difference::rows::write_medians;
 use matrix::lent::Lent;
-use matrix::refusal::Refusal;
 use matrix::rows::{row, write_row};
 use matrix::{COLUMNS, MOST_CHARACTERS, MOST_TAXA};
-
-// The taxon, the lower end of its interval (0: none), the upper end, the new HTU (0: none), the length added.
-// Kept: no plainer, a tree's numbers have 0 for none, and lines and keys read both alike: with an Option here both forms of none would stand side by side.
-#[derive(Clone, Copy, Default)]
-pub struct Placement {
-    pub taxon: usize,
-    pub lower: usize,
-    pub upper: usize,
-    pub htu: usize,
-    pub added: u64,
-}
+use matrix_form::refusal::Refusal;
+use tree_form::placement::Placement;
 
 // A tree, and the placement that it comes from.
 #[derive(Clone, Copy)]
@@ -76,7 +66,7 @@ fn write_htu(matrix: &mut [i32], m: usize, b: usize, c: usize, e: usize, y: usiz
 
 impl Tree {
     // Taxon b linked to row 1.
-    #[tactic(auto, unfolding(crate::specs::Unasked::linked_at, difference::specs::Rows::node_difference))]
+    #[tactic(auto, unfolding(crate::specs::Unasked::linked_at, difference_form::specs::Rows::node_difference))]
     fn link_first(self, nodes: &Nodes, b: usize) -> Placed
         ensures { Leaves (linked_at nodes.now.lent.matrix.now nodes.now.lent.weights.now nodes.now.lent.m (ancestors self) b) nodes.now.lent.matrix.now result }
     {

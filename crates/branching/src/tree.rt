@@ -1,18 +1,18 @@
 // Trees by value: the immediate ancestor of each node, by node number.
 // Kept: no plainer, a tree is one of n taxa only once it is asked, and then `Candidate` and the plan of a fit hold both.
 ghost use Rattle.std.specs.Prelude.{◌≡◌, min, set};
-ghost use Rattle.matrix.specs.Shape.{last_node};
-ghost use Rattle.branching.specs.Ancestors.{ancestors, ancestor, PlaceOf};
-ghost use Rattle.branching.specs.Nodes.{in_tree, taxa_placed};
-ghost use Rattle.branching.specs.Growing.{climbs, row_one_alone};
-ghost use Rattle.branching.specs.Within.{growing_tree_within, branching_within, next_htu_within};
-ghost use Rattle.branching.specs.Hanging.{no_branches, linked, hung};
+ghost use Rattle.matrix_form.specs.Shape.{last_node};
+ghost use Rattle.tree_form.specs.Ancestors.{ancestor};
+ghost use Rattle.branching.specs.Places.{PlaceOf};
+ghost use Rattle.branching.specs.Views.{ancestors};
+ghost use Rattle.tree_form.specs.Nodes.{in_tree, taxa_placed};
+ghost use Rattle.tree_form.specs.Growing.{climbs, row_one_alone};
+ghost use Rattle.tree_form.specs.Within.{growing_tree_within, branching_within, next_htu_within};
+ghost use Rattle.tree_form.specs.Hanging.{no_branches, linked, hung};
 
 use crate::growing::Candidate;
 use matrix::{MOST_TAXA, questions};
-
-// A tree has a place for each of the nodes 0 to 126.
-pub const PLACES: usize = 127;
+use tree_form::tree::PLACES;
 
 // A tree: place v holds the immediate ancestor of node v, and 0 where it has none.
 // Kept: interface, nodes are numbers in what C and the files lend, and the project has no heap: a tree is handed in and back by value, as its ancestors.
@@ -24,7 +24,7 @@ pub struct Tree {
 impl Tree {
     // Row 1 alone.
     // Kept: no plainer, `Tree::default()` would not say that row 1 is in the tree.
-    #[tactic(auto, unfolding(crate::specs::Hanging::no_branches))]
+    #[tactic(auto, unfolding(tree_form::specs::Hanging::no_branches))]
     pub fn alone() -> Tree
         ensures { ancestors result ≡ no_branches }
     {
@@ -35,7 +35,7 @@ impl Tree {
 
     // The immediate ancestor of node v, and 0 for a number beyond the places.
     // Kept: no plainer, a place of a tree holds 0 for none, and what callers compare and look up with the answer is a node's number.
-    #[tactic(auto, using(std::proofs::lemmas::Option::gets), unfolding(crate::specs::Ancestors::ancestor))]
+    #[tactic(auto, using(std::proofs::lemmas::Option::gets), unfolding(tree_form::specs::Ancestors::ancestor))]
     pub fn ancestor(&self, v: usize) -> usize
         ensures { result ≡ ancestor (ancestors self.now) v }
     {
@@ -54,7 +54,7 @@ impl Tree {
     }
 
     // The tree with taxon b linked to row 1.
-    #[tactic(auto, unfolding(crate::specs::Hanging::linked))]
+    #[tactic(auto, unfolding(tree_form::specs::Hanging::linked))]
     pub fn link(self, b: usize) -> Tree
         ensures { ancestors result ≡ linked (ancestors self) b }
     {
@@ -62,7 +62,7 @@ impl Tree {
     }
 
     // The tree with taxon b hung through y on the interval between c and its immediate ancestor.
-    #[tactic(auto, unfolding(crate::specs::Hanging::hung))]
+    #[tactic(auto, unfolding(tree_form::specs::Hanging::hung))]
     pub fn hang(self, b: usize, c: usize, y: usize) -> Tree
         ensures { ancestors result ≡ hung (ancestors self) b c y }
     {
@@ -73,7 +73,7 @@ impl Tree {
     }
 
     // Whether node v is in the tree.
-    #[tactic(auto, unfolding(crate::specs::Nodes::in_tree, crate::specs::Nodes::has_ancestor))]
+    #[tactic(auto, unfolding(tree_form::specs::Nodes::in_tree, tree_form::specs::Nodes::has_ancestor))]
     pub fn in_tree(&self, v: usize) -> bool
         ensures { result ≡ in_tree (ancestors self.now) v }
     {
@@ -91,7 +91,7 @@ impl Tree {
 
     // The number of the next HTU, and 0 for more than 64 taxa.
     // Kept: interface, a call that could not fail still cannot: of more than 64 taxa there is no next HTU, and it answers 0.
-    #[tactic(auto, using(crate::proofs::Nodes::taxa_placed_le), unfolding(crate::specs::Within::next_htu_within, crate::specs::Hanging::next_htu))]
+    #[tactic(auto, using(tree_form::proofs::Nodes::taxa_placed_le), unfolding(tree_form::specs::Within::next_htu_within, tree_form::specs::Hanging::next_htu))]
     pub fn next_htu(&self, n: usize) -> usize
         ensures { result ≡ next_htu_within n (ancestors self.now) }
     {
@@ -124,7 +124,7 @@ impl Tree {
     }
 
     // Whether the tree is a growing tree of n taxa, n at most 64.
-    #[tactic(auto, unfolding(crate::specs::Within::growing_tree_within, crate::specs::Growing::growing_tree))]
+    #[tactic(auto, unfolding(tree_form::specs::Within::growing_tree_within, tree_form::specs::Growing::growing_tree))]
     pub fn is_growing(&self, n: usize) -> bool
         ensures { result ≡ growing_tree_within n (ancestors self.now) }
     {
@@ -140,7 +140,7 @@ impl Tree {
     }
 
     // Whether the tree is a branching of n taxa, n at most 64.
-    #[tactic(auto, unfolding(crate::specs::Within::branching_within, crate::specs::Within::growing_tree_within, crate::specs::Growing::branching))]
+    #[tactic(auto, unfolding(tree_form::specs::Within::branching_within, tree_form::specs::Within::growing_tree_within, tree_form::specs::Growing::branching))]
     pub fn is_branching(&self, n: usize) -> bool
         ensures { result ≡ branching_within n (ancestors self.now) }
     {
@@ -149,7 +149,7 @@ impl Tree {
 }
 
 // The last node of a tree of n taxa, as far as a tree has places.
-pub(crate) fn last_node(n: usize) -> usize
+pub fn last_node(n: usize) -> usize
     ensures { result ≡ min (last_node n) 126 }
 {
     questions::last_node(n).min(PLACES - 1)

@@ -6,13 +6,13 @@ use borrow.Author.Rules.{rules}
 use borrow.Author.Tests.{tests}
 use Rattle.std.proofs.lemmas.Iterator.{YieldsList-from_range}
 use Rattle.std.proofs.lemmas.Iterator.Consumers.{YieldsList-from_filter}
-use Rattle.matrix.specs.Shape.{last_node}
-use Rattle.branching.specs.Ancestors.{ancestors}
-use Rattle.branching.specs.Nodes.{in_tree}
+use Rattle.matrix_form.specs.Shape.{last_node}
+use Rattle.branching.specs.Views.{ancestors}
+use Rattle.tree_form.specs.Nodes.{in_tree}
 use Rattle.branching.specs.Unasked.{interval_at}
-use Rattle.branching.proofs.LeastKey.{least_from_min_by_key}
+use Rattle.tree_form.proofs.LeastKey.{least_from_min_by_key}
 use Rattle.branching.proofs.Places.{nodes_in-places}
-use Rattle.branching.proofs.Ranges.{filter-range}
+use Rattle.tree_form.proofs.Ranges.{filter-range}
 use Rattle.branching.proofs.Searching.{nearest_found}
 use Rattle.branching.proofs.placement.nearest_interval.Goals as goal
 

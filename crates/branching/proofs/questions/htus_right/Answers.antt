@@ -6,12 +6,12 @@ use borrow.Author.Rules.{rules}
 use borrow.Author.Tests.{tests}
 use Rattle.std.proofs.lemmas.Iterator.{YieldsList-from_range}
 use Rattle.std.proofs.lemmas.Iterator.Search.{all_from_yields_List}
-use Rattle.matrix.specs.Questions.{htu_in_range, htus_in_range}
-use Rattle.branching.specs.Ancestors.{ancestors}
-use Rattle.branching.specs.Nodes.{taxa_placed}
-use Rattle.branching.specs.Asking.{htus_of}
-use Rattle.branching.proofs.Nodes.{taxa_placed_le}
-use Rattle.branching.proofs.Ranges.{every-range}
+use Rattle.matrix_form.specs.Questions.{htu_in_range, htus_in_range}
+use Rattle.branching.specs.Views.{ancestors}
+use Rattle.tree_form.specs.Nodes.{taxa_placed}
+use Rattle.tree_form.specs.Asking.{htus_of}
+use Rattle.tree_form.proofs.Nodes.{taxa_placed_le}
+use Rattle.tree_form.proofs.Ranges.{every-range}
 use Rattle.branching.proofs.questions.htus_right.Goals as goal
 
 pub overflow_add-end : goal.overflow_add-end

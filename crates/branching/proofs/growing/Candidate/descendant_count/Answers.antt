@@ -8,12 +8,13 @@ use lib.Dec.{eqb}
 use lib.ListN.{length}
 use Rattle.std.proofs.lemmas.Iterator.{YieldsList-from_range}
 use Rattle.std.proofs.lemmas.Iterator.Consumers.{count_from_yields_List, YieldsList-from_filter}
-use Rattle.matrix.specs.Shape.{last_node}
-use Rattle.branching.specs.Ancestors.{ancestors, ancestor}
-use Rattle.branching.specs.Nodes.{other_nodes}
-use Rattle.branching.specs.Growing.{descendant_count}
-use Rattle.branching.proofs.Descendants.{descendants-keep}
-use Rattle.branching.proofs.Ranges.{kept-range}
+use Rattle.matrix_form.specs.Shape.{last_node}
+use Rattle.tree_form.specs.Ancestors.{ancestor}
+use Rattle.branching.specs.Views.{ancestors}
+use Rattle.tree_form.specs.Nodes.{other_nodes}
+use Rattle.tree_form.specs.Growing.{descendant_count}
+use Rattle.tree_form.proofs.Descendants.{descendants-keep}
+use Rattle.tree_form.proofs.Ranges.{kept-range}
 use Rattle.branching.proofs.growing.Candidate.descendant_count.Goals as goal
 
 pub returns : goal.returns

@@ -8,11 +8,11 @@ use lib.Dec.{eqb}
 use Rattle.std.proofs.lemmas.Iterator.{YieldsList-from_range}
 use Rattle.std.proofs.lemmas.Iterator.Search.{all_from_yields_List}
 use Rattle.lists.proofs.Both.{and_first, and_second}
-use Rattle.branching.specs.Ancestors.{ancestors}
-use Rattle.branching.specs.Growing.{grown}
+use Rattle.branching.specs.Views.{ancestors}
+use Rattle.tree_form.specs.Growing.{grown}
 use Rattle.branching.specs.Testing.{place_right}
 use Rattle.branching.proofs.Places.{grown-places}
-use Rattle.branching.proofs.Ranges.{every-range}
+use Rattle.tree_form.proofs.Ranges.{every-range}
 use Rattle.branching.proofs.growing.Candidate.is_grown.Goals as goal
 
 pub returns-then-self-lt2 : goal.returns-then-self-lt2

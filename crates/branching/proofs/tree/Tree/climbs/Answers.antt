@@ -2,9 +2,9 @@
 use mathlib.Core.Path.{◌≡◌, sym, ap, ap₂, ◌∙◌}
 use Prim.Native.Nat.{◌+◌, ◌-◌, ◌<◌}
 use native.Mathlib.Omega.{arith}
-use Rattle.branching.specs.Ancestors.{ancestors}
-use Rattle.branching.specs.Growing.{climbs}
-use Rattle.branching.proofs.Climbing.{climbs-here, climbs-above, climbs_last}
+use Rattle.branching.specs.Views.{ancestors}
+use Rattle.tree_form.specs.Growing.{climbs}
+use Rattle.tree_form.proofs.Climbing.{climbs-here, climbs-above, climbs_last}
 use Rattle.branching.proofs.tree.Tree.climbs.Goals as goal
 
 pub loop-step-init : goal.loop-step-init

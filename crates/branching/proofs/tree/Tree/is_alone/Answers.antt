@@ -5,11 +5,12 @@ use borrow.Author.Rules.{rules}
 use lib.Dec.{eqb}
 use lib.ListN.{length, replicate}
 use lib.Pointwise.{pointwise}
-use Rattle.branching.specs.Ancestors.{ancestors, ancestor}
-use Rattle.branching.specs.Nodes.{has_ancestor}
-use Rattle.branching.specs.Growing.{row_one_alone}
-use Rattle.branching.specs.Hanging.{no_branches}
-use Rattle.branching.proofs.Ranges.{equal-zeros}
+use Rattle.tree_form.specs.Ancestors.{ancestor}
+use Rattle.branching.specs.Views.{ancestors}
+use Rattle.tree_form.specs.Nodes.{has_ancestor}
+use Rattle.tree_form.specs.Growing.{row_one_alone}
+use Rattle.tree_form.specs.Hanging.{no_branches}
+use Rattle.tree_form.proofs.Ranges.{equal-zeros}
 use Rattle.branching.proofs.tree.Tree.is_alone.Goals as goal
 
 pub returns : goal.returns

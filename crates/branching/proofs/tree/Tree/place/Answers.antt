@@ -3,7 +3,7 @@ use mathlib.Core.Path.{◌≡◌, sym, ◌∙◌}
 use borrow.Author.Rules.{rules}
 use Rattle.std.specs.Prelude.{Err}
 use Rattle.branching.specs.declared.placement.NotPlaced.{NotPlaced}
-use Rattle.branching.proofs.Mapped.{mapped_ok, mapped_err}
+use Rattle.tree_form.proofs.Mapped.{mapped_ok, mapped_err}
 use Rattle.branching.proofs.Handing.{hands_refusal, hands_placement}
 use Rattle.branching.proofs.tree.Tree.place.Goals as goal
 

@@ -6,9 +6,9 @@ use borrow.Author.Rules.{rules}
 use borrow.Author.Tests.{tests}
 use Rattle.std.proofs.lemmas.Iterator.{YieldsList-from_range}
 use Rattle.std.proofs.lemmas.Iterator.Consumers.{count_from_yields_List, YieldsList-from_filter}
-use Rattle.branching.specs.Ancestors.{ancestors}
-use Rattle.branching.specs.Nodes.{in_tree}
-use Rattle.branching.proofs.Ranges.{kept-range}
+use Rattle.branching.specs.Views.{ancestors}
+use Rattle.tree_form.specs.Nodes.{in_tree}
+use Rattle.tree_form.proofs.Ranges.{kept-range}
 use Rattle.branching.proofs.Places.{taxa_placed-places}
 use Rattle.branching.proofs.tree.Tree.taxa_placed.Goals as goal
 

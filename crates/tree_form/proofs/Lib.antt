@@ -1,0 +1,25 @@
+-- The laws of trees, and the tests for growing trees and branchings computed on examples.
+pub mod Examples
+pub mod PlacedExamples
+pub mod Refusals
+pub mod Descendants
+pub mod BranchSums
+pub mod Climbing
+pub mod Nodes
+pub mod Counts
+pub mod Test
+pub mod Hanging
+pub mod Ranges
+pub mod LeastKey
+pub mod Within
+pub mod Lending
+pub mod LentNumbers
+pub mod Linking
+pub mod Lengths
+pub mod Whole
+pub mod Records
+pub mod Placing
+pub mod RowLengths
+pub mod Rival
+pub mod Passed
+pub mod Mapped

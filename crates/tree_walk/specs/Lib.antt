@@ -1,0 +1,3 @@
+-- What a walk over a branching is, and what the private functions promise.
+pub mod Walks
+pub mod Steps
