@@ -7,15 +7,15 @@ use Prim.Native.Nat.{ℕ}
 use Prim.Native.String.{String}
 use lib.IntN.{ℤ, pos, negsuc}
 use lib.ListN.{replicate}
-use Rattle.matrix.specs.Shape.{in_range, last_node}
-use Rattle.matrix.specs.Questions.{one_to, within_limits}
+use Rattle.matrix_form.specs.Shape.{in_range, last_node}
+use Rattle.matrix_form.specs.Questions.{one_to, within_limits}
 use Rattle.lists.specs.Numbers.{numbers}
 use Rattle.lists.specs.Filters.{keep}
-use Rattle.branching.specs.Ancestors.{ancestor, descendants}
-use Rattle.branching.specs.Nodes.{has_ancestor, in_tree, nodes_in, other_nodes, taxa_placed}
-use Rattle.branching.specs.Growing.{descendant_count, descendants_wanted, climbs, row_one_alone, nodes_only, htus_in, ancestors_in, descendants_right}
-use Rattle.branching.specs.Growing.{all_climb, grown, growing_tree, branching}
-use Rattle.matrix.specs.Outcomes.{Outcome, value, refused}
+use Rattle.tree_form.specs.Ancestors.{ancestor, descendants}
+use Rattle.tree_form.specs.Nodes.{has_ancestor, in_tree, nodes_in, other_nodes, taxa_placed}
+use Rattle.tree_form.specs.Growing.{descendant_count, descendants_wanted, climbs, row_one_alone, nodes_only, htus_in, ancestors_in, descendants_right}
+use Rattle.tree_form.specs.Growing.{all_climb, grown, growing_tree, branching}
+use Rattle.matrix_form.specs.Outcomes.{Outcome, value, refused}
 use Rattle.lists.specs.Tests.{every, same_numbers as same_text}
 use Rattle.file_form.specs.Bytes.{word_advance, word_closest, is_digit, is_letter, parts_at, joined_by}
 use Rattle.file_form.specs.Decimal.{digits_in, digits_of, decimal, no_leading_zero, number_form, number_from, number_of, code_form, code_of}
@@ -30,8 +30,8 @@ use Rattle.file_form.specs.Branches.{branch_form, ancestor_in, branch_text, bran
 use Rattle.file_form.specs.Reading.{job_of, nothing_more, ask_end, ask_after, ask_behind, ask_file, ask_length, read_answer}
 use Rattle.file_form.specs.declared.header.Kind.TheVariants.{Wagner, Own}
 use Rattle.std.specs.Prelude.{Option, None, Some}
-use Rattle.branching.specs.declared.order.Order.{Order}
-use Rattle.branching.specs.declared.order.Order.TheVariants.{Advance, Closest}
+use Rattle.tree_form.specs.declared.order.Order.{Order}
+use Rattle.tree_form.specs.declared.order.Order.TheVariants.{Advance, Closest}
 use Rattle.file_form.specs.Text.{bytes}
 use Rattle.file_form.specs.Written.{padded, matrix_written, weights_written, names_written}
 use Rattle.lists.specs.Over.{over, stripes}

@@ -5,3 +5,5 @@ pub mod Rows
 pub mod BranchLines
 pub mod File
 pub mod Examples
+pub mod Lists
+pub mod ReadExamples

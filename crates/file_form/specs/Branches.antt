@@ -4,13 +4,13 @@ use mathlib.Core.List.{List, [], ◌∷◌, zip_with}
 use Rattle.std.specs.Prelude.{Bool, true, ◌&&◌, ℕ, zero, suc, ◌-◌, ◌*◌, eqb, length, get_or}
 use Rattle.lists.specs.Numbers.{numbers}
 use Rattle.lists.specs.Tests.{same_numbers as same_text}
-use Rattle.matrix.specs.Outcomes.{ask, Outcome, refused, on_line}
-use Rattle.matrix.specs.Refusals.{refusal_number}
-use Rattle.matrix.specs.declared.refusal.Refusal.TheVariants.{NotBranching, BranchForm}
-use Rattle.matrix.specs.Outcomes.{Asked}
+use Rattle.matrix_form.specs.Outcomes.{ask, Outcome, refused, on_line}
+use Rattle.matrix_form.specs.Refusals.{refusal_number}
+use Rattle.matrix_form.specs.declared.refusal.Refusal.TheVariants.{NotBranching, BranchForm}
+use Rattle.matrix_form.specs.Outcomes.{Asked}
 use Rattle.std.specs.Prelude.{Ok}
-use Rattle.branching.specs.Ancestors.{tree_with}
-use Rattle.branching.specs.Growing.{branching}
+use Rattle.tree_form.specs.Ancestors.{tree_with}
+use Rattle.tree_form.specs.Growing.{branching}
 use Rattle.file_form.specs.declared.header.Kind.{Kind}
 use Rattle.file_form.specs.declared.header.Kind.TheVariants.{Wagner, Own}
 use Rattle.file_form.specs.Bytes.{tab, word_c, joined_by}

@@ -1,5 +1,5 @@
 -- Whole numbers in decimal: how they are written, which form is right, and what number a text of that form says.
-use Rattle.std.specs.Prelude.{List, [], ◌∷◌, ◌++◌, Bool, true, false, ◌&&◌, not, cond, ◌≡◌, ℕ, zero, suc, ◌+◌, ◌-◌, ◌*◌, ◌/◌, ◌%◌, ◌<◌, leb, ltb, eqb, ℤ, pos, negsuc, neg_ℤ, length}
+use Rattle.std.specs.Prelude.{List, [], ◌∷◌, ◌++◌, Bool, true, false, ◌&&◌, not, cond, ℕ, zero, suc, ◌+◌, ◌-◌, ◌*◌, ◌/◌, ◌%◌, leb, ltb, eqb, ℤ, pos, negsuc, neg_ℤ, length}
 use Rattle.lists.specs.Tests.{every}
 use Rattle.file_form.specs.Bytes.{minus, is_digit}
 
@@ -39,10 +39,6 @@ no_leading_zero (digit ∷ next ∷ digits) = not (eqb digit zero_digit)
 abbrev pub most_digits : ℕ
 most_digits = 6
 
--- a million
-abbrev pub a_million : ℕ
-a_million = 1000000
-
 -- the form of the numbers n and m: 1 to 6 decimal digits, no leading zero
 unfoldable pub number_form : List ℕ → Bool
 number_form text = (leb 1 (length text) && leb (length text) most_digits) && (every is_digit text && no_leading_zero text)
@@ -67,8 +63,3 @@ unfoldable pub code_of : List ℕ → ℤ
 code_of [] = pos 0
 code_of (byte ∷ bytes) =
     cond (eqb byte minus) (neg_ℤ (pos (number_of bytes))) (pos (number_of (byte ∷ bytes)))
-
--- r is the number that digits say, and below a million
-pub record NumberSaid (digits : List ℕ) (r : ℕ) : Type 0 where
-  pub is : r ≡ number_of digits
-  pub small : r < a_million

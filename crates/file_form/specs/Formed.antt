@@ -1,7 +1,7 @@
--- No public contract cites this file. Lines of a text that are well formed: rows and `C` lines, and the record that a `C` line says.
+-- Lines of a text that are well formed: rows and `C` lines, and the record that a `C` line says. Laws about accepted files speak of them.
 use Rattle.std.specs.Prelude.{◌≡◌, List, [], Bool, true, ◌&&◌, ℕ, ◌+◌, ◌<◌, leb, length, get_or, take, drop}
 use Rattle.lists.specs.Tests.{every}
-use Rattle.branching.specs.LentNumbers.{record_numbers}
+use Rattle.tree_form.specs.LentNumbers.{record_numbers}
 use Rattle.file_form.specs.Decimal.{number_of, code_form}
 use Rattle.file_form.specs.Job.{name_form}
 use Rattle.file_form.specs.Lines.{lines_of, fields_of}

@@ -2,8 +2,8 @@
 -- the branching; its limits; and the one file that says it (document 01, "The matrix file"; document 02, M-100, M-101 and M-103).
 use Rattle.std.specs.Prelude.{◌≡◌, Bool, true, false, ◌&&◌, ◌||◌, not, ℕ, leb, eqb, ℤ, length, replicate, Option, None, Some}
 use mathlib.Core.List.{List, [], ◌∷◌, ◌++◌, map, zip_with}
-use Rattle.matrix.specs.Shape.{is_weight}
-use Rattle.matrix.specs.Questions.{within_limits, all_in_range}
+use Rattle.matrix_form.specs.Shape.{is_weight}
+use Rattle.matrix_form.specs.Questions.{within_limits, all_in_range}
 use Rattle.lists.specs.Tests.{every, same_numbers as same_text}
 use Rattle.file_form.specs.Bytes.{tab, line_feed, underscore, word_w, word_f, word_advance, word_closest, is_digit, is_letter, joined_by}
 use Rattle.file_form.specs.Decimal.{digits_of, decimal}
@@ -12,8 +12,8 @@ use Rattle.file_form.specs.Weights.{letter_v, weight_text}
 use Rattle.file_form.specs.Branches.{branch_count, branch_texts, branched}
 use Rattle.file_form.specs.declared.header.Kind.{Kind}
 use Rattle.file_form.specs.declared.header.Kind.TheVariants.{Wagner, Own}
-use Rattle.branching.specs.declared.order.Order.{Order}
-use Rattle.branching.specs.declared.order.Order.TheVariants.{Advance, Closest}
+use Rattle.tree_form.specs.declared.order.Order.{Order}
+use Rattle.tree_form.specs.declared.order.Order.TheVariants.{Advance, Closest}
 
 -- the kind of the file; n taxa, m characters; the word that line 1 carries for the order of placing, if any; whether there is a `V` line,
 -- and the weights, by character; names and rows of codes stand by row, row 1 first; in an `F` file the immediate ancestors of the other

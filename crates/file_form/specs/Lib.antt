@@ -1,4 +1,9 @@
--- The form of a matrix file and the questions put to it (document 01, "The matrix file" and "Reading a file").
+-- A matrix file of either kind: what it says, which form is right, the one file that says a job, the questions put to a file's bytes with
+-- the number and the line of each refusal, and what the lent lists hold after a read.
+-- It rests on the limits, refusals and outcomes of `matrix_form` and, for the `C` lines, on the branchings and branch records of
+-- `tree_form`. Taken as given from document 01: ASCII, one tab between fields, a line feed behind each line, how names and numbers are
+-- written, and the order of the questions; from document 02: the word for the order, the `V` line, and files with a branching of their
+-- own.
 pub mod Bytes
 pub mod Decimal
 pub mod Lines
@@ -12,3 +17,4 @@ pub mod Reading
 pub mod Written
 pub mod Formed
 pub mod Text
+pub mod Report

@@ -2,9 +2,9 @@
 -- It is looked for once, at its own place: `lines` are those from that place on (document 02, M-101: `V`).
 use Rattle.std.specs.Prelude.{List, [], ◌∷◌, Bool, true, false, ◌&&◌, ◌||◌, not, ℕ, leb, length, get_or, drop}
 use Rattle.lists.specs.Tests.{same_numbers as same_text}
-use Rattle.matrix.specs.Outcomes.{ask}
-use Rattle.matrix.specs.declared.refusal.Refusal.{Refusal}
-use Rattle.matrix.specs.Outcomes.{Asked}
+use Rattle.matrix_form.specs.Outcomes.{ask}
+use Rattle.matrix_form.specs.declared.refusal.Refusal.{Refusal}
+use Rattle.matrix_form.specs.Outcomes.{Asked}
 use Rattle.std.specs.Prelude.{Ok}
 use Rattle.file_form.specs.Bytes.{tab, joined_by}
 use Rattle.file_form.specs.Lines.{fields_of}

@@ -1,8 +1,8 @@
 -- Reading a matrix file: the questions 1 to 11 and 14 to 17 in the papers' order, and what an accepted file says.
 use Rattle.std.specs.Prelude.{List, [], ◌∷◌, map, Bool, true, false, ℕ, leb, length, take, drop}
-use Rattle.matrix.specs.Outcomes.{ask, Outcome, value, on_line, then_with}
-use Rattle.matrix.specs.declared.refusal.Refusal.TheVariants.{FileTooLong, FileEmpty, FileGoesOn}
-use Rattle.matrix.specs.Outcomes.{Asked}
+use Rattle.matrix_form.specs.Outcomes.{ask, Outcome, value, on_line, then_with}
+use Rattle.matrix_form.specs.declared.refusal.Refusal.TheVariants.{FileTooLong, FileEmpty, FileGoesOn}
+use Rattle.matrix_form.specs.Outcomes.{Asked}
 use Rattle.std.specs.Prelude.{Ok}
 use Rattle.file_form.specs.declared.header.Header.{Header}
 use Rattle.file_form.specs.Job.{Job}

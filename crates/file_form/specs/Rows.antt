@@ -1,11 +1,11 @@
 -- The rows of a matrix file: what a row's line says, and the questions put to it (5 to 10) with its line number. What follows the rows is
 -- handed in.
 use Rattle.std.specs.Prelude.{List, [], ◌∷◌, map, ℕ, zero, suc, eqb, ℤ, length, get_or, drop}
-use Rattle.matrix.specs.Shape.{in_range}
-use Rattle.matrix.specs.Outcomes.{ask, Outcome, refused, on_line}
-use Rattle.matrix.specs.Refusals.{refusal_number}
-use Rattle.matrix.specs.declared.refusal.Refusal.TheVariants.{LineMissing, NameForm, NameTaken, FieldCount, CodeForm, CodeRange}
-use Rattle.matrix.specs.Outcomes.{Asked}
+use Rattle.matrix_form.specs.Shape.{in_range}
+use Rattle.matrix_form.specs.Outcomes.{ask, Outcome, refused, on_line}
+use Rattle.matrix_form.specs.Refusals.{refusal_number}
+use Rattle.matrix_form.specs.declared.refusal.Refusal.TheVariants.{LineMissing, NameForm, NameTaken, FieldCount, CodeForm, CodeRange}
+use Rattle.matrix_form.specs.Outcomes.{Asked}
 use Rattle.std.specs.Prelude.{Ok}
 use Rattle.file_form.specs.declared.header.Header.{Header}
 use Rattle.file_form.specs.Decimal.{code_form, code_of}

@@ -1,5 +1,5 @@
 // What the header of a file says.
-use branching::order::Order;
+use tree_form::order::Order;
 
 // The kind of a file: `W`, whose Wagner tree is built, or `F`, which brings a branching of its own.
 #[derive(Clone, Copy, PartialEq, Eq)]

@@ -1,9 +1,8 @@
 // The form of a matrix file: its bytes and sizes.
 #![tactic(auto)]
 
-use matrix::MOST_TAXA;
-
 // What the header of a file says.
+pub mod answer;
 pub mod header;
 
 // A file has at most so many bytes.
@@ -17,6 +16,3 @@ pub const LINE_FEED: u8 = b'\n';
 
 // A name has at most so many bytes, and takes so many of the lent list.
 pub const NAME_SIZE: usize = 16;
-
-// The lent list has a name for each of 64 taxa.
-pub const NAMES_SIZE: usize = MOST_TAXA * NAME_SIZE;

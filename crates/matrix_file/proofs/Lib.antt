@@ -1,10 +1,5 @@
--- Laws of reading a matrix file. `Lists.ReadLists` says what the lent lists hold after a read.
-pub mod ReadAs
-pub mod Words
-pub mod Answering
-pub mod Decimal
+-- Laws of the walks through a text, for the proofs of the functions.
 pub mod Rows
 pub mod BranchLines
-pub mod File
+pub mod FileWalk
 pub mod Lists
-pub mod Examples

@@ -1,9 +1,7 @@
--- The lent lists: what a walk over the lines writes, and what the lists then hold.
+-- The lent lists: what a walk over the lines writes.
 pub mod LinesBehind
-pub mod LinesSplit
 pub mod LinesCut
 pub mod WrittenLines
-pub mod ReadLists
 pub mod ReadWalk
 pub mod CodesWritten
 pub mod NameWritten

@@ -1,3 +1,2 @@
--- Reading a matrix file (document 01, "The matrix file" and "Reading a file").
-pub mod Report
+-- What the private functions promise; what a reader has to believe stands in `file_form`.
 pub mod Walk

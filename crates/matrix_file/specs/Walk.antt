@@ -1,43 +1,21 @@
--- No public contract cites this file. What a text says that is read as something, and what a walk over the rows or the `C` lines of a file
--- answers.
+-- No public contract cites this file. What a walk over the rows or the `C` lines of a file answers.
 use mathlib.Core.List.{List, [], ◌∷◌, map, reverse}
 use denote.Ref.{Bor}
-use Rattle.std.specs.Prelude.{◌≡◌, Bool, true, cond, ℕ, suc, ◌+◌, get_or, take, drop, Option, None, Some, Result, Ok, Err}
-use Rattle.matrix.specs.Outcomes.{Asked, ask, Outcome, value, refused}
-use Rattle.matrix.specs.Refusals.{refusal_number}
-use Rattle.matrix.specs.declared.refusal.Refusal.{Refusal}
-use Rattle.matrix.specs.declared.refusal.Refusal.TheVariants.{UnknownOrder}
+use Rattle.std.specs.Prelude.{◌≡◌, true, ℕ, suc, ◌+◌, take, drop, Result, Ok, Err, List}
+use Rattle.matrix_form.specs.Outcomes.{Outcome, value, refused}
+use Rattle.matrix_form.specs.Refusals.{refusal_number}
+use Rattle.matrix_form.specs.declared.refusal.Refusal.{Refusal}
 use Rattle.file_form.specs.declared.header.Header.{Header}
-use Rattle.file_form.specs.declared.header.Kind.{Kind}
-use Rattle.branching.specs.declared.order.Order.{Order}
-use Rattle.matrix_file.specs.declared.answer.Refused.{Refused}
-use Rattle.file_form.specs.Decimal.{number_of}
+use Rattle.file_form.specs.declared.answer.Refused.{Refused}
 use Rattle.file_form.specs.Job.{Job}
 use Rattle.file_form.specs.Lines.{lines_of, fields_of}
 use Rattle.file_form.specs.Rows.{name_in, ask_rows}
 use Rattle.file_form.specs.Branches.{branch_count, branch_form, ancestor_in, ask_branches}
-use Rattle.file_form.specs.Header.{header_of, kind_said, order_known, order_in}
+use Rattle.file_form.specs.Header.{header_of}
 use Rattle.file_form.specs.Reading.{ask_after}
 use Rattle.file_form.specs.Formed.{BranchesFormed}
 use Rattle.file_form.specs.Written.{padded}
-use Rattle.matrix_file.specs.Report.{with_header}
-
--- what a text, or the fields of a line, are read as, if they have the form
-abbrev pub read_as : {A B : Type 0} → (A → Bool) → (A → B) → A → Option B
-read_as form says a = cond (form a) (Some (says a)) None
-
--- the kind, n and m that the fields of line 1 say
-abbrev pub first_said : List (List ℕ) → Kind × ℕ × ℕ
-first_said fields = (kind_said (get_or fields 0 []), number_of (get_or fields 1 []), number_of (get_or fields 2 []))
-
--- a value, if questions pass
-abbrev pub with_value : {A : Type 0} → Asked → A → Result A Refusal
-with_value (Ok _) a = Ok a
-with_value (Err refusal) a = Err refusal
-
--- the word for the order that the fields of line 1 carry, if it is known
-abbrev pub order_asked : List (List ℕ) → Result (Option Order) Refusal
-order_asked fields = with_value (ask (order_known fields) UnknownOrder (Ok tt)) (order_in fields)
+use Rattle.file_form.specs.Report.{with_header}
 
 -- the name of a row's line, as it is written
 abbrev pub padded_in : List ℕ → List ℕ
@@ -47,20 +25,10 @@ padded_in line = padded (name_in line)
 abbrev pub names_passed : List (Bor (List ℕ)) → List (List ℕ)
 names_passed names = reverse (map (λ name. name.now) names)
 
--- an answer, with the line where it refuses
-abbrev pub at_line : {A : Type 0} → ℕ → Result A Refusal → Result A Refused
-at_line line (Ok a) = Ok a
-at_line line (Err refusal) = Err (record { refusal = refusal; line = line })
-
 -- what an answer with no value says in document 01's terms, of a file with this header
 abbrev pub passed_says : Header → Result (Unit {0}) Refused → Outcome Header
 passed_says header (Ok _) = value header
 passed_says header (Err r) = refused (refusal_number r.refusal) r.line
-
--- the first line of a text and what stands behind its line feed; without one the text is its only part
-abbrev pub FirstLine : List ℕ → Option (Bor (List ℕ) × Bor (List ℕ)) → Type 0
-FirstLine text None = lines_of text ≡ text ∷ []
-FirstLine text (Some parts) = lines_of text ≡ parts.0.now ∷ lines_of parts.1.now
 
 -- what a walk leaves of a text, or its refusal
 abbrev pub left_of : {E : Type 0} → Result (Bor (List ℕ)) E → Result (List ℕ) E

@@ -3,25 +3,28 @@
 ghost use Rattle.std.specs.Prelude.{◌≡◌, true, [], map, ◌*◌, ◌≤◌, length, get_or, take};
 ghost use Rattle.lists.specs.Filled.{filled};
 ghost use Rattle.lists.specs.Over.{over, stripes};
-ghost use Rattle.matrix.specs.Shape.{most_taxa};
-ghost use Rattle.branching.specs.Ancestors.{places, tree_with, ancestors};
-ghost use Rattle.branching.specs.Asking.{branches_size};
-ghost use Rattle.branching.specs.LentNumbers.{record_size, record_numbers};
+ghost use Rattle.matrix_form.specs.Shape.{most_taxa};
+ghost use Rattle.tree_form.specs.Ancestors.{places, tree_with};
+ghost use Rattle.branching.specs.Views.{ancestors};
+ghost use Rattle.tree_form.specs.Asking.{branches_size};
+ghost use Rattle.tree_form.specs.LentNumbers.{record_size, record_numbers};
 ghost use Rattle.file_form.specs.Decimal.{number_form, number_of};
 ghost use Rattle.file_form.specs.Lines.{lines_of, fields_of};
 ghost use Rattle.file_form.specs.Branches.{branch_count, branch_form, ancestor_in, ask_tree};
 ghost use Rattle.file_form.specs.Formed.{BranchesFormed, record_in};
 ghost use Rattle.matrix_file.specs.Walk.{behind_rows_most, left_of, BranchAsked, BranchesAsked};
 
-use crate::answer::{Refused, on_line};
-use crate::bytes::{field, first_line, separators};
-use crate::numbers::number;
-use branching::lent::record_count;
-use branching::numbers::RECORD;
-use branching::tree::{PLACES, Tree};
+use branching::tree::Tree;
+use file_form::answer::Refused;
 use file_form::header::Kind;
 use file_form::{LINE_FEED, TAB};
-use matrix::refusal::Refusal;
+use file_header::answer::on_line;
+use file_text::bytes::{field, first_line, separators};
+use file_text::numbers::number;
+use matrix_form::refusal::Refusal;
+use tree_form::tree::PLACES;
+use tree_records::lent::record_count;
+use tree_records::numbers::RECORD;
 
 // The field of a `C` line that says its node.
 const NODE: usize = 1;

@@ -2,27 +2,29 @@
 // Kept: no plainer, five functions of the crate ask for at most 64 taxa: as a ghost field of `Header` the definition `header_in`, which makes one of any lines, would owe it.
 // Kept: no plainer, a rest of the text goes on from call to call, and the number of its first line is wanted by those that refuse a line.
 ghost use Rattle.std.specs.Prelude.{◌≡◌, ◌≤◌, ◌<◌, length, [], ◌∷◌, not, drop};
-ghost use Rattle.matrix.specs.Shape.{most_taxa};
-ghost use Rattle.matrix.specs.Outcomes.{ask};
+ghost use Rattle.matrix_form.specs.Shape.{most_taxa};
+ghost use Rattle.matrix_form.specs.Outcomes.{ask};
 ghost use Rattle.file_form.specs.Job.{name_form, differs_from_all};
 ghost use Rattle.file_form.specs.Lines.{lines_of, fields_of};
 ghost use Rattle.file_form.specs.Header.{header_lines};
 ghost use Rattle.file_form.specs.Rows.{ask_codes, ask_row};
 ghost use Rattle.file_form.specs.Reading.{nothing_more, ask_length, ask_behind, read_answer};
-ghost use Rattle.matrix_file.specs.Report.{read_says, with_header};
+ghost use Rattle.file_form.specs.Report.{read_says, with_header};
 ghost use Rattle.matrix_file.specs.Walk.{behind_rows_most, names_passed, passed_says, left_of, RowsAsked, RestAsked};
 
-use crate::answer::{Refused, on_line};
+use crate::behind::behind_lines;
 use crate::branches::{ask_branches, ask_tree, branch_count};
-use crate::bytes::{behind_lines, first_line, first_part, in_name, separators};
-use crate::header::{ask_header, header_lines};
-use crate::numbers::code;
+use file_form::answer::Refused;
 use file_form::header::Header;
 use file_form::{MOST_BYTES, NAME_SIZE, TAB};
+use file_header::answer::on_line;
+use file_header::header::{ask_header, header_lines};
+use file_text::bytes::{first_line, first_part, in_name, separators};
+use file_text::numbers::code;
 use filled::Filled;
 use matrix::MOST_TAXA;
 use matrix::questions::in_range;
-use matrix::refusal::Refusal;
+use matrix_form::refusal::Refusal;
 
 // Whether a name is well formed.
 fn name_form(name: &[u8]) -> bool

@@ -1,13 +1,14 @@
 // Reading a matrix file.
 #![tactic(auto)]
 
-pub mod answer;
+use file_form::NAME_SIZE;
+use matrix::MOST_TAXA;
+
+mod behind;
 mod branches;
-mod bytes;
-mod header;
 mod judging;
-mod numbers;
-mod optional;
 pub mod reading;
-mod weights;
 mod writing;
+
+// The lent list has a name for each of 64 taxa.
+pub const NAMES_SIZE: usize = MOST_TAXA * NAME_SIZE;

@@ -1,22 +1,23 @@
 // Reading a file into a lent matrix and lent lists of weights, names and branch records.
 ghost use Rattle.std.specs.Prelude.{◌≡◌, true, length};
-ghost use Rattle.matrix.specs.Outcomes.{value};
+ghost use Rattle.matrix_form.specs.Outcomes.{value};
 ghost use Rattle.file_form.specs.Reading.{job_in, read_answer};
-ghost use Rattle.matrix_file.specs.Report.{with_header, full_size, ReadDone};
+ghost use Rattle.file_form.specs.Report.{with_header, full_size, ReadDone};
 ghost use Rattle.file_form.specs.Written.{lent, job_written};
 
-use crate::answer::Refused;
+use crate::NAMES_SIZE;
+use crate::behind::behind_lines;
 use crate::branches::{branch_count, write_branches};
-use crate::bytes::{behind_lines, behind_part};
-use crate::header::header_lines;
 use crate::judging::ask_file;
-use crate::weights::write_weights;
-use crate::writing::{write_matrix, write_names};
-use branching::numbers::LENT_NUMBERS;
+use crate::writing::{write_matrix, write_names, write_weights};
+use file_form::LINE_FEED;
+use file_form::answer::Refused;
 use file_form::header::Header;
-use file_form::{LINE_FEED, NAMES_SIZE};
-use matrix::refusal::Refusal;
+use file_header::header::header_lines;
+use file_text::bytes::behind_part;
 use matrix::{COLUMNS, MATRIX_SIZE};
+use matrix_form::refusal::Refusal;
+use tree_records::numbers::LENT_NUMBERS;
 
 // The lengths of the matrix, the weights, the names and the branches that are lent.
 const FULL_SIZES: [usize; 4] = [MATRIX_SIZE, COLUMNS, NAMES_SIZE, LENT_NUMBERS];

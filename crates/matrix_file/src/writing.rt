@@ -1,20 +1,24 @@
 // Writing what an accepted file says into the lent lists.
-ghost use Rattle.std.specs.Prelude.{◌≡◌, true, map, ◌*◌, ◌≤◌, length, take, drop};
+ghost use Rattle.std.specs.Prelude.{◌≡◌, true, ◌||◌, not, map, ◌*◌, ◌≤◌, length, take, drop};
 ghost use Rattle.lists.specs.Over.{over, stripes};
 ghost use Rattle.lists.specs.Tests.{every};
 ghost use Rattle.file_form.specs.Decimal.{code_form};
-ghost use Rattle.matrix.specs.Shape.{columns};
+ghost use Rattle.matrix_form.specs.Shape.{columns};
 ghost use Rattle.file_form.specs.Job.{name_size};
 ghost use Rattle.file_form.specs.Lines.{lines_of, fields_of};
+ghost use Rattle.file_form.specs.Optional.{optional_fields};
+ghost use Rattle.file_form.specs.Weights.{weights_form, weights_said};
 ghost use Rattle.file_form.specs.Rows.{codes_in};
 ghost use Rattle.file_form.specs.Formed.{RowsFormed};
 ghost use Rattle.matrix_file.specs.Walk.{padded_in};
 ghost use Rattle.file_form.specs.Written.{padded};
 
-use crate::bytes::first_part;
-use crate::numbers::code;
+use file_form::header::Header;
 use file_form::{LINE_FEED, NAME_SIZE, TAB};
-use matrix::COLUMNS;
+use file_header::weights::weight;
+use file_text::bytes::first_part;
+use file_text::numbers::code;
+use matrix::{COLUMNS, LIGHTEST};
 
 // Writes the codes of a row's line, behind its name, over the front of a list.
 fn write_codes(out: &mut [i32], line: &[u8])
@@ -46,6 +50,24 @@ pub(crate) fn write_matrix(matrix: &mut [i32], rows: &[u8], n: usize)
     for (i, line) in rows.split(|byte| *byte == LINE_FEED).take(n).enumerate() {
         // Kept: unproved, tried was `matrix.chunks_mut(COLUMNS).zip(..)`: behind it the check knows the list's length, and its elements stayed open.
         write_codes(&mut matrix[i * COLUMNS..], line);
+    }
+}
+
+// Writes the weights of the m characters over the front of a list: those of the line if it is there, else 1 for each.
+pub(crate) fn write_weights(weights: &mut [u8], text: &[u8], header: Header)
+    requires weights_formed { (not header.weighed || weights_form header.m (optional_fields (lines_of text.now))) ≡ true }
+    requires room { header.m ≤ length weights.old }
+    ensures { weights.new
+        ≡ over 0 (weights_said header.weighed header.m (optional_fields (lines_of text.now))) weights.old }
+{
+    if !header.weighed {
+        weights[..header.m].fill(LIGHTEST);
+        return;
+    }
+    let line = first_part(text, LINE_FEED);
+    // Kept: unproved, as `write_codes`, with `weights.iter_mut()`.
+    for (j, field) in line.split(|byte| *byte == TAB).skip(1).enumerate() {
+        weights[j] = weight(field).unwrap_or(LIGHTEST);
     }
 }
 

@@ -7,10 +7,10 @@ use native.Mathlib.Nat.{zero-add}
 use native.Mathlib.Omega.{arith}
 use lib.ListN.{length, get_or, take, drop}
 use Rattle.lists.specs.Numbers.{numbers}
-use Rattle.matrix.specs.Outcomes.{ask, Outcome, value}
-use Rattle.matrix.specs.declared.refusal.Refusal.TheVariants.{BranchForm}
+use Rattle.matrix_form.specs.Outcomes.{ask, Outcome, value}
+use Rattle.matrix_form.specs.declared.refusal.Refusal.TheVariants.{BranchForm}
 use Rattle.std.specs.Prelude.{Ok}
-use Rattle.matrix.proofs.Passing.{ask_passed}
+use Rattle.matrix_form.proofs.Passing.{ask_passed}
 use Rattle.file_form.specs.Bytes.{tab, joined_by}
 use Rattle.file_form.specs.Decimal.{digits_of}
 use Rattle.file_form.specs.Lines.{fields_of}

@@ -10,12 +10,12 @@ use Rattle.lists.specs.Numbers.{numbers}
 use Rattle.lists.specs.Tests.{every, same_numbers as same_text}
 use Rattle.lists.proofs.Both.{and_both}
 use Rattle.lists.proofs.Every.{every-cons}
-use Rattle.matrix.specs.Outcomes.{Outcome}
-use Rattle.branching.specs.Ancestors.{ancestor, tree_with}
-use Rattle.branching.specs.Growing.{branching}
-use Rattle.branching.specs.LentNumbers.{record_numbers}
-use Rattle.branching.proofs.Test.{branching_iff}
-use Rattle.branching.proofs.Whole.{growing_ancestor_le}
+use Rattle.matrix_form.specs.Outcomes.{Outcome}
+use Rattle.tree_form.specs.Ancestors.{ancestor, tree_with}
+use Rattle.tree_form.specs.Growing.{branching}
+use Rattle.tree_form.specs.LentNumbers.{record_numbers}
+use Rattle.tree_form.proofs.Test.{branching_iff}
+use Rattle.tree_form.proofs.Whole.{growing_ancestor_le}
 use Rattle.file_form.specs.Bytes.{line_feed, word_c}
 use Rattle.file_form.specs.Decimal.{digits_of, number_of}
 use Rattle.file_form.specs.Lines.{fields_of}

@@ -7,7 +7,7 @@ use native.Mathlib.Omega.{arith}
 use lib.Dec.{leb, eqb}
 use lib.IntN.{ℤ, pos, negsuc, neg_ℤ}
 use borrow.Author.Tests.{le-leb, leb-true, ne_eqb, eqb-true}
-use Rattle.matrix.specs.Shape.{in_range}
+use Rattle.matrix_form.specs.Shape.{in_range}
 use Rattle.lists.specs.Tests.{every}
 use Rattle.file_form.specs.Bytes.{minus, is_digit}
 use Rattle.file_form.specs.Decimal.{digits_of, decimal, number_form, number_of, code_form, code_of}

@@ -3,13 +3,13 @@ use mathlib.Core.Path.{◌≡◌, subst⁻¹}
 use mathlib.Core.List.{List}
 use mathlib.Core.Logic.{◌↔◌}
 use Prim.Native.Nat.{ℕ}
-use Rattle.matrix.specs.Outcomes.{value}
+use Rattle.matrix_form.specs.Outcomes.{value}
 use Rattle.file_form.specs.Job.{Job, JobWithinLimits, file_of}
 use Rattle.file_form.specs.Reading.{read_answer}
 use Rattle.file_form.proofs.File.ReadOfFile.{read_of_file}
 use Rattle.file_form.proofs.File.FileOfRead.{file_of_read}
 
--- read with a job, exactly if the job is within the limits and the file is its file
+-- a file is accepted with a job exactly if the job is within the limits and the file is the job's file
 pub accepted_exactly : (file : List ℕ) (job : Job) → (read_answer file ≡ value job) ↔ (JobWithinLimits job × (file ≡ file_of job))
 accepted_exactly file job = (
   λ read. let found = file_of_read file job read in (found.0, found.1),

@@ -7,8 +7,8 @@ use native.Mathlib.Omega.{arith}
 use lib.ListN.{length, take, drop, length-append, length-drop}
 use Rattle.lists.specs.Numbers.{numbers}
 use Rattle.lists.specs.Tests.{every}
-use Rattle.matrix.specs.Outcomes.{value}
-use Rattle.branching.specs.LentNumbers.{records_for}
+use Rattle.matrix_form.specs.Outcomes.{value}
+use Rattle.tree_form.specs.LentNumbers.{records_for}
 use Rattle.file_form.specs.Bytes.{line_feed, behind_part}
 use Rattle.file_form.specs.Job.{Job}
 use Rattle.file_form.specs.Lines.{lines_of}

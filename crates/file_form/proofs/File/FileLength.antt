@@ -9,16 +9,16 @@ use lib.Dec.{leb}
 use lib.IntN.{ℤ, pos, negsuc}
 use lib.ListN.{length, length-append, get_or-eq_default}
 use borrow.Author.Tests.{leb-true, eqb-true}
-use Rattle.matrix.specs.Shape.{in_range}
+use Rattle.matrix_form.specs.Shape.{in_range}
 use Rattle.lists.specs.Numbers.{numbers}
-use Rattle.matrix.specs.Questions.{one_to, within_limits, all_in_range}
-use Rattle.matrix.proofs.Passing.{one_to-true}
+use Rattle.matrix_form.specs.Questions.{one_to, within_limits, all_in_range}
+use Rattle.matrix_form.proofs.Passing.{one_to-true}
 use Rattle.lists.specs.Tests.{every}
 use Rattle.file_form.specs.declared.header.Kind.{Kind}
 use Rattle.file_form.specs.declared.header.Kind.TheVariants.{Wagner, Own}
 use Rattle.std.specs.Prelude.{Option, None, Some}
-use Rattle.branching.specs.declared.order.Order.{Order}
-use Rattle.branching.specs.declared.order.Order.TheVariants.{Advance, Closest}
+use Rattle.tree_form.specs.declared.order.Order.{Order}
+use Rattle.tree_form.specs.declared.order.Order.TheVariants.{Advance, Closest}
 use Rattle.file_form.specs.Bytes.{tab, is_letter, joined_by}
 use Rattle.file_form.specs.Decimal.{digits_of, decimal}
 use Rattle.file_form.specs.Optional.{optional_line}

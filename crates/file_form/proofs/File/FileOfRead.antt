@@ -9,11 +9,11 @@ use lib.ListN.{length, length-map, get_or, take, drop, take-append-drop}
 use Rattle.lists.specs.Tests.{every, same_numbers as same_text}
 use Rattle.lists.proofs.Both.{and_right}
 use Rattle.lists.specs.Numbers.{numbers}
-use Rattle.matrix.specs.Outcomes.{value, on_line}
-use Rattle.matrix.specs.Questions.{within_limits}
-use Rattle.matrix.specs.declared.refusal.Refusal.TheVariants.{FileTooLong, FileGoesOn, NotBranching}
+use Rattle.matrix_form.specs.Outcomes.{value, on_line}
+use Rattle.matrix_form.specs.Questions.{within_limits}
+use Rattle.matrix_form.specs.declared.refusal.Refusal.TheVariants.{FileTooLong, FileGoesOn, NotBranching}
 use Rattle.std.specs.Prelude.{Ok}
-use Rattle.matrix.proofs.Passing.{ask_passed}
+use Rattle.matrix_form.proofs.Passing.{ask_passed}
 use Rattle.file_form.specs.declared.header.Header.{Header}
 use Rattle.file_form.specs.Bytes.{line_feed, joined_by}
 use Rattle.file_form.specs.Optional.{optional_there, optional_fields, lines_taken, optional_line, letter_free}

@@ -9,11 +9,11 @@ use borrow.Author.Tests.{le-leb}
 use lib.ListN.{length, get_or, drop, length-drop, drop_of_length-le}
 use Rattle.lists.specs.Tests.{every, same_numbers as same_text}
 use Rattle.lists.proofs.Both.{and_both}
-use Rattle.matrix.specs.Outcomes.{value}
-use Rattle.matrix.specs.Questions.{within_limits}
-use Rattle.matrix.specs.declared.refusal.Refusal.TheVariants.{FirstLine, UnknownOrder, BeyondLimits, WeightForm}
+use Rattle.matrix_form.specs.Outcomes.{value}
+use Rattle.matrix_form.specs.Questions.{within_limits}
+use Rattle.matrix_form.specs.declared.refusal.Refusal.TheVariants.{FirstLine, UnknownOrder, BeyondLimits, WeightForm}
 use Rattle.std.specs.Prelude.{Ok}
-use Rattle.matrix.proofs.Passing.{ask_passed}
+use Rattle.matrix_form.proofs.Passing.{ask_passed}
 use Rattle.file_form.specs.declared.header.Header.{Header}
 use Rattle.file_form.specs.Bytes.{tab, line_feed, joined_by}
 use Rattle.file_form.specs.Decimal.{digits_of}
@@ -21,7 +21,7 @@ use Rattle.file_form.specs.Job.{Job, kind_word, order_fields, first_text}
 use Rattle.file_form.specs.declared.header.Kind.{Kind}
 use Rattle.file_form.specs.declared.header.Kind.TheVariants.{Wagner, Own}
 use Rattle.std.specs.Prelude.{Option, None}
-use Rattle.branching.specs.declared.order.Order.{Order}
+use Rattle.tree_form.specs.declared.order.Order.{Order}
 use Rattle.file_form.specs.Lines.{fields_of}
 use Rattle.file_form.specs.Optional.{optional_there, optional_fields, lines_taken, optional_line}
 use Rattle.file_form.specs.Weights.{letter_v, weights_form}

@@ -10,15 +10,15 @@ use lib.ListN.{length, drop}
 use Rattle.lists.specs.Tests.{every, among}
 use Rattle.lists.proofs.Both.{or_cases}
 use Rattle.lists.proofs.Every.{every-head, every-tail}
-use Rattle.matrix.specs.Refusals.{refusal_number}
-use Rattle.matrix.specs.Shape.{in_range}
-use Rattle.matrix.specs.Outcomes.{ask, Outcome, value, refused, on_line, then_with}
-use Rattle.matrix.specs.Questions.{within_limits}
-use Rattle.matrix.specs.declared.refusal.Refusal.TheVariants.{FileTooLong, FileEmpty, FirstLine, BeyondLimits, NameForm, NameTaken}
-use Rattle.matrix.specs.declared.refusal.Refusal.TheVariants.{LineMissing, FieldCount, CodeForm, CodeRange, FileGoesOn}
-use Rattle.matrix.specs.declared.refusal.Refusal.TheVariants.{UnknownOrder, WeightForm, BranchForm, NotBranching}
-use Rattle.matrix.specs.declared.refusal.Refusal.{Refusal}
-use Rattle.matrix.specs.Outcomes.{Asked}
+use Rattle.matrix_form.specs.Refusals.{refusal_number}
+use Rattle.matrix_form.specs.Shape.{in_range}
+use Rattle.matrix_form.specs.Outcomes.{ask, Outcome, value, refused, on_line, then_with}
+use Rattle.matrix_form.specs.Questions.{within_limits}
+use Rattle.matrix_form.specs.declared.refusal.Refusal.TheVariants.{FileTooLong, FileEmpty, FirstLine, BeyondLimits, NameForm, NameTaken}
+use Rattle.matrix_form.specs.declared.refusal.Refusal.TheVariants.{LineMissing, FieldCount, CodeForm, CodeRange, FileGoesOn}
+use Rattle.matrix_form.specs.declared.refusal.Refusal.TheVariants.{UnknownOrder, WeightForm, BranchForm, NotBranching}
+use Rattle.matrix_form.specs.declared.refusal.Refusal.{Refusal}
+use Rattle.matrix_form.specs.Outcomes.{Asked}
 use Rattle.std.specs.Prelude.{Ok, Err}
 use Rattle.file_form.specs.declared.header.Header.{Header}
 use Rattle.file_form.specs.Decimal.{code_form, code_of}

@@ -10,9 +10,9 @@ use lib.ListN.{length, get_or, drop}
 use Rattle.lists.specs.Tests.{every, same_numbers as same_text}
 use Rattle.lists.proofs.Both.{and_left, and_right}
 use Rattle.lists.proofs.Every.{every-cons, same_numbers_iff}
-use Rattle.matrix.specs.declared.refusal.Refusal.{Refusal}
+use Rattle.matrix_form.specs.declared.refusal.Refusal.{Refusal}
 use Rattle.std.specs.Prelude.{Ok}
-use Rattle.matrix.proofs.Passing.{ask_passed}
+use Rattle.matrix_form.proofs.Passing.{ask_passed}
 use Rattle.file_form.specs.Bytes.{tab, line_feed, joined_by}
 use Rattle.file_form.specs.Lines.{fields_of}
 use Rattle.file_form.specs.Optional.{optional_there, optional_fields, ask_optional, lines_taken, optional_line}

@@ -11,8 +11,8 @@ use Rattle.std.specs.Prelude.{Option, None, Some, is_some}
 use Rattle.lists.specs.Tests.{every, same_numbers as same_text}
 use Rattle.lists.proofs.Both.{or_cases}
 use Rattle.lists.proofs.Every.{every-head, same_numbers_iff}
-use Rattle.branching.specs.declared.order.Order.{Order}
-use Rattle.branching.specs.declared.order.Order.TheVariants.{Advance, Closest}
+use Rattle.tree_form.specs.declared.order.Order.{Order}
+use Rattle.tree_form.specs.declared.order.Order.TheVariants.{Advance, Closest}
 use Rattle.file_form.specs.Bytes.{word_advance, word_closest}
 use Rattle.file_form.specs.Job.{order_fields}
 use Rattle.file_form.specs.Header.{order_word, order_said, order_in, is_order, order_known}

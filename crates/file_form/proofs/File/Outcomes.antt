@@ -2,8 +2,8 @@
 use mathlib.Core.Path.{◌≡◌, refl}
 use Prim.Native.Nat.{ℕ}
 use native.Mathlib.Omega.{arith}
-use Rattle.matrix.specs.Outcomes.{Outcome, value, refused, on_line, then_with}
-use Rattle.matrix.specs.Outcomes.{Asked}
+use Rattle.matrix_form.specs.Outcomes.{Outcome, value, refused, on_line, then_with}
+use Rattle.matrix_form.specs.Outcomes.{Asked}
 use Rattle.std.specs.Prelude.{Ok, Err}
 
 module _ {A : Type 0} where

@@ -10,16 +10,16 @@ use lib.Seq.{take_at, drop_at}
 use borrow.Author.Tests.{le-leb, not-true}
 use Rattle.lists.specs.Tests.{every, same_numbers as same_text}
 use Rattle.lists.proofs.Every.{every-cons, every_append}
-use Rattle.matrix.specs.Shape.{is_weight}
+use Rattle.matrix_form.specs.Shape.{is_weight}
 use Rattle.lists.specs.Numbers.{numbers}
 use Rattle.lists.proofs.Numbers.{length-numbers}
 use Rattle.lists.proofs.Maps.{length_zip}
 use Rattle.lists.proofs.Both.{and_left}
-use Rattle.matrix.specs.Questions.{one_to, within_limits}
-use Rattle.matrix.specs.Outcomes.{value, on_line, then_with}
-use Rattle.matrix.proofs.Passing.{one_to-true}
+use Rattle.matrix_form.specs.Questions.{one_to, within_limits}
+use Rattle.matrix_form.specs.Outcomes.{value, on_line, then_with}
+use Rattle.matrix_form.proofs.Passing.{one_to-true}
 use Rattle.file_form.specs.Bytes.{line_feed, parts_at}
-use Rattle.matrix.specs.declared.refusal.Refusal.TheVariants.{WeightForm}
+use Rattle.matrix_form.specs.declared.refusal.Refusal.TheVariants.{WeightForm}
 use Rattle.std.specs.Prelude.{Ok}
 use Rattle.file_form.specs.Optional.{optional_there, optional_fields, optional_line, letter_free}
 use Rattle.file_form.specs.Weights.{letter_v, weight_in, weight_text, weights_form, weights_said}

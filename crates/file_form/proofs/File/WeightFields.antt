@@ -11,7 +11,7 @@ use lib.ListN.{length, length-map, replicate, length-replicate}
 use Rattle.lists.specs.Tests.{every}
 use Rattle.lists.proofs.Both.{and_left, and_right, and_both}
 use Rattle.lists.proofs.Every.{every-head, every-tail}
-use Rattle.matrix.specs.Shape.{heaviest, is_weight}
+use Rattle.matrix_form.specs.Shape.{heaviest, is_weight}
 use Rattle.file_form.specs.Bytes.{line_feed}
 use Rattle.file_form.specs.Decimal.{zero_digit}
 use Rattle.file_form.specs.Weights.{letter_v, weight_form, weight_in, weight_text, weights_form, weights_said}

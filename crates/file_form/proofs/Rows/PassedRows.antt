@@ -8,11 +8,11 @@ use lib.Dec.{eqb}
 use lib.ListN.{length, length-map, take, drop}
 use borrow.Author.Tests.{eq-eqb, eqb-true, le-leb}
 use Rattle.lists.specs.Tests.{every}
-use Rattle.matrix.specs.Shape.{in_range}
-use Rattle.matrix.specs.Questions.{all_in_range, one_to, within_limits}
-use Rattle.matrix.specs.declared.refusal.Refusal.TheVariants.{NameForm, NameTaken, FieldCount, CodeForm, CodeRange}
+use Rattle.matrix_form.specs.Shape.{in_range}
+use Rattle.matrix_form.specs.Questions.{all_in_range, one_to, within_limits}
+use Rattle.matrix_form.specs.declared.refusal.Refusal.TheVariants.{NameForm, NameTaken, FieldCount, CodeForm, CodeRange}
 use Rattle.std.specs.Prelude.{Ok}
-use Rattle.matrix.specs.Outcomes.{Outcome, value}
+use Rattle.matrix_form.specs.Outcomes.{Outcome, value}
 use Rattle.file_form.specs.declared.header.Header.{Header}
 use Rattle.file_form.specs.Bytes.{tab, joined_by}
 use Rattle.file_form.specs.Decimal.{decimal, code_form, code_of}
@@ -23,7 +23,7 @@ use Rattle.lists.proofs.Both.{and_right, and_both}
 use Rattle.file_form.proofs.Text.Parts.{parts_some, joined_parts}
 use Rattle.file_form.proofs.Decimal.Codes.{decimal_of_code}
 use Rattle.file_form.proofs.Rows.Within.{RowWithin, RowsWithin, rows_none, rows_more}
-use Rattle.matrix.proofs.Passing.{ask_passed, one_to-true}
+use Rattle.matrix_form.proofs.Passing.{ask_passed, one_to-true}
 use Rattle.file_form.specs.Formed.{row_form}
 use Rattle.file_form.proofs.File.Outcomes.{line_passed, not-refused}
 

@@ -6,10 +6,10 @@ use Prim.Native.Nat.{ℕ, ◌≤◌}
 use native.Mathlib.Omega.{arith}
 use lib.IntN.{ℤ}
 use lib.ListN.{length}
-use Rattle.matrix.specs.Questions.{all_in_range, one_to, within_limits}
+use Rattle.matrix_form.specs.Questions.{all_in_range, one_to, within_limits}
 use Rattle.lists.specs.Tests.{every}
 use Rattle.file_form.specs.Job.{Job, name_form, differs_from_all, all_differ, has_codes, JobWithinLimits}
-use Rattle.matrix.proofs.Passing.{one_to-true}
+use Rattle.matrix_form.proofs.Passing.{one_to-true}
 use Rattle.lists.proofs.Both.{and_left, and_right, and_both}
 use Rattle.lists.proofs.Every.{every-head, every-tail, every-cons}
 use Rattle.file_form.proofs.Rows.Names.{apart_from, apart_more, apart_fewer, apart_none}

@@ -7,10 +7,10 @@ use native.Mathlib.Omega.{arith}
 use lib.IntN.{ℤ}
 use lib.ListN.{length, length-map}
 use borrow.Author.Tests.{eq-eqb, eqb-true}
-use Rattle.matrix.specs.Shape.{in_range}
-use Rattle.matrix.specs.Questions.{all_in_range}
+use Rattle.matrix_form.specs.Shape.{in_range}
+use Rattle.matrix_form.specs.Questions.{all_in_range}
 use Rattle.std.specs.Prelude.{Ok}
-use Rattle.matrix.specs.Outcomes.{Outcome}
+use Rattle.matrix_form.specs.Outcomes.{Outcome}
 use Rattle.file_form.specs.declared.header.Header.{Header}
 use Rattle.lists.specs.Tests.{every}
 use Rattle.file_form.specs.Bytes.{line_feed}

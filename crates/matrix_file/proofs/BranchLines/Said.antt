@@ -6,14 +6,14 @@ use native.Mathlib.Omega.{arith}
 use lib.ListN.{length, get_or, take, set, length-set, length-take, length-map}
 use lib.Seq.{take_all}
 use Rattle.lists.specs.Filled.{filled}
-use Rattle.branching.specs.Ancestors.{tree_with}
-use Rattle.branching.proofs.Lending.{places-next}
+use Rattle.tree_form.specs.Ancestors.{tree_with}
+use Rattle.tree_form.proofs.Lending.{places-next}
 use Rattle.file_form.specs.Bytes.{parts_at}
 use Rattle.file_form.specs.Decimal.{number_from, number_of}
 use Rattle.file_form.specs.Lines.{lines_of, fields_of}
 use Rattle.file_form.specs.Branches.{branch_form, ancestor_in}
 use Rattle.file_form.specs.Formed.{BranchesFormed}
-use Rattle.matrix_file.proofs.Lists.LinesSplit.{says_at, says_count}
+use Rattle.file_text.proofs.LinesSplit.{says_at, says_count}
 use Rattle.file_form.proofs.BranchLines.Form.{BranchFormed, form_tells}
 
 -- the ancestors that the first `count` lines of a text say

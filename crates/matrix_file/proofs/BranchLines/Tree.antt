@@ -7,14 +7,14 @@ use native.Mathlib.Nat.{min-eq_left}
 use native.Mathlib.Omega.{arith}
 use Rattle.lists.specs.Filled.{filled}
 use Rattle.lists.proofs.Filled.{filled_at}
-use Rattle.matrix.specs.Outcomes.{ask}
-use Rattle.matrix.specs.declared.refusal.Refusal.TheVariants.{NotBranching}
+use Rattle.matrix_form.specs.Outcomes.{ask}
+use Rattle.matrix_form.specs.declared.refusal.Refusal.TheVariants.{NotBranching}
 use Rattle.std.specs.Prelude.{Ok, Err}
-use Rattle.branching.specs.Ancestors.{ancestor, tree_with}
-use Rattle.branching.specs.Growing.{branching}
-use Rattle.branching.specs.Within.{branching_within}
-use Rattle.branching.proofs.Within.{branching-plain}
-use Rattle.branching.proofs.Lending.{branching-same}
+use Rattle.tree_form.specs.Ancestors.{ancestor, tree_with}
+use Rattle.tree_form.specs.Growing.{branching}
+use Rattle.tree_form.specs.Within.{branching_within}
+use Rattle.tree_form.proofs.Within.{branching-plain}
+use Rattle.tree_form.proofs.Lending.{branching-same}
 use Rattle.file_form.specs.declared.header.Kind.{Kind}
 use Rattle.file_form.specs.declared.header.Kind.TheVariants.{Wagner, Own}
 use Rattle.file_form.specs.Branches.{branch_count, branched, ask_tree}

@@ -7,15 +7,16 @@ use Prim.Native.Nat.{ℕ, suc, ◌+◌, ◌-◌, ◌≤◌, ◌<◌}
 use native.Mathlib.Decide.{dec_le}
 use native.Mathlib.Nat.{add-zero, sub-zero}
 use native.Mathlib.Omega.{arith}
+use denote.Ref.{Bor}
 use lib.Dec.{eqb}
 use lib.ListN.{length, get_or, drop, length-drop}
 use Rattle.std.specs.Prelude.{Option, None, Some, Result, Ok, Err}
 use Rattle.std.specs.Option.{option_eq}
 use Rattle.lists.specs.Tests.{same_numbers as same_text}
-use Rattle.matrix.specs.Refusals.{refusal_number}
-use Rattle.matrix.specs.Outcomes.{ask, Outcome, refused, on_line}
-use Rattle.matrix.specs.declared.refusal.Refusal.{Refusal}
-use Rattle.matrix.specs.declared.refusal.Refusal.TheVariants.{BranchForm}
+use Rattle.matrix_form.specs.Refusals.{refusal_number}
+use Rattle.matrix_form.specs.Outcomes.{ask, Outcome, refused, on_line}
+use Rattle.matrix_form.specs.declared.refusal.Refusal.{Refusal}
+use Rattle.matrix_form.specs.declared.refusal.Refusal.TheVariants.{BranchForm}
 use Rattle.file_form.specs.Bytes.{line_feed, word_c}
 use Rattle.file_form.specs.Decimal.{number_form, number_of}
 use Rattle.file_form.specs.Job.{Job}
@@ -23,8 +24,10 @@ use Rattle.file_form.specs.Lines.{lines_of, fields_of}
 use Rattle.file_form.specs.Branches.{branch_form, ask_branches}
 use Rattle.file_form.proofs.Text.Parts.{parts_some}
 use Rattle.file_form.proofs.BranchLines.Form.{node_decides}
-use Rattle.matrix_file.specs.declared.answer.Refused.{Refused}
-use Rattle.matrix_file.specs.Walk.{read_as, at_line, line_says, BranchAsked, BranchesAsked}
+use Rattle.file_form.specs.declared.answer.Refused.{Refused}
+use Rattle.matrix_file.specs.Walk.{left_of, line_says, BranchAsked, BranchesAsked}
+use Rattle.file_header.specs.Answered.{at_line}
+use Rattle.file_text.specs.Text.{read_as}
 use Rattle.matrix_file.proofs.Lists.LinesBehind.{rest_at, rest-next}
 
 -- the second field tells the node, where the others are right
@@ -40,6 +43,11 @@ node_told v fields three word third field r f e =
     by : (b : Bool) → option_eq eqb (cond b (Some (number_of field)) None) (Some v) ≡ b && eqb (number_of field) v
     by true = refl
     by false = refl
+
+-- what an answer leaves of a text does not depend on the line
+pub at_left : (line : ℕ) (r : Result (Bor (List ℕ)) Refusal) → at_line line (left_of r) ≡ left_of (at_line line r)
+at_left line (Ok rest) = refl
+at_left line (Err refusal) = refl
 
 -- of a text's lines there is always one
 pub lines_some : (text : List ℕ) → lines_of text ≡ (parts_some line_feed text).0 ∷ (parts_some line_feed text).1

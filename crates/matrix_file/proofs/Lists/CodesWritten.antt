@@ -14,15 +14,15 @@ use Rattle.file_form.specs.Bytes.{tab}
 use Rattle.file_form.proofs.Text.Slices.{parts_split}
 use Rattle.std.specs.List.{enumerate_from, slice_split}
 use Rattle.std.proofs.lemmas.List.FromFn.{length-enumerate_from}
-use Rattle.matrix_file.proofs.Lists.LinesSplit.{part_turn}
+use Rattle.file_text.proofs.LinesSplit.{part_turn}
 use Rattle.file_form.specs.Decimal.{code_form, code_of}
 use Rattle.file_form.specs.Lines.{fields_of}
 use Rattle.file_form.specs.Rows.{codes_in}
 use Rattle.lists.specs.Over.{over}
 use Rattle.lists.specs.Tests.{every}
 use Rattle.lists.proofs.Every.{every_at}
-use Rattle.matrix_file.specs.Walk.{read_as}
-use Rattle.matrix_file.proofs.ReadAs.{read_formed}
+use Rattle.file_text.specs.Text.{read_as}
+use Rattle.file_text.proofs.ReadAs.{read_formed}
 use Rattle.matrix_file.proofs.Lists.WrittenLines.{over-next, over-all}
 
 -- the parts of a line behind the first one, as a loop goes over them

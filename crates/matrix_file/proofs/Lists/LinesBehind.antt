@@ -1,5 +1,5 @@
--- The lines of a text: the first and those behind it, and what lines of the right form are made of.
-use mathlib.Core.Path.{◌≡◌, sym, ap, ap₂, ◌∙◌}
+-- The lines behind one of a text, and what a row's line of the right form is made of.
+use mathlib.Core.Path.{◌≡◌, sym, ap, ◌∙◌}
 use mathlib.Core.List.{List, [], ◌∷◌}
 use mathlib.Core.Bool.{true, ◌&&◌}
 use Prim.Native.Nat.{ℕ, ◌+◌, ◌≤◌, ◌<◌}
@@ -10,7 +10,6 @@ use lib.Dec.{leb}
 use lib.ListN.{length, get_or, take, drop, length-take, length-drop}
 use lib.Seq.{drop-cons, get_or-take}
 use Rattle.lists.specs.Tests.{every}
-use Rattle.file_form.specs.Bytes.{line_feed, parts_at, part_length, first_part}
 use Rattle.file_form.specs.Decimal.{code_form}
 use Rattle.file_form.specs.Job.{name_form}
 use Rattle.file_form.specs.Lines.{lines_of, fields_of}
@@ -18,8 +17,6 @@ use Rattle.file_form.specs.Rows.{name_in}
 use Rattle.file_form.specs.Formed.{row_form, RowsFormed}
 use Rattle.lists.proofs.Both.{and_left, and_right}
 use Rattle.lists.proofs.Every.{every_at}
-use Rattle.file_form.proofs.Text.FirstPart.{parts_one, parts_more, part-within, first-length}
-use Rattle.file_form.proofs.Text.PartWalk.{behind}
 
 -- a list whose rest from j on begins with x: x stands at j, and the others behind it
 module _ {A : Type 0} (xs : List A) (j : ℕ) (x : A) (others : List A) (e : drop j xs ≡ x ∷ others) where
@@ -54,20 +51,6 @@ row-formed line e =
       named = and_left (name_form (name_in line)) _ rest;
       coded = and_right (name_form (name_in line)) _ rest;
     }
-
--- a text whose first line is the whole of it has no other
-pub only_line : (text line : List ℕ) → line ≡ first_part line_feed text → length line ≡ length text → lines_of text ≡ text ∷ []
-unfolding lines_of
-only_line text line l e = parts_one line_feed text (sym (ap length l ∙ first-length line_feed text) ∙ e)
-
--- any other text has its first line, and those behind it
-pub ended_line : (text line : List ℕ) → line ≡ first_part line_feed text → (length line ≡ length text → ⊥) → (rest : List ℕ)
-    → rest ≡ drop (length line + 1) text → lines_of text ≡ line ∷ lines_of rest
-unfolding lines_of
-ended_line text line l h rest r =
-    let size : length line ≡ part_length line_feed text = ap length l ∙ first-length line_feed text in
-    parts_more line_feed text (omega (arith, size, h, part-within line_feed text))
-    ∙ ap₂ (λ x xs. x ∷ parts_at line_feed xs) (sym l) (sym (behind line_feed (length line) text rest size r))
 
 -- a line of rows that are well formed is one
 pub line-formed : (rows line : List ℕ) (n i : ℕ) → RowsFormed n rows → i < n → line ≡ get_or (lines_of rows) i [] → RowFormed line

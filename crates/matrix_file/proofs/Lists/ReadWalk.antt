@@ -1,21 +1,19 @@
 -- A read into lent lists, step by step: lists of wrong size, a refused file, and an accepted one that is written.
 use mathlib.Core.Path.{◌≡◌, refl, sym, ap, ap₂, ◌∙◌}
 use mathlib.Core.Logic.Iff
-use mathlib.Core.Bool.{Bool, true, false, ◌&&◌, ◌||◌, not, and-true}
+use mathlib.Core.Bool.{true, false, ◌||◌, not}
 use mathlib.Core.List.{List, map, map-map}
 use Prim.Native.Nat.{ℕ, ◌≤◌, ◌<◌}
 use native.Mathlib.Omega.{arith}
-use borrow.Author.Tests.{eq-eqb, eqb-true}
-use lib.Dec.{eqb}
 use lib.ListN.{length, take, drop}
-use Rattle.lists.proofs.Both.{and_left, and_right, implies_iff}
-use Rattle.matrix.specs.Shape.{columns, matrix_size}
-use Rattle.matrix.specs.Refusals.{refusal_number}
-use Rattle.matrix.specs.Outcomes.{value, refused, afterwards}
-use Rattle.matrix.specs.declared.refusal.Refusal.TheVariants.{ListSize}
+use Rattle.lists.proofs.Both.{implies_iff}
+use Rattle.matrix_form.specs.Shape.{columns}
+use Rattle.matrix_form.specs.Refusals.{refusal_number}
+use Rattle.matrix_form.specs.Outcomes.{value, refused, afterwards}
+use Rattle.matrix_form.specs.declared.refusal.Refusal.TheVariants.{ListSize}
 use Rattle.file_form.specs.declared.header.Header.{Header}
 use Rattle.std.specs.Prelude.{Result, Ok, Err}
-use Rattle.matrix_file.specs.declared.answer.Refused.{Refused}
+use Rattle.file_form.specs.declared.answer.Refused.{Refused}
 use Rattle.file_form.specs.Bytes.{line_feed, behind_part}
 use Rattle.file_form.specs.Job.{Job}
 use Rattle.file_form.specs.Lines.{lines_of}
@@ -23,65 +21,22 @@ use Rattle.file_form.specs.Optional.{optional_fields}
 use Rattle.file_form.specs.Weights.{weights_form, weights_said}
 use Rattle.file_form.specs.Header.{header_in, header_of, header_lines, behind_header}
 use Rattle.file_form.specs.Rows.{name_in, codes_in}
-use Rattle.branching.specs.LentNumbers.{lent_numbers, records_for}
+use Rattle.tree_form.specs.LentNumbers.{records_for}
 use Rattle.file_form.specs.Branches.{branch_count}
 use Rattle.file_form.specs.Reading.{read_answer, job_in}
-use Rattle.matrix_file.specs.Report.{read_says, with_header, full_size, ask_size, read_outcome, lists_after, ReadDone}
+use Rattle.file_form.proofs.Lists.Sizes.{sized, full}
+use Rattle.file_form.specs.Report.{read_says, with_header, ask_size, read_outcome, lists_after, ReadDone}
 use Rattle.file_form.specs.Formed.{RowsFormed, BranchesFormed, record_in}
 use Rattle.matrix_file.specs.Walk.{padded_in}
-use Rattle.file_form.specs.Written.{names_size, padded, LentLists, job_written}
+use Rattle.file_form.specs.Written.{padded, LentLists, job_written}
 use Rattle.file_form.proofs.File.Outcomes.{then_passed, then_refused}
 use Rattle.file_form.proofs.File.AcceptedRows.{accepted_job, accepted_most, accepted_behind, accepted_header, accepted_weights}
 use Rattle.file_form.proofs.File.AcceptedRows.{accepted_text, accepted_fields, accepted_formed, accepted_codes, accepted_names}
 use Rattle.file_form.proofs.File.AcceptedRows.{accepted_branches, accepted_records}
 use Rattle.file_form.proofs.File.FileLength.{count_most}
 
--- lent lists of full size, by their lengths
-module _ (matrix weights names branches : ℕ) where
-  -- whether one has another length, as the lengths are compared together
-  pub sizes_told : (other : Bool)
-      → other ≡ not (eqb matrix matrix_size && (eqb weights columns && (eqb names names_size && (eqb branches lent_numbers && true))))
-      → full_size matrix weights names branches ≡ not other
-  unfolding full_size
-  sizes_told other e =
-      ap (λ last. eqb matrix matrix_size && (eqb weights columns && (eqb names names_size && last))) (sym (and-true (eqb branches lent_numbers)))
-      ∙ sym (ap not e ∙ twice _)
-    where
-      twice : (b : Bool) → not (not b) ≡ b
-      twice true = refl
-      twice false = refl
-
-  -- lists that have their sizes pass them
-  pub full-lists : (matrix ≡ matrix_size) × (weights ≡ columns) × (names ≡ names_size) × (branches ≡ lent_numbers)
-      → full_size matrix weights names branches ≡ true
-  unfolding full_size
-  full-lists sizes =
-      rw (
-        eq-eqb matrix matrix_size sizes.0,
-        eq-eqb weights columns sizes.1,
-        eq-eqb names names_size sizes.2,
-        eq-eqb branches lent_numbers sizes.3,
-      )
-
-  -- lists that pass them have their sizes
-  pub lists-full : full_size matrix weights names branches ≡ true
-      → (matrix ≡ matrix_size) × (weights ≡ columns) × (names ≡ names_size) × (branches ≡ lent_numbers)
-  unfolding full_size
-  lists-full e =
-      let others = and_right (eqb matrix matrix_size) _ e in
-      let last = and_right (eqb weights columns) _ others in (
-        eqb-true matrix matrix_size (and_left (eqb matrix matrix_size) _ e),
-        eqb-true weights columns (and_left (eqb weights columns) _ others),
-        eqb-true names names_size (and_left (eqb names names_size) _ last),
-        eqb-true branches lent_numbers (and_right (eqb names names_size) _ last),
-      )
-
 -- lent lists
 module _ (file : List ℕ) (lists : LentLists) where
-  -- whether they have their full size
-  abbrev pub sized : Bool
-  sized = full_size (length lists.matrix) (length lists.weights) (length lists.names) (length lists.branches)
-
   -- a refusal, with lists as they were
   done : (answer : Result Header Refused) (number line : ℕ) → read_says answer ≡ refused number line → read_outcome file lists ≡ refused number line
       → ReadDone file lists lists answer
@@ -93,22 +48,17 @@ module _ (file : List ℕ) (lists : LentLists) where
       }
 
   -- one has not its full size
-  pub read_unsized : (answer : Result Header Refused) → answer ≡ Err (record { refusal = ListSize; line = 0 }) → sized ≡ false → ReadDone file lists lists answer
+  pub read_unsized : (answer : Result Header Refused) → answer ≡ Err (record { refusal = ListSize; line = 0 }) → sized lists ≡ false → ReadDone file lists lists answer
   unfolding read_outcome ask_size
   read_unsized answer a h = done answer 12 0 (ap read_says a) (rw h)
 
-  -- all have it: the file decides
-  pub full : sized ≡ true → read_outcome file lists ≡ read_answer file
-  unfolding read_outcome ask_size
-  full h = rw h
-
   -- it was asked
-  module _ (h : sized ≡ true) (answer : Result Header Refused) (a : read_says answer ≡ with_header (read_answer file)) where
+  module _ (h : sized lists ≡ true) (answer : Result Header Refused) (a : read_says answer ≡ with_header (read_answer file)) where
     -- it is refused
     pub read_refused : (e : Refused) → answer ≡ Err e → ReadDone file lists lists (Err e)
     read_refused e r =
         done (Err e) (refusal_number e.refusal) e.line refl
-        (full h ∙ then_refused (read_answer file) header_of (refusal_number e.refusal) e.line (sym a ∙ ap read_says r))
+        (full file lists h ∙ then_refused (read_answer file) header_of (refusal_number e.refusal) e.line (sym a ∙ ap read_says r))
 
     -- it is accepted, and what it says is written
     pub read_written : (header : Header) → answer ≡ Ok header → (new : LentLists) → new ≡ job_written (job_in file) lists
@@ -116,7 +66,7 @@ module _ (file : List ℕ) (lists : LentLists) where
     unfolding lists_after
     read_written header e new w =
         let found = then_passed (read_answer file) (λ job. value (header_of job)) header (sym a ∙ ap read_says e) in
-        let outcome : read_outcome file lists ≡ value found.0 = full h ∙ found.1 in
+        let outcome : read_outcome file lists ≡ value found.0 = full file lists h ∙ found.1 in
         record {
           says = sym (ap with_header outcome ∙ found.2);
           lists = w ∙ sym (ap (λ x. afterwards x (job_written (job_in file) lists) lists) outcome);

@@ -11,7 +11,7 @@ use lib.Seq.{take_all}
 use Rattle.lists.specs.Over.{over, stripes}
 use Rattle.lists.proofs.Over.{over-lent, over-more}
 use Rattle.lists.proofs.Stripes.{length-stripes, stripes-snoc}
-use Rattle.matrix.specs.Shape.{columns}
+use Rattle.matrix_form.specs.Shape.{columns}
 use Rattle.file_form.specs.Bytes.{tab, first_part}
 use Rattle.file_form.specs.Lines.{lines_of, fields_of}
 use Rattle.file_form.specs.Rows.{name_in}
@@ -19,7 +19,7 @@ use Rattle.file_form.specs.Job.{name_size}
 use Rattle.file_form.proofs.File.FileLength.{name_length}
 use Rattle.file_form.proofs.Text.Fields.{name_first}
 use Rattle.matrix_file.proofs.Lists.LinesBehind.{RowFormed}
-use Rattle.matrix_file.proofs.Lists.LinesSplit.{says_count, says_more}
+use Rattle.file_text.proofs.LinesSplit.{says_count, says_more}
 
 -- a list that is written over from its front, element by element
 module _ {A : Type 0} where

@@ -16,12 +16,12 @@ use Rattle.file_form.specs.Decimal.{code_form, code_of}
 use Rattle.file_form.specs.Lines.{fields_of}
 use Rattle.file_form.specs.Rows.{ask_codes}
 use Rattle.file_form.proofs.Text.Slices.{parts_split}
-use Rattle.matrix.specs.declared.refusal.Refusal.{Refusal}
-use Rattle.matrix.specs.declared.refusal.Refusal.TheVariants.{CodeForm, CodeRange}
-use Rattle.matrix.specs.Outcomes.{ask}
-use Rattle.matrix.specs.Shape.{in_range}
-use Rattle.matrix_file.specs.Walk.{read_as}
-use Rattle.matrix_file.proofs.ReadAs.{formed_read, formless_read}
+use Rattle.matrix_form.specs.declared.refusal.Refusal.{Refusal}
+use Rattle.matrix_form.specs.declared.refusal.Refusal.TheVariants.{CodeForm, CodeRange}
+use Rattle.matrix_form.specs.Outcomes.{ask}
+use Rattle.matrix_form.specs.Shape.{in_range}
+use Rattle.file_text.specs.Text.{read_as}
+use Rattle.file_text.proofs.ReadAs.{formed_read, formless_read}
 
 -- the questions on one code
 module _ (field : List ℕ) where

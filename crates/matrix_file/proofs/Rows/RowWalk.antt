@@ -18,8 +18,8 @@ use Rattle.file_form.specs.Rows.{ask_codes, ask_row}
 use Rattle.file_form.proofs.Text.Fields.{name_first}
 use Rattle.file_form.proofs.Text.Slices.{same_pointwise, same_turned}
 use Rattle.file_form.specs.Job.{name_form, differs_from_all}
-use Rattle.matrix.specs.declared.refusal.Refusal.TheVariants.{FieldCount, NameForm, NameTaken}
-use Rattle.matrix.specs.Outcomes.{Asked, ask}
+use Rattle.matrix_form.specs.declared.refusal.Refusal.TheVariants.{FieldCount, NameForm, NameTaken}
+use Rattle.matrix_form.specs.Outcomes.{Asked, ask}
 use Rattle.file_form.specs.declared.header.Header.{Header}
 use Rattle.matrix_file.specs.Walk.{names_passed}
 

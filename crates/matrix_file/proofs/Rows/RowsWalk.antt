@@ -10,17 +10,18 @@ use Rattle.filled.specs.declared.Filled.{Filled}
 use Rattle.filled.specs.Filling.{NoneFilled, Pushed}
 use Rattle.std.specs.Prelude.{Ok, Err}
 use Rattle.std.proofs.lemmas.Grind.{take-set_at}
-use Rattle.matrix.specs.declared.refusal.Refusal.TheVariants.{LineMissing}
-use Rattle.matrix.specs.Outcomes.{Asked, Outcome, on_line}
+use Rattle.matrix_form.specs.declared.refusal.Refusal.TheVariants.{LineMissing}
+use Rattle.matrix_form.specs.Outcomes.{Asked, Outcome, on_line}
 use Rattle.file_form.specs.declared.header.Header.{Header}
 use Rattle.file_form.specs.Bytes.{tab, first_part}
 use Rattle.file_form.specs.Job.{Job}
 use Rattle.file_form.specs.Lines.{lines_of}
 use Rattle.file_form.specs.Rows.{name_in, ask_row, ask_rows}
 use Rattle.file_form.proofs.Text.Fields.{name_first}
-use Rattle.matrix_file.specs.declared.answer.Refused.{Refused}
-use Rattle.matrix_file.specs.Walk.{names_passed, at_line, RowsAsked}
-use Rattle.matrix_file.proofs.Answering.{asked_refused, asked_passed}
+use Rattle.file_form.specs.declared.answer.Refused.{Refused}
+use Rattle.matrix_file.specs.Walk.{names_passed, RowsAsked}
+use Rattle.file_header.specs.Answered.{at_line}
+use Rattle.file_header.proofs.Answering.{asked_refused, asked_passed}
 use Rattle.matrix_file.proofs.BranchLines.Walk.{lines_some}
 use Rattle.matrix_file.proofs.Lists.LinesBehind.{rest-next}
 

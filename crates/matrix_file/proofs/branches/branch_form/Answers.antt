@@ -8,8 +8,8 @@ use Rattle.file_form.proofs.File.FirstForm.{fields_count}
 use Rattle.file_form.proofs.BranchLines.Form.{other-count, bad_word, bad_third}
 use Rattle.std.proofs.Common.{rules}
 use Rattle.std.proofs.lemmas.Slice.Eq.{text_from_reads}
-use Rattle.matrix_file.proofs.Words.{other_text, text_is, bytes_read}
-use Rattle.matrix_file.proofs.ReadAs.{read_none, read_some}
+use Rattle.file_header.proofs.Words.{other_text, text_is, bytes_read}
+use Rattle.file_text.proofs.ReadAs.{read_none, read_some}
 use Rattle.matrix_file.proofs.BranchLines.Walk.{node_told}
 use Rattle.matrix_file.proofs.branches.branch_form.Goals as goal
 

@@ -7,7 +7,7 @@ use lib.ListN.{length, length-append, get_or}
 use Rattle.std.proofs.Common.{rules, tests, of_calls}
 use Rattle.std.proofs.lemmas.Iterator.Consumers.{YieldsList-at, YieldsList-turn, YieldsList-end}
 use Rattle.file_form.specs.Lines.{lines_of}
-use Rattle.matrix_file.proofs.Lists.LinesSplit.{lines_yielded, line_turn, lines_passed}
+use Rattle.file_text.proofs.LinesSplit.{lines_yielded, line_turn, lines_passed}
 use Rattle.lists.specs.Filled.{filled}
 use Rattle.file_form.specs.Branches.{ancestor_in}
 use Rattle.matrix_file.proofs.BranchLines.Said.{PlacesFilled, places-start, line_told, place_room, places-more, places-all}

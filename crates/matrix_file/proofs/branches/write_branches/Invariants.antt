@@ -1,6 +1,6 @@
 -- `matrix_file::branches::write_branches` meets its contract. The loop's invariant: the records of the lines passed are written.
 use lib.ListN.{length}
-use Rattle.branching.specs.LentNumbers.{record_size}
+use Rattle.tree_form.specs.LentNumbers.{record_size}
 use Rattle.file_form.specs.Formed.{record_in}
 use Rattle.matrix_file.proofs.Lists.WrittenLines.{ItemsWritten}
 use Rattle.matrix_file.proofs.branches.write_branches.Given as goal

@@ -2,7 +2,7 @@
 use mathlib.Core.Path.{sym, ap, ◌∙◌}
 use mathlib.Core.List.{◌++◌}
 use lib.ListN.{drop}
-use Rattle.branching.specs.LentNumbers.{record_numbers}
+use Rattle.tree_form.specs.LentNumbers.{record_numbers}
 use Rattle.lists.proofs.Over.{over-fits}
 use Rattle.matrix_file.proofs.branches.write_record.Goals as goal
 

@@ -2,7 +2,7 @@
 use mathlib.Core.Path.{ap}
 use Rattle.std.proofs.lemmas.Result.{err_from_is_err_and}
 use Rattle.matrix_file.specs.Walk.{left_of}
-use Rattle.matrix_file.proofs.File.FileWalk.{rows-refused, rest_decides}
+use Rattle.matrix_file.proofs.FileWalk.{rows-refused, rest_decides}
 use Rattle.matrix_file.proofs.judging.ask_behind.Goals as goal
 
 pub returns-in_err-rest : goal.returns-in_err-rest

@@ -3,7 +3,7 @@ use mathlib.Core.Path.{ap, ◌∙◌}
 use mir.Facts.{to_z-of_z}
 use mir.Syntax.{w32}
 use Rattle.std.proofs.Common.{rules}
-use Rattle.matrix.specs.Shape.{in_range}
+use Rattle.matrix_form.specs.Shape.{in_range}
 use Rattle.matrix_file.proofs.Rows.CodesWalk.{bad_form, out_of_range, in_range_lem}
 use Rattle.matrix_file.proofs.judging.ask_code.Goals as goal
 

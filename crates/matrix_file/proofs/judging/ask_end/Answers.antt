@@ -1,7 +1,7 @@
 -- `matrix_file::judging::ask_end` meets its contract: the file ends where no byte is left.
 use mathlib.Core.Path.{sym, ◌∙◌}
 use borrow.Author.Tests.{eqb-true, eqb-false}
-use Rattle.matrix_file.proofs.File.FileWalk.{goes_on, ends}
+use Rattle.matrix_file.proofs.FileWalk.{goes_on, ends}
 use Rattle.matrix_file.proofs.judging.ask_end.Goals as goal
 
 pub returns-then-not-is_empty : goal.returns-then-not-is_empty

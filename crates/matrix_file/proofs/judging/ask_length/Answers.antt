@@ -1,7 +1,7 @@
 -- `matrix_file::judging::ask_length` meets its contract: too long, and empty.
 use mathlib.Core.Path.{sym, ◌∙◌}
 use borrow.Author.Tests.{eqb-true, eqb-false}
-use Rattle.matrix_file.proofs.File.FileWalk.{too_long, empty, right_length}
+use Rattle.matrix_file.proofs.FileWalk.{too_long, empty, right_length}
 use Rattle.matrix_file.proofs.judging.ask_length.Goals as goal
 
 pub returns-then-file-gt-MOST_BYTES : goal.returns-then-file-gt-MOST_BYTES

@@ -3,8 +3,9 @@
 use mathlib.Core.Path.{refl, sym, ap, ◌∙◌}
 use Rattle.std.proofs.lemmas.Result.{err_from_is_err_and}
 use mathlib.Core.Bool.{not}
-use Rattle.matrix_file.specs.Report.{read_says}
-use Rattle.matrix_file.proofs.Lists.ReadWalk.{sizes_told, read_unsized, read_refused, read_written}
+use Rattle.file_form.specs.Report.{read_says}
+use Rattle.file_form.proofs.Lists.Sizes.{sizes_told}
+use Rattle.matrix_file.proofs.Lists.ReadWalk.{read_unsized, read_refused, read_written}
 use Rattle.matrix_file.proofs.reading.read.Goals as goal
 
 pub returns-then-ne : goal.returns-then-ne

@@ -3,10 +3,11 @@
 use mathlib.Core.Path.{sym, ap, ◌∙◌}
 use native.Mathlib.Omega.{arith}
 use Rattle.lists.specs.Over.{over, stripes}
-use Rattle.matrix.specs.Shape.{columns}
-use Rattle.branching.specs.LentNumbers.{record_size}
+use Rattle.matrix_form.specs.Shape.{columns}
+use Rattle.tree_form.specs.LentNumbers.{record_size}
 use Rattle.file_form.specs.Job.{name_size}
-use Rattle.matrix_file.proofs.Lists.ReadWalk.{lists-full, taxa-most, read_behind, rows_given, codes_said, names_said}
+use Rattle.file_form.proofs.Lists.Sizes.{lists-full}
+use Rattle.matrix_file.proofs.Lists.ReadWalk.{taxa-most, read_behind, rows_given, codes_said, names_said}
 use Rattle.matrix_file.proofs.Lists.ReadWalk.{weights_given, weights_said_lem}
 use Rattle.matrix_file.proofs.Lists.ReadWalk.{branches_given, branches_few, records_said}
 use Rattle.matrix_file.proofs.reading.write_job.Goals as goal

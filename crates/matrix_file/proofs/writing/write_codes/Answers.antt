@@ -13,7 +13,7 @@ use Rattle.std.proofs.lemmas.Iterator.Consumers.{YieldsList-at, YieldsList-from_
 use Rattle.lists.specs.Over.{over}
 use Rattle.lists.proofs.Over.{over_nothing}
 use Rattle.file_form.specs.Lines.{fields_of}
-use Rattle.matrix_file.proofs.Lists.LinesSplit.{fields_yielded}
+use Rattle.file_text.proofs.LinesSplit.{fields_yielded}
 use Rattle.matrix_file.proofs.Lists.CodesWritten.{field_turn, fields_passed, code_next, codes_all}
 use Rattle.matrix_file.proofs.writing.write_codes.Goals as goal
 use Rattle.matrix_file.proofs.writing.write_codes.Goals.{In-Some}

@@ -7,8 +7,8 @@ use lib.ListN.{length, length-append, get_or}
 use Rattle.std.proofs.Common.{rules, tests, of_calls}
 use Rattle.std.proofs.lemmas.Iterator.Consumers.{YieldsList-at, YieldsList-turn, YieldsList-end}
 use Rattle.file_form.specs.Lines.{lines_of}
-use Rattle.matrix_file.proofs.Lists.LinesSplit.{lines_yielded, line_turn, lines_passed}
-use Rattle.matrix.specs.Shape.{columns}
+use Rattle.file_text.proofs.LinesSplit.{lines_yielded, line_turn, lines_passed}
+use Rattle.matrix_form.specs.Shape.{columns}
 use Rattle.file_form.specs.Rows.{codes_in}
 use Rattle.matrix_file.proofs.Lists.LinesBehind.{line-formed}
 use Rattle.matrix_file.proofs.Lists.WrittenLines.{ItemsWritten, codes_few, part_room, items_start, item_room, items_next, items_all}

@@ -2,7 +2,7 @@
 use lib.ListN.{length}
 use Rattle.matrix_file.proofs.Lists.WrittenLines.{ItemsWritten}
 use Rattle.file_form.specs.Rows.{codes_in}
-use Rattle.matrix.specs.Shape.{columns}
+use Rattle.matrix_form.specs.Shape.{columns}
 use Rattle.matrix_file.proofs.writing.write_matrix.Given as goal
 
 abbrev pub invariant-loop-i : goal.invariant-loop-i

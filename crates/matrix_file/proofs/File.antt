@@ -1,4 +1,0 @@
--- A whole file: the walks that put the questions.
-pub mod OptionalWalk
-pub mod HeaderWalk
-pub mod FileWalk
