@@ -8,7 +8,7 @@ use mathlib.Core.List.{List, [], ◌∷◌, map, flat_map}
 use Prim.Native.Nat.{ℕ}
 use lib.IntN.{ℤ, pos}
 use lib.Count.{count_trailing_zeros}
-use Rattle.difference.specs.Rows.{apart}
+use Rattle.difference_form.specs.Rows.{apart}
 use Rattle.clades.specs.Clades.{Clade, tip, fork}
 use Rattle.clades.specs.ByNode.{ByNode, value_at}
 use Rattle.clades.specs.Character.{up, chosen, ranges, row1_range, row1_state, state_of, range_of}

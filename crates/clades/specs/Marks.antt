@@ -5,7 +5,7 @@ use Rattle.std.specs.Int.Bits.{bit_and, bit_or}
 use Rattle.std.specs.Int.Count.{count_trailing_zeros}
 use Rattle.std.specs.Ordering.{int_eq}
 use Rattle.std.specs.Set.{distinct_count}
-use Rattle.difference.specs.Rows.{apart}
+use Rattle.difference_form.specs.Rows.{apart}
 use Rattle.clades.specs.Kinds.{Kind}
 
 -- the mark of a state in a set: 1 if it is set, else 0; a negative number has no mark

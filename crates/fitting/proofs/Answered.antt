@@ -1,24 +1,25 @@
 -- The call for a fit answers its questions: a refusal leaves everything as it was, and otherwise the fit is that of the branching.
 use Rattle.std.proofs.Common.{Ok, Err, ◌≡◌, ℕ, ◌-◌, ◌*◌, ◌≤◌, List, length, ℤ, refl, ◌∙◌, arith}
-use Rattle.matrix.specs.Shape.{matrix_size}
-use Rattle.matrix.specs.NodeRows.{rows_of}
-use Rattle.matrix.specs.declared.refusal.Refusal.{Refusal}
-use Rattle.difference.specs.Rows.{weighing}
-use Rattle.branching.specs.Ancestors.{ancestor}
-use Rattle.branching.specs.declared.branch.Branch.{Branch}
-use Rattle.branching.specs.Branches.{ancestors_of, places_of}
-use Rattle.branching.specs.Asking.{ask_branching}
-use Rattle.branching.proofs.Lending.{places-ancestors}
-use Rattle.branching.proofs.Test.{branching_iff}
-use Rattle.branching.proofs.Walks.{branching-rooted}
-use Rattle.fitting.specs.Calls.{Low, High, Chosen, ask_fit, TreeFitted}
-use Rattle.fitting.specs.Handing.{FitHanded, NotFitted}
-use Rattle.fitting.specs.declared.whole.Fit.{Fit}
+use Rattle.matrix_form.specs.Shape.{matrix_size}
+use Rattle.matrix_form.specs.NodeRows.{rows_of}
+use Rattle.matrix_form.specs.declared.refusal.Refusal.{Refusal}
+use Rattle.difference_form.specs.Rows.{weighing}
+use Rattle.tree_form.specs.Ancestors.{ancestor}
+use Rattle.tree_form.specs.declared.branch.Branch.{Branch}
+use Rattle.tree_form.specs.Branches.{ancestors_of, places_of}
+use Rattle.tree_form.specs.Asking.{ask_branching}
+use Rattle.tree_form.proofs.Lending.{places-ancestors}
+use Rattle.tree_form.proofs.Test.{branching_iff}
+use Rattle.tree_walk.proofs.Walks.{branching-rooted}
+use Rattle.fit_form.specs.Calls.{Low, High, Chosen, ask_fit}
+use Rattle.fitting.specs.Lists.{TreeFitted}
+use Rattle.fit_form.specs.Handing.{FitHanded, NotFitted}
+use Rattle.fit_form.specs.declared.whole.Fit.{Fit}
 use Rattle.fitting.proofs.Passed.{branching_passed, records_passed, lent_test}
-use Rattle.fitting.proofs.SameTree.{fit_same, written_same}
+use Rattle.fit_form.proofs.SameTree.{fit_same, written_same}
 use Rattle.fitting.proofs.Handed.{handed_back_lem}
-use Rattle.fitting.proofs.Matrix.ThirdRival.{third_rival}
-use Rattle.fitting.proofs.Pass.Standing.{last_several}
+use Rattle.fit_form.proofs.Matrix.ThirdRival.{third_rival}
+use Rattle.fit_passes.proofs.Pass.Standing.{last_several}
 
 module _ (codes : List ℤ) (weights : List ℕ) (n m : ℕ) (records : List Branch) (low high chosen : List ℤ) where
   -- after a refusal the lists are as before

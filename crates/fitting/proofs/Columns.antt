@@ -9,19 +9,19 @@ use Rattle.lists.specs.Sums.{sum_over}
 use Rattle.lists.proofs.Every.{every_at}
 use Rattle.lists.proofs.Numbers.{numbers-within, length-numbers}
 use Rattle.lists.proofs.Sums.{sum_most}
-use Rattle.matrix.specs.Shape.{row, row_start, in_range, weight_of}
-use Rattle.matrix.specs.NodeRows.{rows_of}
-use Rattle.matrix.specs.Questions.{LentMatrix, all_in_range, are_weights}
-use Rattle.matrix.proofs.NodeRows.{get_or-rows_of}
-use Rattle.matrix.proofs.Row.{row-code, row-length}
-use Rattle.difference.proofs.Laws.Weights.{weight_of-within}
-use Rattle.branching.specs.Nodes.{other_nodes}
-use Rattle.branching.specs.Within.{branching_within}
-use Rattle.fitting.specs.Assignments.{character}
-use Rattle.fitting.specs.Steps.{Column, Codes, character_length}
-use Rattle.fitting.proofs.Clades.Hanging.{clade_of}
-use Rattle.fitting.proofs.Matrix.LeastCost.{character-cost, cost-most, gap_row1}
-use Rattle.fitting.proofs.Pass.Standing.{taxa-most, grown_of, root-within}
+use Rattle.matrix_form.specs.Shape.{row, row_start, in_range, weight_of}
+use Rattle.matrix_form.specs.NodeRows.{rows_of}
+use Rattle.matrix_form.specs.Questions.{LentMatrix, all_in_range, are_weights}
+use Rattle.matrix_form.proofs.NodeRows.{get_or-rows_of}
+use Rattle.matrix_form.proofs.Row.{row-code, row-length}
+use Rattle.difference_form.proofs.Laws.Weights.{weight_of-within}
+use Rattle.tree_form.specs.Nodes.{other_nodes}
+use Rattle.tree_form.specs.Within.{branching_within}
+use Rattle.fit_form.specs.Assignments.{character}
+use Rattle.fit_passes.specs.Steps.{Column, Codes, character_length}
+use Rattle.fit_form.proofs.Clades.Hanging.{clade_of}
+use Rattle.fit_passes.proofs.Matrix.LeastCost.{character-cost, cost-most, gap_row1}
+use Rattle.fit_passes.proofs.Pass.Standing.{taxa-most, grown_of, root-within}
 
 -- where there is no branch a character has no length
 no_branch_lem : (tree : List ℕ) (rows : List (List ℤ)) (n j : ℕ) → 2 * n - 3 ≡ 0 → character_length tree rows n j ≡ 0

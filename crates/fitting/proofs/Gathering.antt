@@ -7,26 +7,26 @@ use Rattle.lists.proofs.Filled.{get_d_replicate}
 use Rattle.lists.proofs.Maps.{map_same}
 use Rattle.lists.proofs.Numbers.{numbers-within, length-numbers}
 use Rattle.lists.proofs.Sums.{sum_most}
-use Rattle.matrix.specs.Shape.{columns, row_start, last_node, in_range, weight_of}
-use Rattle.matrix.specs.NodeRows.{rows_of}
-use Rattle.matrix.specs.Questions.{LentMatrix, LentWeights}
-use Rattle.difference.specs.Rows.{apart, part, weighing}
-use Rattle.difference.proofs.Laws.Weights.{part-in_range, weight_of_weight, weight_of-within}
-use Rattle.branching.specs.Ancestors.{ancestor}
-use Rattle.branching.specs.Within.{branching_within}
-use Rattle.branching.proofs.Walks.{branching-rooted}
-use Rattle.fitting.specs.Assignments.{character, branch_length}
-use Rattle.fitting.specs.Fit.{chosen_state, states_in, fitted_length, marked}
-use Rattle.fitting.specs.Steps.{Column, Fits, states_at}
-use Rattle.fitting.specs.Calls.{Which, Low, High, Chosen, no_branch, branch_at, state_in, states_written}
+use Rattle.matrix_form.specs.Shape.{columns, row_start, last_node, in_range, weight_of}
+use Rattle.matrix_form.specs.NodeRows.{rows_of}
+use Rattle.matrix_form.specs.Questions.{LentMatrix, LentWeights}
+use Rattle.difference_form.specs.Rows.{apart, part, weighing}
+use Rattle.difference_form.proofs.Laws.Weights.{part-in_range, weight_of_weight, weight_of-within}
+use Rattle.tree_form.specs.Ancestors.{ancestor}
+use Rattle.tree_form.specs.Within.{branching_within}
+use Rattle.tree_walk.proofs.Walks.{branching-rooted}
+use Rattle.fit_form.specs.Assignments.{character, branch_length}
+use Rattle.fit_form.specs.Fit.{chosen_state, states_in, fitted_length, marked}
+use Rattle.fit_passes.specs.Steps.{Column, Fits, states_at}
+use Rattle.fit_form.specs.Calls.{Which, Low, High, Chosen, no_branch, branch_at, state_in, states_written}
 use Rattle.fitting.specs.Lists.{with_column, fitted_branch, marks_in, Lengthened, Written}
-use Rattle.fitting.specs.declared.characters.States.{States}
-use Rattle.fitting.specs.declared.whole.BranchFit.{BranchFit}
+use Rattle.fit_form.specs.declared.characters.States.{States}
+use Rattle.fit_form.specs.declared.whole.BranchFit.{BranchFit}
 use Rattle.lists.proofs.Filling.{sum_next}
 use Rattle.fitting.proofs.Columns.{column-codes, character-known}
 use Rattle.fitting.proofs.Rewriting.{written_none, written_next}
-use Rattle.fitting.proofs.Matrix.OnlyCodes.{chosen_state-each}
-use Rattle.fitting.proofs.Pass.Standing.{branching_parts, taxa-most, grown_of, last_several}
+use Rattle.fit_passes.proofs.Matrix.OnlyCodes.{chosen_state-each}
+use Rattle.fit_passes.proofs.Pass.Standing.{branching_parts, taxa-most, grown_of, last_several}
 
 -- a column of what is the same for each HTU is the same
 column-same : (n j : ℕ) (f g : ℕ → ℤ) (old : List ℤ) → ((v : ℕ) → n < v → v ≤ 2 * n - 2 → f v ≡ g v)

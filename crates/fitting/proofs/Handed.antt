@@ -6,18 +6,18 @@ use Rattle.lists.specs.Sums.{sum_over}
 use Rattle.lists.proofs.Numbers.{numbers-within, map-numbers, map-beyond, length_map_numbers}
 use Rattle.lists.proofs.Stripes.{Narrow, stripes-inside}
 use Rattle.lists.proofs.Sums.{sum_same}
-use Rattle.matrix.specs.Shape.{columns, matrix_size, row_start, last_node}
-use Rattle.matrix.specs.NodeRows.{with_rows}
-use Rattle.branching.specs.Ancestors.{ancestor}
-use Rattle.branching.specs.Nodes.{other_nodes}
-use Rattle.fitting.specs.Sets.{In}
-use Rattle.fitting.specs.Assignments.{branch_length, total}
-use Rattle.fitting.specs.Fit.{chosen_state, range, states_in, fitted_length, fitted_total}
-use Rattle.fitting.specs.Rival.{FitIsLeast}
-use Rattle.fitting.specs.Calls.{Which, Low, High, Chosen, branch_at, state_in, states_written, FitOf}
-use Rattle.fitting.specs.Handing.{state_at, handed_states, HandedBack}
-use Rattle.fitting.specs.declared.whole.Fit.{Fit}
-use Rattle.fitting.proofs.Cases.{either}
+use Rattle.matrix_form.specs.Shape.{columns, matrix_size, row_start, last_node}
+use Rattle.matrix_form.specs.NodeRows.{with_rows}
+use Rattle.tree_form.specs.Ancestors.{ancestor}
+use Rattle.tree_form.specs.Nodes.{other_nodes}
+use Rattle.fit_form.specs.Sets.{In}
+use Rattle.fit_form.specs.Assignments.{branch_length, total}
+use Rattle.fit_form.specs.Fit.{chosen_state, range, states_in, fitted_length, fitted_total}
+use Rattle.fit_form.specs.Rival.{FitIsLeast}
+use Rattle.fit_form.specs.Calls.{Which, Low, High, Chosen, branch_at, state_in, states_written, FitOf}
+use Rattle.fit_form.specs.Handing.{state_at, handed_states, HandedBack}
+use Rattle.fit_form.specs.declared.whole.Fit.{Fit}
+use Rattle.fit_form.proofs.Cases.{either}
 use Rattle.fitting.proofs.Gathering.{chosen_is}
 
 -- rows of m codes are no wider than their places

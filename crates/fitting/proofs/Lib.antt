@@ -1,20 +1,11 @@
--- What is proved about fitting: laws of sets, of clades, of one character and of whole matrices; worked examples.
-pub mod Bits
-pub mod Cases
-pub mod Sets
-pub mod Clades
-pub mod Matrix
-pub mod Pass
+-- Laws of what the functions gather from the passes over a branching.
 pub mod Columns
-pub mod SameTree
+pub mod ByCharacter
+pub mod LastNode
 pub mod Rewriting
 pub mod Gathering
 pub mod Shapes
 pub mod Handed
-pub mod Adding
 pub mod Answered
 pub mod NodeRange
 pub mod Passed
-pub mod Examples
-pub mod Refusals
-pub mod Sample

@@ -1,24 +1,24 @@
 -- The states of one node, taxon or HTU, told by assignments, and the answer of the call for them.
 use Rattle.std.proofs.Common.{Result, Ok, Err, ◌≡◌, ℕ, ◌≤◌, true, eqb, ◌↔◌, List, length, ℤ, ap, ◌∙◌}
-use Rattle.matrix.specs.Shape.{last_node}
-use Rattle.matrix.specs.NodeRows.{rows_of}
-use Rattle.matrix.specs.Questions.{ask_matrix, one_to, LentMatrix, LentWeights}
-use Rattle.matrix.specs.declared.refusal.Refusal.{Refusal}
-use Rattle.matrix.specs.declared.refusal.Refusal.TheVariants.{ListSize, NotThere, NotBranching}
-use Rattle.matrix.proofs.Passing.{ask_passed, and_then_passed, matrix_passed, weights_passed, one_to-true}
-use Rattle.branching.specs.declared.branch.Branch.{Branch}
-use Rattle.branching.specs.Branches.{ancestors_of, places_of, lent_branching}
-use Rattle.branching.specs.Asking.{branches_size}
-use Rattle.branching.proofs.Lending.{places-ancestors}
-use Rattle.branching.proofs.Test.{branching_iff}
-use Rattle.fitting.specs.Fit.{states_in}
-use Rattle.fitting.specs.Calls.{StatesOf}
-use Rattle.fitting.specs.Handing.{ask_node, NodeAnswer}
-use Rattle.fitting.specs.declared.characters.States.{States}
+use Rattle.matrix_form.specs.Shape.{last_node}
+use Rattle.matrix_form.specs.NodeRows.{rows_of}
+use Rattle.matrix_form.specs.Questions.{ask_matrix, one_to, LentMatrix, LentWeights}
+use Rattle.matrix_form.specs.declared.refusal.Refusal.{Refusal}
+use Rattle.matrix_form.specs.declared.refusal.Refusal.TheVariants.{ListSize, NotThere, NotBranching}
+use Rattle.matrix_form.proofs.Passing.{ask_passed, and_then_passed, matrix_passed, weights_passed, one_to-true}
+use Rattle.tree_form.specs.declared.branch.Branch.{Branch}
+use Rattle.tree_form.specs.Branches.{ancestors_of, places_of, lent_branching}
+use Rattle.tree_form.specs.Asking.{branches_size}
+use Rattle.tree_form.proofs.Lending.{places-ancestors}
+use Rattle.tree_form.proofs.Test.{branching_iff}
+use Rattle.fit_form.specs.Fit.{states_in}
+use Rattle.fitting.specs.Lists.{StatesOf}
+use Rattle.fit_form.specs.Handing.{ask_node, NodeAnswer}
+use Rattle.fit_form.specs.declared.characters.States.{States}
 use Rattle.fitting.proofs.Passed.{places-branching, lent_test}
-use Rattle.fitting.proofs.SameTree.{states-same}
+use Rattle.fit_form.proofs.SameTree.{states-same}
 use Rattle.fitting.proofs.Handed.{ends_in}
-use Rattle.fitting.proofs.Matrix.ThirdRival.{third_rival}
+use Rattle.fit_form.proofs.Matrix.ThirdRival.{third_rival}
 
 -- what passed questions tell of a node and a character
 pub record NodeNamed (codes : List ℤ) (weights : List ℕ) (n m : ℕ) (records : List Branch) (v j : ℕ) : Type 0 where

@@ -1,21 +1,22 @@
 -- What passed questions tell of a lent branching: the matrix is lent, and the tree that the records give is a branching.
 use Rattle.std.proofs.Common.{Ok, ◌≡◌, ℕ, true, eqb, List, length, ℤ, sym, ap, ◌∙◌}
 use mathlib.Core.Bool.{and-eq-true_iff}
-use Rattle.matrix.specs.NodeRows.{rows_of}
-use Rattle.matrix.specs.Outcomes.{value}
-use Rattle.difference.specs.Rows.{weighing}
-use Rattle.matrix.specs.Questions.{LentMatrix, LentWeights, ask_matrix}
-use Rattle.matrix.specs.declared.refusal.Refusal.TheVariants.{ListSize, NotBranching}
-use Rattle.matrix.proofs.Passing.{ask_passed, and_then_passed, matrix_passes}
-use Rattle.branching.specs.declared.branch.Branch.{Branch}
-use Rattle.branching.specs.Growing.{branching}
-use Rattle.branching.specs.Within.{branching_within}
-use Rattle.branching.specs.Branches.{lent_branching, named_in_order, places_of, ancestors_of}
-use Rattle.branching.specs.Asking.{ask_branching, branches_size}
-use Rattle.branching.proofs.Lending.{lent-places, places-ancestors}
-use Rattle.fitting.specs.Fit.{fitted_total}
-use Rattle.fitting.specs.Calls.{TotalOf, total_answer}
-use Rattle.fitting.proofs.SameTree.{total-same}
+use Rattle.matrix_form.specs.NodeRows.{rows_of}
+use Rattle.matrix_form.specs.Outcomes.{value}
+use Rattle.difference_form.specs.Rows.{weighing}
+use Rattle.matrix_form.specs.Questions.{LentMatrix, LentWeights, ask_matrix}
+use Rattle.matrix_form.specs.declared.refusal.Refusal.TheVariants.{ListSize, NotBranching}
+use Rattle.matrix_form.proofs.Passing.{ask_passed, and_then_passed, matrix_passes}
+use Rattle.tree_form.specs.declared.branch.Branch.{Branch}
+use Rattle.tree_form.specs.Growing.{branching}
+use Rattle.tree_form.specs.Within.{branching_within}
+use Rattle.tree_form.specs.Branches.{lent_branching, named_in_order, places_of, ancestors_of}
+use Rattle.tree_form.specs.Asking.{ask_branching, branches_size}
+use Rattle.tree_form.proofs.Lending.{lent-places, places-ancestors}
+use Rattle.fit_form.specs.Fit.{fitted_total}
+use Rattle.fit_form.specs.Calls.{total_answer}
+use Rattle.fitting.specs.Costs.{TotalOf}
+use Rattle.fit_form.proofs.SameTree.{total-same}
 
 -- records that are a branching give a tree with 127 places that is one
 pub places-branching : (codes : List ℤ) (n m : ℕ) (records : List Branch) → LentMatrix codes n m → lent_branching n records ≡ true

@@ -7,10 +7,10 @@ use Rattle.lists.specs.Over.{over, stripes}
 use Rattle.lists.proofs.Numbers.{numbers-snoc, length_map_numbers}
 use Rattle.lists.proofs.Stripes.{length-stripes, column-next, stripes-column}
 use Rattle.lists.proofs.Over.{over_nothing}
-use Rattle.matrix.specs.Shape.{columns, row_start}
-use Rattle.matrix.specs.NodeRows.{with_rows}
-use Rattle.fitting.specs.Fit.{states_in}
-use Rattle.fitting.specs.Calls.{Which, state_in, states_written}
+use Rattle.matrix_form.specs.Shape.{columns, row_start}
+use Rattle.matrix_form.specs.NodeRows.{with_rows}
+use Rattle.fit_form.specs.Fit.{states_in}
+use Rattle.fit_form.specs.Calls.{Which, state_in, states_written}
 use Rattle.fitting.specs.Lists.{with_column}
 
 -- stripes without items

@@ -5,20 +5,21 @@ use Rattle.lists.specs.Sums.{sum_over}
 use Rattle.lists.specs.Numbers.{numbers}
 use Rattle.lists.proofs.Numbers.{numbers-within, length-numbers}
 use Rattle.lists.proofs.Sums.{sum_same, sum_most}
-use Rattle.matrix.specs.Shape.{matrix_size}
-use Rattle.matrix.specs.NodeRows.{rows_of}
-use Rattle.matrix.specs.Questions.{LentMatrix, LentWeights, within_limits, one_to}
-use Rattle.matrix.proofs.Passing.{one_to-true, true-one_to}
-use Rattle.difference.specs.Rows.{most_difference, weighing}
-use Rattle.branching.specs.Nodes.{other_nodes}
-use Rattle.branching.specs.Within.{branching_within}
-use Rattle.fitting.specs.Fit.{fitted_length, fitted_total}
-use Rattle.fitting.specs.Calls.{branch_at, lists_full, FitOf, TreeFitted}
+use Rattle.matrix_form.specs.Shape.{matrix_size}
+use Rattle.matrix_form.specs.NodeRows.{rows_of}
+use Rattle.matrix_form.specs.Questions.{LentMatrix, LentWeights, within_limits, one_to}
+use Rattle.matrix_form.proofs.Passing.{one_to-true, true-one_to}
+use Rattle.difference_form.specs.Rows.{most_difference, weighing}
+use Rattle.tree_form.specs.Nodes.{other_nodes}
+use Rattle.tree_form.specs.Within.{branching_within}
+use Rattle.fit_form.specs.Fit.{fitted_length, fitted_total}
+use Rattle.fit_form.specs.Calls.{branch_at, lists_full, FitOf}
+use Rattle.fitting.specs.Lists.{TreeFitted}
 use Rattle.fitting.specs.Lists.{Written, SumOf, matrix_shaped}
-use Rattle.fitting.specs.declared.whole.BranchFit.{BranchFit}
-use Rattle.fitting.specs.declared.whole.Fit.{Fit}
-use Rattle.fitting.proofs.Matrix.Totals.{lengths-total}
-use Rattle.fitting.proofs.Pass.Standing.{taxa-most}
+use Rattle.fit_form.specs.declared.whole.BranchFit.{BranchFit}
+use Rattle.fit_form.specs.declared.whole.Fit.{Fit}
+use Rattle.fit_form.proofs.Matrix.Totals.{lengths-total}
+use Rattle.fit_passes.proofs.Pass.Standing.{taxa-most}
 use Rattle.fitting.proofs.Gathering.{length_most}
 
 -- what a matrix of the right shape tells

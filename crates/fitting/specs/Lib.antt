@@ -1,12 +1,3 @@
--- Fitting the inner states of a fixed branching, and the assignments that it is measured against (document 01).
-pub mod Sets
-pub mod Clades
-pub mod Assignments
-pub mod Fit
-pub mod Trees
-pub mod Plans
-pub mod Steps
-pub mod Calls
-pub mod Handing
+-- What the private functions promise; what a reader has to believe stands in `fit_form`.
+pub mod Costs
 pub mod Lists
-pub mod Rival

@@ -1,21 +1,22 @@
 -- For the proofs of the private functions alone; no public contract cites this file.
 -- The lent lists and the branches while a matrix is fitted character after character.
-use Rattle.std.specs.Prelude.{◌≡◌, ℕ, ◌+◌, ◌-◌, ◌*◌, ◌^◌, ◌<◌, ◌≤◌, Bool, true, ◌&&◌, ◌||◌, List, [], ◌∷◌, map, ℤ, ◌==◌, nat_lt}
+use Rattle.std.specs.Prelude.{◌≡◌, ℕ, ◌+◌, ◌-◌, ◌*◌, ◌^◌, ◌<◌, ◌≤◌, Bool, true, ◌&&◌, ◌||◌, List, [], ◌∷◌, map, ℤ, ◌==◌, nat_lt, length}
 use Rattle.lists.specs.Numbers.{numbers}
 use Rattle.lists.specs.Over.{stripes}
 use Rattle.lists.specs.Sums.{sum_over}
-use Rattle.matrix.specs.Shape.{columns, matrix_size, row_start}
-use Rattle.matrix.specs.NodeRows.{rows_of}
-use Rattle.matrix.specs.Questions.{LentMatrix, LentWeights, within_limits}
-use Rattle.difference.specs.Rows.{apart, part, weighing}
-use Rattle.branching.specs.Ancestors.{ancestor}
-use Rattle.branching.specs.Nodes.{other_nodes}
-use Rattle.branching.specs.Within.{branching_within}
-use Rattle.fitting.specs.Fit.{fitted_length, marked}
-use Rattle.fitting.specs.Steps.{states_at}
-use Rattle.fitting.specs.Calls.{Which, Low, High, Chosen, state_in, no_branch, branch_at, states_written}
-use Rattle.fitting.specs.declared.characters.States.{States}
-use Rattle.fitting.specs.declared.whole.BranchFit.{BranchFit}
+use Rattle.matrix_form.specs.Shape.{columns, matrix_size, row_start, last_node}
+use Rattle.matrix_form.specs.NodeRows.{rows_of}
+use Rattle.matrix_form.specs.Questions.{LentMatrix, LentWeights, within_limits}
+use Rattle.difference_form.specs.Rows.{apart, part, weighing}
+use Rattle.tree_form.specs.Ancestors.{ancestor}
+use Rattle.tree_form.specs.Nodes.{other_nodes}
+use Rattle.tree_form.specs.Within.{branching_within}
+use Rattle.fit_form.specs.Fit.{fitted_length, marked, states_in}
+use Rattle.fit_passes.specs.Steps.{states_at}
+use Rattle.fit_form.specs.Calls.{Which, Low, High, Chosen, state_in, no_branch, branch_at, states_written, FitOf}
+use Rattle.fit_form.specs.declared.characters.States.{States}
+use Rattle.fit_form.specs.declared.whole.BranchFit.{BranchFit}
+use Rattle.fit_form.specs.declared.whole.Fit.{Fit}
 
 -- what a function says of its answers is that they are one of the states of a node
 abbrev pub Picks : (States → ℤ → Type 0) → Which → Type 0
@@ -64,3 +65,18 @@ pub record Written (matrix : List ℤ) (weights : List ℕ) (n m k : ℕ) (tree 
 -- the length of a matrix is that of the matrix's shape, and n and m are within their limits
 unfoldable pub matrix_shaped : ℕ → ℕ → ℕ → Bool
 matrix_shaped matrix n m = within_limits n m && matrix == matrix_size
+
+-- a tree that is a branching, with a lent matrix, fitted into three lists of the matrix's shape
+pub record TreeFitted (codes : List ℤ) (weights : List ℕ) (n m : ℕ) (tree : List ℕ) (low low' high high' chosen chosen' : List ℤ)
+    (fit : Fit) : Type 0 where
+  pub fitted : branching_within n tree ≡ true → LentMatrix codes n m → LentWeights weights m
+      → length low ≡ matrix_size → length high ≡ matrix_size → length chosen ≡ matrix_size
+      → FitOf (weighing weights).step tree (rows_of codes m n) n m fit
+      × (low' ≡ states_written Low tree (rows_of codes m n) n m low)
+      × (high' ≡ states_written High tree (rows_of codes m n) n m high)
+      × (chosen' ≡ states_written Chosen tree (rows_of codes m n) n m chosen)
+
+-- r are the states of node v in character j of a branching with a lent matrix of n taxa and m characters
+pub record StatesOf (codes : List ℤ) (n m : ℕ) (tree : List ℕ) (v j : ℕ) (r : States) : Type 0 where
+  pub are : branching_within n tree ≡ true → LentMatrix codes n m → 1 ≤ v → v ≤ last_node n → 1 ≤ j → j ≤ m
+      → r ≡ states_in tree (rows_of codes m n) n v j

@@ -2,19 +2,21 @@
 // Kept: no plainer, `ask_branching` is promised as it is: a function beside it that answers the tree would be called by three, and take the place of one line in each.
 // The calls on a lent branching: its fit, the states of one node in one character, and its fitted total.
 ghost use Rattle.std.specs.Prelude.{◌≡◌};
-ghost use Rattle.matrix.specs.Outcomes.{result_says};
-ghost use Rattle.fitting.specs.Calls.{total_answer};
-ghost use Rattle.fitting.specs.Handing.{FitAnswer, ask_node, NodeAnswer};
+ghost use Rattle.matrix_form.specs.Outcomes.{result_says};
+ghost use Rattle.fit_form.specs.Calls.{total_answer};
+ghost use Rattle.fit_form.specs.Handing.{FitAnswer, ask_node, NodeAnswer};
 
-use crate::characters::States;
 use crate::totals::total_of;
-use crate::whole::{Fit, fit_tree, lists_full, states_at};
-use branching::branch::{BRANCHES, Branch};
-use branching::lent::{lent_branching, tree_of};
-use branching::questions::ask_branching;
+use crate::whole::{fit_tree, lists_full, states_at};
+use fit_form::characters::States;
+use fit_form::whole::Fit;
 use matrix::lent::Lent;
 use matrix::questions::{last_node, one_to};
-use matrix::refusal::Refusal;
+use matrix_form::refusal::Refusal;
+use tree_form::branch::Branch;
+use tree_records::branch::BRANCHES;
+use tree_records::lent::{lent_branching, tree_of};
+use tree_records::questions::ask_branching;
 
 // Fits a lent branching, and writes the lowest, the highest and the chosen state of each HTU in each character into three lists of the
 // matrix's shape.

@@ -1,9 +1,10 @@
 // The states of the HTUs in lists of the matrix's shape, as a fit writes them.
 ghost use Rattle.std.specs.Prelude.{◌≡◌, replicate};
-ghost use Rattle.matrix.specs.Shape.{matrix_size};
-ghost use Rattle.fitting.specs.Handing.{state_at};
+ghost use Rattle.matrix_form.specs.Shape.{matrix_size};
+ghost use Rattle.fit_form.specs.Handing.{state_at};
 
-use crate::characters::{States, code_at};
+use fit_form::characters::States;
+use fit_passes::characters::code_at;
 use matrix::MATRIX_SIZE;
 
 // The lists of the lowest, the highest and the chosen states.

@@ -1,24 +1,30 @@
 // The fitted total of a branching, from the pass up alone.
 // Kept: no plainer, nodes are of what is lent and a plan is of a tree: a struct of both would be made in `total_of` and in `fit_tree`, each time for one call, and be taken apart in it.
 ghost use Rattle.std.specs.Prelude.{◌≤◌};
-ghost use Rattle.branching.specs.Ancestors.{ancestors};
-ghost use Rattle.fitting.specs.Calls.{TotalOf};
-ghost use Rattle.fitting.specs.Steps.{CostOf};
+ghost use Rattle.branching.specs.Views.{ancestors};
+ghost use Rattle.fitting.specs.Costs.{WeighedOf, CostOf, TotalOf};
 
-use crate::characters::{codes_of, least_cost, weighed};
-use crate::planning::Plan;
 use branching::tree::Tree;
 use difference::nodes::Nodes;
+use fit_passes::characters::{codes_of, least_cost};
+use fit_passes::planning::Plan;
 use matrix::lent::Lent;
 use matrix::weights::weight_at;
 use matrix::{MOST_CHARACTERS, MOST_TAXA};
+
+// A length as often as a weight says, if it is one that a character can have.
+fn weighed(weight: u8, length: u64) -> u64
+    ensures { WeighedOf weight length result }
+{
+    u64::from(weight).wrapping_mul(length)
+}
 
 // The least cost of character j, as often as its weight says.
 fn cost_of(nodes: &Nodes, plan: &Plan, j: usize) -> u64
     requires { (1 ≤ j) × (j ≤ nodes.now.lent.m) }
     ensures { CostOf nodes.now.lent.matrix.now nodes.now.lent.weights.now plan.now.taxa nodes.now.lent.m plan.now.tree j result }
 {
-    let codes = codes_of(nodes.lent.matrix, plan.n, j);
+    let codes = codes_of(nodes.lent.matrix, plan.taxa(), j);
     weighed(
         weight_at(nodes.lent.weights, j - 1),
         least_cost(&codes, plan),

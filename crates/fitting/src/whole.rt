@@ -1,38 +1,27 @@
 // The fit of a whole matrix to a tree: the states of its HTUs written into lent lists, branch lengths, marks and the total.
 ghost use Rattle.std.specs.Prelude.{◌≡◌, ◌≤◌, length};
-ghost use Rattle.matrix.specs.Shape.{matrix_size};
-ghost use Rattle.branching.specs.Ancestors.{ancestors};
-ghost use Rattle.fitting.specs.Steps.{states_at};
+ghost use Rattle.matrix_form.specs.Shape.{matrix_size};
+ghost use Rattle.branching.specs.Views.{ancestors};
+ghost use Rattle.fit_passes.specs.Steps.{states_at};
 ghost use Rattle.fitting.specs.Lists.{Picks, with_column, Longer, Lengthened, SumOf, Written, matrix_shaped};
-ghost use Rattle.fitting.specs.Calls.{Which, state_in, lists_full, TreeFitted, StatesOf};
+ghost use Rattle.fit_form.specs.Calls.{Which, state_in, lists_full};
+ghost use Rattle.fitting.specs.Lists.{TreeFitted, StatesOf};
 
-use crate::characters::{States, codes_of, fit_character, place_of_code};
-use crate::planning::Plan;
-use branching::tree::{PLACES, Tree, place_of};
+use branching::tree::{Tree, place_of};
 use difference::codes::part;
 use difference::nodes::Nodes;
+use fit_form::characters::States;
+use fit_form::whole::{BranchFit, Fit};
+use fit_passes::characters::{codes_of, fit_character, place_of_code};
+use fit_passes::planning::Plan;
 use matrix::MATRIX_SIZE;
 use matrix::lent::Lent;
 use matrix::questions::{last_node, one_to, within_limits};
 use matrix::weights::weight_at;
-
-// A branch as far as characters are fitted: its length under the chosen states, and its mark.
-#[derive(Clone, Copy, Default)]
-pub struct BranchFit {
-    pub length: u64,
-    // Kept: no plainer, request M-107, which is to come, gives a mark a meaning of its own: that no choice of least length has a length of 0 there.
-    pub mark: bool,
-}
-
-// The fit of a tree: by node number the fitted length and the mark of each node's branch; and the total.
-#[derive(Clone, Copy, Default)]
-pub struct Fit {
-    pub branches: [BranchFit; PLACES],
-    pub total: u64,
-}
+use tree_form::tree::PLACES;
 
 // Writes one of the states of each HTU into column j of its row.
-#[tactic(auto, unfolding(matrix::specs::Shape::last_node))]
+#[tactic(auto, unfolding(matrix_form::specs::Shape::last_node))]
 fn write_column<F: Fn(States) -> i32>(
     out: &mut [i32],
     plan: &Plan,
@@ -41,11 +30,12 @@ fn write_column<F: Fn(States) -> i32>(
     state: F,
 )
     requires callable { F.IsAlwaysCallable state }
-    requires shape { (length out.old ≡ matrix_size) × (1 ≤ plan.now.taxa) × (1 ≤ j) × (j ≤ 128) }
+    requires shape { (length out.old ≡ matrix_size) × (1 ≤ plan.now.taxa) × (plan.now.taxa ≤ 64) × (1 ≤ j) × (j ≤ 128) }
     ensures { (which : Which) → Picks (F.post state) which
         → out.new ≡ with_column plan.now.taxa j (λ v. state_in which (states_at states.now v)) out.old }
 {
-    for v in plan.n + 1..last_node(plan.n) + 1 {
+    let n = plan.taxa();
+    for v in n + 1..last_node(n) + 1 {
         out[place_of_code(v, j)] = state(states[v]);
     }
 }
@@ -64,27 +54,29 @@ fn lengthened(branch: BranchFit, weight: u8, own: States, above: States) -> Bran
 
 // Adds one character more, of this weight, to the branches of a tree.
 // Kept: no plainer, a node's number is read for its ancestor and its states as well as for its branch.
-#[tactic(auto, unfolding(matrix::specs::Shape::last_node))]
+#[tactic(auto, unfolding(matrix_form::specs::Shape::last_node))]
 fn add_lengths(
     branches: &mut [BranchFit; PLACES],
     plan: &Plan,
     weight: u8,
     states: &[States; PLACES],
 )
+    requires { plan.now.taxa ≤ 64 }
     ensures { Lengthened weight plan.now.taxa plan.now.tree states.now branches.old branches.new }
 {
-    for v in 2..last_node(plan.n) + 1 {
-        let u = place_of(plan.tree.ancestors[v]);
+    for v in 2..last_node(plan.taxa()) + 1 {
+        let u = place_of(plan.ancestor(v));
         branches[v] = lengthened(branches[v], weight, states[v], states[u]);
     }
 }
 
 // The lengths of the branches together.
-#[tactic(auto, unfolding(matrix::specs::Shape::last_node))]
+#[tactic(auto, unfolding(matrix_form::specs::Shape::last_node))]
 fn sum_lengths(branches: &[BranchFit; PLACES], plan: &Plan) -> u64
+    requires { plan.now.taxa ≤ 64 }
     ensures { SumOf plan.now.taxa branches.now result }
 {
-    branches[2..last_node(plan.n) + 1]
+    branches[2..last_node(plan.taxa()) + 1]
         .iter()
         .fold(0, |sum, branch| sum.wrapping_add(branch.length))
 }
@@ -98,13 +90,13 @@ fn fit_columns(
     high: &mut [i32],
     chosen: &mut [i32],
 ) -> [BranchFit; PLACES]
-    requires some { 1 ≤ plan.now.taxa }
+    requires some { (1 ≤ plan.now.taxa) × (plan.now.taxa ≤ 64) }
     requires state_lists { (length low.old ≡ matrix_size) × (length high.old ≡ matrix_size) × (length chosen.old ≡ matrix_size) }
     ensures { Written nodes.now.lent.matrix.now nodes.now.lent.weights.now plan.now.taxa nodes.now.lent.m nodes.now.lent.m plan.now.tree low.old low.new high.old high.new chosen.old chosen.new result }
 {
     let mut branches = [BranchFit::default(); PLACES];
     for j in 1..nodes.lent.m + 1 {
-        let codes = codes_of(nodes.lent.matrix, plan.n, j);
+        let codes = codes_of(nodes.lent.matrix, plan.taxa(), j);
         let states = fit_character(&codes, plan);
         add_lengths(
             &mut branches,
@@ -121,7 +113,7 @@ fn fit_columns(
 
 // Whether three lists have the matrix's size.
 // Kept: interface, it is promised of any three sizes.
-#[tactic(auto, unfolding(crate::specs::Calls::lists_full))]
+#[tactic(auto, unfolding(fit_form::specs::Calls::lists_full))]
 pub fn lists_full(low: usize, high: usize, chosen: usize) -> bool
     ensures { result ≡ lists_full low high chosen }
 {

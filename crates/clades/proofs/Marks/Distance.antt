@@ -8,7 +8,7 @@ use mathlib.Core.Logic.{◌≢◌, by_cases}
 use lib.Dec.{eqb}
 use lib.IntN.{ℤ}
 use borrow.Author.Tests.{eqb-true, eqb-false}
-use Rattle.difference.proofs.Laws.Codes.{apart_self, apart-sym, apart-zero, apart_triangle}
+use Rattle.difference_form.proofs.Laws.Codes.{apart_self, apart-sym, apart-zero, apart_triangle}
 use Rattle.clades.specs.Kinds.{offset}
 use Rattle.clades.specs.Marks.{mark, ProperMarks, change, lowest_state, nearest_state, unordered}
 use Rattle.clades.proofs.Sets.Laws.{Metric}

@@ -1,15 +1,15 @@
 -- `fitting::calls::ask_node` meets its contract: each answer follows from the tests that led to it. Assumes nothing.
 use Rattle.std.proofs.Common.{Ok, ◌≡◌, ℕ, ◌-◌, ◌^◌, min, List, length, ℤ, sym, ◌∙◌, rules, eq-eqb}
 use Rattle.std.proofs.lemmas.Result.{err_from_is_err_and}
-use Rattle.matrix.specs.Shape.{last_node}
-use Rattle.matrix.specs.Questions.{ask_matrix, one_to}
-use Rattle.matrix.specs.Outcomes.{ask}
-use Rattle.matrix.specs.declared.refusal.Refusal.TheVariants.{NotThere, NotBranching}
-use Rattle.matrix.proofs.Passing.{matrix_passed}
-use Rattle.branching.specs.declared.branch.Branch.{Branch}
-use Rattle.branching.specs.Branches.{lent_branching}
-use Rattle.fitting.specs.Handing.{ask_node}
-use Rattle.fitting.proofs.Pass.Standing.{last_told}
+use Rattle.matrix_form.specs.Shape.{last_node}
+use Rattle.matrix_form.specs.Questions.{ask_matrix, one_to}
+use Rattle.matrix_form.specs.Outcomes.{ask}
+use Rattle.matrix_form.specs.declared.refusal.Refusal.TheVariants.{NotThere, NotBranching}
+use Rattle.matrix_form.proofs.Passing.{matrix_passed}
+use Rattle.tree_form.specs.declared.branch.Branch.{Branch}
+use Rattle.tree_form.specs.Branches.{lent_branching}
+use Rattle.fit_form.specs.Handing.{ask_node}
+use Rattle.fitting.proofs.LastNode.{last_told}
 use Rattle.fitting.proofs.calls.ask_node.Goals as goal
 
 -- the questions, where those on the matrix have passed

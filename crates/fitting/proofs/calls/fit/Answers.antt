@@ -1,11 +1,11 @@
 -- `fitting::calls::fit` meets its contract: a refusal is that of the questions, and leaves the lists as they were. Assumes nothing.
 use Rattle.std.proofs.Common.{Err, ◌≡◌, ℕ, true, false, List, length, ℤ, sym, ◌∙◌}
-use Rattle.matrix.specs.Outcomes.{Asked}
-use Rattle.matrix.specs.declared.refusal.Refusal.TheVariants.{ListSize}
+use Rattle.matrix_form.specs.Outcomes.{Asked}
+use Rattle.matrix_form.specs.declared.refusal.Refusal.TheVariants.{ListSize}
 use Rattle.std.proofs.lemmas.Result.{err_from_is_err_and}
-use Rattle.branching.specs.declared.branch.Branch.{Branch}
-use Rattle.branching.specs.Asking.{ask_branching}
-use Rattle.fitting.specs.Calls.{lists_full, ask_fit}
+use Rattle.tree_form.specs.declared.branch.Branch.{Branch}
+use Rattle.tree_form.specs.Asking.{ask_branching}
+use Rattle.fit_form.specs.Calls.{lists_full, ask_fit}
 use Rattle.fitting.proofs.Shapes.{sizes}
 use Rattle.fitting.proofs.Answered.{refused_answer, passed_answer}
 use Rattle.fitting.proofs.calls.fit.Goals as goal

@@ -1,7 +1,7 @@
 -- `fitting::calls::total` meets its contract: a refusal is that of the questions. Assumes nothing.
 use Rattle.std.proofs.Common.{sym, ◌∙◌}
 use Rattle.std.proofs.lemmas.Result.{err_from_is_err_and}
-use Rattle.fitting.specs.Calls.{total_answer}
+use Rattle.fit_form.specs.Calls.{total_answer}
 use Rattle.fitting.proofs.Passed.{total_passed}
 use Rattle.fitting.proofs.calls.total.Goals as goal
 

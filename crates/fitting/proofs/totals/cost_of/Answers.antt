@@ -1,9 +1,8 @@
 -- `fitting::totals::cost_of` meets its contract.
-use Rattle.std.proofs.Common.{◌≡◌, ◌*◌, ◌∙◌, subst, ap₂, arith}
-use Rattle.matrix.specs.Shape.{weight_of}
-use Rattle.matrix.specs.NodeRows.{rows_of}
-use Rattle.fitting.specs.Steps.{Column}
-use Rattle.fitting.specs.Trees.{TaxaTree}
+use Rattle.std.proofs.Common.{◌≡◌, ◌*◌, ◌∙◌, ap₂, arith}
+use Rattle.matrix_form.specs.Shape.{weight_of}
+use Rattle.matrix_form.specs.NodeRows.{rows_of}
+use Rattle.fit_passes.specs.Steps.{Column}
 use Rattle.fitting.proofs.Columns.{column-codes, character-most}
 use Rattle.fitting.proofs.totals.cost_of.Goals as goal
 
@@ -17,7 +16,7 @@ returns c =
     let weight : c.weight_at.result ≡ weight_of nodes.lent.weights.now j = unfold weight_of in c.weight_at.ensures in
     record {
       is = λ branches lent weighed.
-          let column = subst (λ (r : TaxaTree). Column matrix r.taxa j c.codes_of-codes.result) c.plan.view_is c.codes_of-codes.ensures in
+          let column : Column matrix n j c.codes_of-codes.result = rw c.taxa.ensures at c.codes_of-codes.ensures in
           let codes = column-codes matrix n nodes.lent.m lent j c.requires.0 c.requires.1 _ column in
           let cost = c.least_cost.ensures.is (rows_of matrix nodes.lent.m n) j codes branches in
           let short = character-most matrix n nodes.lent.m lent plan.tree branches j c.requires.0 c.requires.1 in

@@ -4,13 +4,14 @@ use Rattle.std.proofs.lemmas.Iterator.{YieldsList-from_range, YieldsList-from_ma
 use Rattle.std.proofs.lemmas.Iterator.Consumers.{fold_from_yields_List}
 use Rattle.lists.specs.Numbers.{numbers}
 use Rattle.lists.proofs.Sums.{sum_map}
-use Rattle.matrix.specs.Shape.{weight_of}
-use Rattle.matrix.specs.NodeRows.{rows_of}
-use Rattle.branching.proofs.Ranges.{range-numbers}
-use Rattle.fitting.specs.Steps.{character_length, CostOf}
-use Rattle.fitting.proofs.Adding.{added_up}
+use Rattle.matrix_form.specs.Shape.{weight_of}
+use Rattle.matrix_form.specs.NodeRows.{rows_of}
+use Rattle.tree_form.proofs.Ranges.{range-numbers}
+use Rattle.fit_passes.specs.Steps.{character_length}
+use Rattle.fitting.specs.Costs.{CostOf}
+use Rattle.fit_form.proofs.Adding.{added_up}
 use Rattle.fitting.proofs.Columns.{characters-most}
-use Rattle.fitting.proofs.Matrix.LeastCost.{total-characters}
+use Rattle.fitting.proofs.ByCharacter.{total-characters}
 use Rattle.fitting.proofs.totals.sum_costs.Goals as goal
 
 pub returns : goal.returns

@@ -1,6 +1,5 @@
 -- `fitting::whole::fit_columns` meets its contract. The loop's invariant: the characters passed are fitted. Assumes nothing.
 use Rattle.std.proofs.Common.{◌≡◌, ◌-◌, length}
-use Rattle.branching.specs.Ancestors.{ancestors}
 use Rattle.fitting.specs.Lists.{Written}
 use Rattle.fitting.proofs.whole.fit_columns.Given as goal
 
@@ -9,4 +8,4 @@ invariant-loop-j l =
     (length l.low ≡ length l.initial.low)
     × (length l.high ≡ length l.initial.high)
     × (length l.chosen ≡ length l.initial.chosen)
-    × Written l.nodes.lent.matrix.now l.nodes.lent.weights.now l.plan-inside.n l.nodes.lent.m (l.j - 1) (ancestors l.plan-inside.tree) l.initial.low l.low l.initial.high l.high l.initial.chosen l.chosen l.branches
+    × Written l.nodes.lent.matrix.now l.nodes.lent.weights.now l.plan.taxa l.nodes.lent.m (l.j - 1) l.plan.tree l.initial.low l.low l.initial.high l.high l.initial.chosen l.chosen l.branches

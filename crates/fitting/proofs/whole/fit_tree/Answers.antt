@@ -9,14 +9,16 @@ returns-then-not-matrix_shaped c = not_shaped _ _ _ _ _ _ _ _ _ (sym c.matrix_sh
 pub returns-then-not-lists_full : goal.returns-then-not-lists_full
 returns-then-not-lists_full c = not_full _ _ _ _ _ _ _ _ _ (sym c.lists_full.ensures ∙ c.if-not-lists_full.true)
 
-pub of-plan-requires : goal.of-plan-requires
-of-plan-requires c = (shaped _ _ _ (sym c.matrix_shaped.ensures ∙ c.if-not-matrix_shaped.false)).taxa
-
 pub fit_columns-branches-requires : goal.fit_columns-branches-requires
 fit_columns-branches-requires c = record {
-  some = rw c.of-plan.ensures (shaped _ _ _ (sym c.matrix_shaped.ensures ∙ c.if-not-matrix_shaped.false)).some;
+  some =
+      let shape = shaped _ _ _ (sym c.matrix_shaped.ensures ∙ c.if-not-matrix_shaped.false) in
+      rw c.of-plan.ensures (shape.some, shape.taxa);
   state_lists = sizes _ _ _ (sym c.lists_full.ensures ∙ c.if-not-lists_full.false);
 }
+
+pub sum_lengths-requires : goal.sum_lengths-requires
+sum_lengths-requires c = rw c.of-plan.ensures (shaped _ _ _ (sym c.matrix_shaped.ensures ∙ c.if-not-matrix_shaped.false)).taxa
 
 pub returns : goal.returns
 returns c =

@@ -2,8 +2,8 @@
 use Rattle.std.proofs.Common.{◌||◌, ap}
 use native.Mathlib.Nat.{mod-eq_of_lt}
 use borrow.Author.Rules.{sfits_of}
-use Rattle.difference.specs.Rows.{part}
-use Rattle.fitting.proofs.Bits.{of_bits, differ}
+use Rattle.difference_form.specs.Rows.{part}
+use Rattle.fit_form.proofs.Bits.{of_bits, differ}
 use Rattle.fitting.proofs.whole.lengthened.Goals as goal
 
 pub returns : goal.returns

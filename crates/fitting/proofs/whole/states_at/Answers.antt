@@ -1,9 +1,9 @@
 -- `fitting::whole::states_at` meets its contract. Assumes nothing.
 use Rattle.std.proofs.Common.{sym, ◌∙◌, true≢false, arith}
-use Rattle.matrix.specs.Shape.{last_node}
-use Rattle.matrix.proofs.Passing.{true-one_to}
+use Rattle.matrix_form.specs.Shape.{last_node}
+use Rattle.matrix_form.proofs.Passing.{true-one_to}
 use Rattle.fitting.proofs.Columns.{column-codes}
-use Rattle.fitting.proofs.Shapes.{shaped, lent_shaped}
+use Rattle.fitting.proofs.Shapes.{lent_shaped}
 use Rattle.fitting.proofs.whole.states_at.Goals as goal
 
 pub returns-then-not-matrix_shaped : goal.returns-then-not-matrix_shaped
@@ -21,9 +21,6 @@ returns-then-not-one_to c = record {
 pub returns-then-v-ge-PLACES : goal.returns-then-v-ge-PLACES
 unfolding last_node
 returns-then-v-ge-PLACES c = record { are = λ branches lent p q l h. let few = lent.taxa in let far = c.if-v-ge-PLACES.true in absurd (omega arith) }
-
-pub of-requires : goal.of-requires
-of-requires c = (shaped _ _ _ (sym c.matrix_shaped.ensures ∙ c.if-not-matrix_shaped.false)).taxa
 
 pub returns : goal.returns
 returns c =

@@ -2,9 +2,9 @@
 use Rattle.std.proofs.Common.{◌≡◌, ◌+◌, ◌-◌, [], ◌∷◌, map, length}
 use Rattle.lists.specs.Numbers.{numbers}
 use Rattle.lists.specs.Over.{stripes}
-use Rattle.matrix.specs.Shape.{columns, row_start}
-use Rattle.fitting.specs.Steps.{states_at}
-use Rattle.fitting.specs.Calls.{Which, state_in}
+use Rattle.matrix_form.specs.Shape.{columns, row_start}
+use Rattle.fit_passes.specs.Steps.{states_at}
+use Rattle.fit_form.specs.Calls.{Which, state_in}
 use Rattle.fitting.specs.Lists.{Picks}
 use Rattle.fitting.proofs.whole.write_column.Given as goal
 

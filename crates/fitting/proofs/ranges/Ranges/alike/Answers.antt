@@ -1,6 +1,6 @@
 -- `fitting::ranges::Ranges::alike` meets its contract: a number that fits 32 bits is the one that its bits say. Assumes nothing.
 use Rattle.std.proofs.Common.{replicate, to_z-of_z}
-use Rattle.matrix.specs.Shape.{matrix_size}
+use Rattle.matrix_form.specs.Shape.{matrix_size}
 use Rattle.fitting.proofs.ranges.Ranges.alike.Goals as goal
 
 pub returns : goal.returns

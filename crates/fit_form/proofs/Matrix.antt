@@ -1,0 +1,9 @@
+-- The fit of a whole matrix to a branching, for characters of any kinds and for single codes: totals, the third rival, weights.
+pub mod AnyKind
+pub mod Totals
+pub mod Mixed
+pub mod CharacterLength
+pub mod Lengths
+pub mod ThirdRival
+pub mod AnyWeights
+pub mod Letters

@@ -1,0 +1,6 @@
+// What a fit of the inner states is, and what the calls for it hand back: types, definitions and laws; no function.
+#![tactic(auto)]
+
+pub mod characters;
+pub mod spans;
+pub mod whole;

@@ -1,0 +1,3 @@
+-- Laws of the passes over a branching.
+pub mod Matrix
+pub mod Pass

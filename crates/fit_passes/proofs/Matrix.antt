@@ -1,0 +1,4 @@
+-- The fit of a matrix by node number, as the passes find it.
+pub mod ByNode
+pub mod OnlyCodes
+pub mod LeastCost

@@ -1,0 +1,2 @@
+-- Laws of six ends that are put in order.
+pub mod Carrying

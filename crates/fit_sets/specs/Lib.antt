@@ -1,0 +1,2 @@
+-- What the functions promise beside the definitions of `fit_form`.
+pub mod Steps
