@@ -5,19 +5,18 @@ use Prim.Native.Nat.{ℕ}
 use lib.IntN.{ℤ}
 use lib.ListN.{length}
 use Rattle.lists.specs.Over.{over}
-use Rattle.matrix.specs.Outcomes.{Asked, value}
+use Rattle.matrix_form.specs.Outcomes.{Asked, value}
 use Rattle.std.specs.Prelude.{Ok}
-use Rattle.matrix.specs.Questions.{LentMatrix, LentWeights}
-use Rattle.difference.specs.Rows.{difference}
-use Rattle.branching.specs.declared.branch.Branch.{Branch}
-use Rattle.branching.specs.Ancestors.{ancestor}
-use Rattle.branching.specs.Asking.{branches_size, ask_records}
-use Rattle.branching.specs.Branches.{with_records}
-use Rattle.branching.specs.declared.order.Order.{Order}
-use Rattle.wagner.specs.Build.{Built, wagner_branches}
-use Rattle.wagner.specs.Answers.{wagner_in}
-use Rattle.wagner.specs.Matrix.{matrix_after}
-use Rattle.wagner.specs.Records.{length_in}
+use Rattle.matrix_form.specs.Questions.{LentMatrix, LentWeights}
+use Rattle.difference_form.specs.Rows.{difference}
+use Rattle.tree_form.specs.declared.branch.Branch.{Branch}
+use Rattle.tree_form.specs.Ancestors.{ancestor}
+use Rattle.tree_form.specs.Asking.{branches_size, ask_records}
+use Rattle.tree_form.specs.Branches.{with_records}
+use Rattle.tree_form.specs.declared.order.Order.{Order}
+use Rattle.wagner_form.specs.Build.{Built, wagner_branches}
+use Rattle.wagner_form.specs.Matrix.{matrix_after, wagner_in}
+use Rattle.wagner.specs.Steps.{length_in}
 use Rattle.wagner.proofs.Lengths.{records_agree, length_in-plain, built-branches}
 use Rattle.wagner.proofs.Finished.{built_passes}
 use Rattle.references.specs.Written.{code_difference, records_say, RecordsWritten}

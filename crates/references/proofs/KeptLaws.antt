@@ -4,13 +4,13 @@ use mathlib.Core.Path.{◌≡◌, refl, sym, ◌∙◌, ap}
 use mathlib.Core.List.{List}
 use Prim.Native.Nat.{ℕ}
 use lib.IntN.{ℤ}
-use Rattle.matrix.specs.Outcomes.{Asked, Outcome, refused, answered, asked_says, afterwards}
-use Rattle.matrix.specs.declared.refusal.Refusal.{Refusal}
+use Rattle.matrix_form.specs.Outcomes.{Asked, Outcome, refused, answered, asked_says, afterwards}
+use Rattle.matrix_form.specs.declared.refusal.Refusal.{Refusal}
 use Rattle.branching.specs.declared.tree.Tree.{Tree}
-use Rattle.branching.specs.declared.placement.Placement.{Placement}
+use Rattle.tree_form.specs.declared.placement.Placement.{Placement}
 use Rattle.branching.specs.declared.placement.Placed.{Placed}
 use Rattle.branching.specs.declared.placement.NotPlaced.{NotPlaced}
-use Rattle.branching.specs.Ancestors.{ancestors}
+use Rattle.branching.specs.Views.{ancestors}
 use Rattle.branching.specs.Placed.{place_in, matrix_placed, placement_says, placed_says, tree_back, PlacementDone}
 use Rattle.references.specs.Kept.{with_tree, PlacementKept}
 

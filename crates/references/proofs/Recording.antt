@@ -7,15 +7,15 @@ use lib.IntN.{ℤ}
 use lib.ListN.{length}
 use borrow.Author.Tests.{ne_eqb}
 use lib.Dec.{eqb}
-use Rattle.matrix.specs.Questions.{ask_matrix}
-use Rattle.matrix.specs.declared.refusal.Refusal.{Refusal}
-use Rattle.matrix.specs.declared.refusal.Refusal.TheVariants.{ListSize}
-use Rattle.matrix.proofs.Passing.{ask_passed, and_then_passed, matrix_passed}
-use Rattle.branching.specs.declared.branch.Branch.{Branch}
-use Rattle.branching.specs.Ancestors.{ancestor}
-use Rattle.branching.specs.Asking.{branches_size, ask_records}
-use Rattle.branching.specs.Branches.{with_records}
-use Rattle.wagner.specs.Records.{length_in}
+use Rattle.matrix_form.specs.Questions.{ask_matrix}
+use Rattle.matrix_form.specs.declared.refusal.Refusal.{Refusal}
+use Rattle.matrix_form.specs.declared.refusal.Refusal.TheVariants.{ListSize}
+use Rattle.matrix_form.proofs.Passing.{ask_passed, and_then_passed, matrix_passed}
+use Rattle.tree_form.specs.declared.branch.Branch.{Branch}
+use Rattle.tree_form.specs.Ancestors.{ancestor}
+use Rattle.tree_form.specs.Asking.{branches_size, ask_records}
+use Rattle.tree_form.specs.Branches.{with_records}
+use Rattle.wagner.specs.Steps.{length_in}
 use Rattle.wagner.proofs.Lengths.{records_agree, length_in-plain}
 use Rattle.references.specs.Written.{code_difference, records_say, RecordsWritten}
 

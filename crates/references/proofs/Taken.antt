@@ -7,11 +7,11 @@ use Prim.Native.Nat.{ℕ}
 use lib.IntN.{ℤ}
 use lib.ListN.{length}
 use borrow.Author.Tests.{ne_eqb}
-use Rattle.matrix.specs.Outcomes.{ask}
-use Rattle.matrix.specs.declared.refusal.Refusal.TheVariants.{ListSize}
-use Rattle.branching.specs.declared.branch.Branch.{Branch}
-use Rattle.branching.specs.Asking.{branches_size, ask_branching}
-use Rattle.fitting.specs.Calls.{lists_full, ask_fit}
+use Rattle.matrix_form.specs.Outcomes.{ask}
+use Rattle.matrix_form.specs.declared.refusal.Refusal.TheVariants.{ListSize}
+use Rattle.tree_form.specs.declared.branch.Branch.{Branch}
+use Rattle.tree_form.specs.Asking.{branches_size, ask_branching}
+use Rattle.fit_form.specs.Calls.{lists_full, ask_fit}
 
 -- whichever of two sizes is wrong, it is 12
 either_size : (full : Bool) → ask full ListSize (Err ListSize) ≡ Err ListSize

@@ -1,11 +1,11 @@
 -- A placement on a tree that the caller keeps: what it answers, and what tree and matrix then are.
 use Rattle.std.specs.Prelude.{List, ℕ, ℤ, Result, Ok, Err}
-use Rattle.matrix.specs.declared.refusal.Refusal.{Refusal}
+use Rattle.matrix_form.specs.declared.refusal.Refusal.{Refusal}
 use Rattle.branching.specs.declared.tree.Tree.{Tree}
-use Rattle.branching.specs.declared.placement.Placement.{Placement}
+use Rattle.tree_form.specs.declared.placement.Placement.{Placement}
 use Rattle.branching.specs.declared.placement.Placed.{Placed}
 use Rattle.branching.specs.declared.placement.NotPlaced.{NotPlaced}
-use Rattle.branching.specs.Ancestors.{ancestors}
+use Rattle.branching.specs.Views.{ancestors}
 use Rattle.branching.specs.Placed.{PlacementDone}
 
 -- what is handed back, with the tree that the caller then has: what the placement by value hands back

@@ -1,11 +1,11 @@
 -- A finished tree handed back as a list of branch records: what the call answers, and what the lent list then holds.
 use Rattle.std.specs.Prelude.{◌≡◌, List, ℕ, ℤ, length}
-use Rattle.matrix.specs.Shape.{row}
-use Rattle.matrix.specs.Outcomes.{Asked, Outcome, asked_says, afterwards}
-use Rattle.difference.specs.Rows.{difference, node_difference}
-use Rattle.branching.specs.declared.branch.Branch.{Branch}
-use Rattle.branching.specs.Asking.{ask_records}
-use Rattle.branching.specs.Branches.{with_records}
+use Rattle.matrix_form.specs.Shape.{row}
+use Rattle.matrix_form.specs.Outcomes.{Asked, Outcome, asked_says, afterwards}
+use Rattle.difference_form.specs.Rows.{difference, node_difference}
+use Rattle.tree_form.specs.declared.branch.Branch.{Branch}
+use Rattle.tree_form.specs.Asking.{ask_records}
+use Rattle.tree_form.specs.Branches.{with_records}
 
 -- the difference of two nodes by the codes and weights of the matrix, those of an HTU among them
 unfoldable pub code_difference : List ℤ → List ℕ → ℕ → ℕ → ℕ → ℕ

@@ -1,9 +1,9 @@
 // A placement on a tree that the caller keeps.
 ghost use Rattle.references.specs.Kept.{PlacementKept};
 
-use branching::placement::Placement;
 use branching::tree::Tree;
-use matrix::refusal::Refusal;
+use matrix_form::refusal::Refusal;
+use tree_form::placement::Placement;
 
 // The placement of taxon b on a tree that the caller keeps, with its questions: `Tree::place`, whose tree is stored over the caller's. A
 // refused placement leaves the tree as it was, and writes nothing.

@@ -1,11 +1,12 @@
 // The fit of a branching that is lent as a list of branch records.
-ghost use Rattle.fitting.specs.Handing.{FitAnswer};
+ghost use Rattle.fit_form.specs.Handing.{FitAnswer};
 
-use branching::branch::{BRANCHES, Branch};
+use fit_form::whole::Fit;
 use fitting::calls::fit;
-use fitting::whole::Fit;
 use matrix::lent::Lent;
-use matrix::refusal::Refusal;
+use matrix_form::refusal::Refusal;
+use tree_form::branch::Branch;
+use tree_records::branch::BRANCHES;
 
 // Fits a branching that is lent as a list of 125 branch records: `calls::fit`, with a list of any length.
 // Kept: no plainer, each promise of a struct of lists to be written would have to say that it lends the same ones still, as `Puts` does of a listing.

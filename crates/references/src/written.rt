@@ -1,12 +1,13 @@
 // A finished tree, handed back as a list of branch records.
-ghost use Rattle.branching.specs.Ancestors.{ancestors};
+ghost use Rattle.branching.specs.Views.{ancestors};
 ghost use Rattle.references.specs.Written.{RecordsWritten};
 
-use branching::branch::{BRANCHES, Branch};
-use branching::questions::ask_records;
 use branching::tree::Tree;
 use matrix::lent::Lent;
-use matrix::refusal::Refusal;
+use matrix_form::refusal::Refusal;
+use tree_form::branch::Branch;
+use tree_records::branch::BRANCHES;
+use tree_records::questions::ask_records;
 use wagner::records::branches;
 
 // Writes the branch records of a finished tree of n taxa over the first 2n-3 of a lent list of 125: node, immediate ancestor, and length

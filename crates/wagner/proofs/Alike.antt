@@ -14,26 +14,26 @@ use Rattle.lists.specs.Tests.{every}
 use Rattle.lists.proofs.Every.{every-from}
 use Rattle.lists.proofs.Least.{least_of_congr}
 use Rattle.lists.proofs.Sums.{sum_same}
-use Rattle.matrix.specs.Shape.{row, weight_at}
-use Rattle.matrix.specs.NodeRows.{row_of, rows_of}
-use Rattle.matrix.proofs.Row.{length-row}
-use Rattle.matrix.proofs.NodeRows.{length-rows_of, get_or-rows_of}
-use Rattle.difference.specs.Rows.{medians, interval_by, node_difference, difference, unweighted}
-use Rattle.difference.proofs.Laws.Rows.{length-medians}
-use Rattle.difference.proofs.Laws.Weights.{difference-weights, difference-alike}
-use Rattle.branching.specs.Ancestors.{ancestor}
-use Rattle.branching.specs.Nodes.{nodes_in, nodes_out, other_nodes}
-use Rattle.branching.specs.Hanging.{no_branches}
-use Rattle.branching.specs.Branches.{tree_length}
-use Rattle.branching.specs.RowLengths.{node_interval, length_under}
-use Rattle.branching.specs.Placing.{AfterPlacing, from_interval, nearest_interval, link_first, hang, place_on, place}
-use Rattle.branching.specs.declared.order.Order.{Order}
-use Rattle.branching.specs.declared.order.Order.TheVariants.{Advance, Closest}
-use Rattle.wagner.specs.Next.{advancement, by_advancement, next_by}
-use Rattle.wagner.specs.Build.{Built, build_on, build, wagner, wagner_length}
-use Rattle.wagner.specs.Answers.{wagner_in}
-use Rattle.wagner.proofs.Closest.{adds, closeness_least}
-use Rattle.wagner.proofs.EachRow.{row_passes, placed_passes, rows_pass}
+use Rattle.matrix_form.specs.Shape.{row, weight_at}
+use Rattle.matrix_form.specs.NodeRows.{row_of, rows_of}
+use Rattle.matrix_form.proofs.Row.{length-row}
+use Rattle.matrix_form.proofs.NodeRows.{length-rows_of, get_or-rows_of}
+use Rattle.difference_form.specs.Rows.{medians, interval_by, node_difference, difference, unweighted}
+use Rattle.difference_form.proofs.Laws.Rows.{length-medians}
+use Rattle.difference_form.proofs.Laws.Weights.{difference-weights, difference-alike}
+use Rattle.tree_form.specs.Ancestors.{ancestor}
+use Rattle.tree_form.specs.Nodes.{nodes_in, nodes_out, other_nodes}
+use Rattle.tree_form.specs.Hanging.{no_branches}
+use Rattle.tree_form.specs.Branches.{tree_length}
+use Rattle.tree_form.specs.RowLengths.{node_interval, length_under}
+use Rattle.tree_form.specs.Placing.{AfterPlacing, from_interval, nearest_interval, link_first, hang, place_on, place}
+use Rattle.tree_form.specs.declared.order.Order.{Order}
+use Rattle.tree_form.specs.declared.order.Order.TheVariants.{Advance, Closest}
+use Rattle.wagner_form.specs.Next.{advancement, by_advancement, next_by}
+use Rattle.wagner_form.specs.Build.{Built, build_on, build, wagner, wagner_length}
+use Rattle.wagner_form.specs.Matrix.{wagner_in}
+use Rattle.wagner_form.proofs.Closest.{adds, closeness_least}
+use Rattle.wagner_form.proofs.EachRow.{row_passes, placed_passes, rows_pass}
 
 -- a row has at most m codes
 abbrev pub narrow : ℕ → List ℤ → Bool

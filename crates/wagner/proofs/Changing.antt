@@ -7,21 +7,21 @@ use native.Mathlib.Omega.{arith}
 use native.Mathlib.Decide.{ℕ_discrete}
 use lib.IntN.{ℤ}
 use lib.ListN.{length}
-use Rattle.matrix.specs.Shape.{row}
-use Rattle.matrix.specs.NodeRows.{rows_of}
-use Rattle.difference.specs.Rows.{difference, node_difference}
-use Rattle.branching.specs.Ancestors.{ancestor}
-use Rattle.branching.specs.Nodes.{Unplaced}
-use Rattle.branching.specs.Facts.{Grown, GrowingTree, alone, several}
-use Rattle.branching.specs.Hanging.{next_htu, linked, hung}
-use Rattle.branching.specs.Placing.{AfterPlacing, nearest_interval, link_first, hang}
+use Rattle.matrix_form.specs.Shape.{row}
+use Rattle.matrix_form.specs.NodeRows.{rows_of}
+use Rattle.difference_form.specs.Rows.{difference, node_difference}
+use Rattle.tree_form.specs.Ancestors.{ancestor}
+use Rattle.tree_form.specs.Nodes.{Unplaced}
+use Rattle.tree_form.specs.Facts.{Grown, GrowingTree, alone, several}
+use Rattle.tree_form.specs.Hanging.{next_htu, linked, hung}
+use Rattle.tree_form.specs.Placing.{AfterPlacing, nearest_interval, link_first, hang}
 use Rattle.branching.specs.Placed.{last_row, place_in, matrix_placed}
 use Rattle.branching.specs.Unasked.{interval_at}
-use Rattle.branching.proofs.Nodes.{nodes_in_node, node_nodes_in}
-use Rattle.branching.proofs.BranchSums.{Joint, hung-taxon, hung-lower, hung-other}
-use Rattle.branching.proofs.Hanging.{hung_joint, htu_out}
-use Rattle.branching.proofs.Linking.{linked-taxon, linked-other}
-use Rattle.branching.proofs.Placing.{place-first, place-later, nearest_in, nearest_node}
+use Rattle.tree_form.proofs.Nodes.{nodes_in_node, node_nodes_in}
+use Rattle.tree_form.proofs.BranchSums.{Joint, hung-taxon, hung-lower, hung-other}
+use Rattle.tree_form.proofs.Hanging.{hung_joint, htu_out}
+use Rattle.tree_form.proofs.Linking.{linked-taxon, linked-other}
+use Rattle.tree_form.proofs.Placing.{place-first, place-later, nearest_in, nearest_node}
 use Rattle.branching.proofs.Standing.{Standing, last_is, placed-other}
 use Rattle.wagner.specs.Closeness.{intervals, AllChanged}
 

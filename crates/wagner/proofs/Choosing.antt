@@ -9,24 +9,24 @@ use lib.IntN.{ℤ}
 use Rattle.lists.specs.Least.{first_least, least_item, least_of}
 use Rattle.lists.specs.Numbers.{numbers}
 use Rattle.lists.proofs.Least.{least_of_congr, least_of-none, first_least-mem}
-use Rattle.matrix.specs.Shape.{row}
-use Rattle.matrix.specs.NodeRows.{row_of, rows_of}
-use Rattle.matrix.proofs.NodeRows.{row_of-rows_of}
-use Rattle.difference.specs.Rows.{difference, node_difference}
-use Rattle.branching.specs.Nodes.{nodes_in, nodes_out, other_nodes, Unplaced}
-use Rattle.branching.specs.Hanging.{no_branches}
-use Rattle.branching.proofs.Nodes.{node_nodes_in, no_branches-none}
-use Rattle.branching.specs.declared.placement.Placement.{Placement}
+use Rattle.matrix_form.specs.Shape.{row}
+use Rattle.matrix_form.specs.NodeRows.{row_of, rows_of}
+use Rattle.matrix_form.proofs.NodeRows.{row_of-rows_of}
+use Rattle.difference_form.specs.Rows.{difference, node_difference}
+use Rattle.tree_form.specs.Nodes.{nodes_in, nodes_out, other_nodes, Unplaced}
+use Rattle.tree_form.specs.Hanging.{no_branches}
+use Rattle.tree_form.proofs.Nodes.{node_nodes_in, no_branches-none}
+use Rattle.tree_form.specs.declared.placement.Placement.{Placement}
 use Rattle.branching.specs.Placed.{last_row, place_in}
 use Rattle.branching.specs.Unasked.{AfterUnasked, interval_at, linked_at, nearest_at, placed_at}
-use Rattle.branching.proofs.Counts.{unplaced-taxon}
+use Rattle.tree_form.proofs.Counts.{unplaced-taxon}
 use Rattle.branching.proofs.Unasked.{unasked-plain, unasked-placed}
 use Rattle.branching.proofs.Standing.{Standing, standing_test, last_is}
-use Rattle.branching.specs.declared.order.Order.{Order}
-use Rattle.branching.specs.declared.order.Order.TheVariants.{Advance, Closest}
-use Rattle.wagner.specs.Next.{advancement, by_advancement, next_by}
+use Rattle.tree_form.specs.declared.order.Order.{Order}
+use Rattle.tree_form.specs.declared.order.Order.TheVariants.{Advance, Closest}
+use Rattle.wagner_form.specs.Next.{advancement, by_advancement, next_by}
 use Rattle.wagner.specs.Order.{least_key, key_of, key_by, KeysRight}
-use Rattle.wagner.proofs.Closest.{adds, closeness_least}
+use Rattle.wagner_form.proofs.Closest.{adds, closeness_least}
 
 -- the taxon that is chosen is the first of least key, and one of the list
 pub chosen-least : (key : ℕ → ℕ) (vs : List ℕ) (b : ℕ) → least_item key vs ≡ Some b → (b ≡ least_of key vs) × Memᴰ b vs

@@ -14,24 +14,23 @@ use Rattle.lists.specs.Tests.{every}
 use Rattle.lists.proofs.Both.{or_right}
 use Rattle.lists.proofs.Every.{every-from, every_iff}
 use Rattle.lists.proofs.Numbers.{numbers-within}
-use Rattle.matrix.specs.Shape.{row}
-use Rattle.matrix.specs.NodeRows.{row_of, rows_of}
-use Rattle.matrix.specs.Questions.{LentMatrix, LentWeights, all_in_range, htu_in_range, htus_in_range}
-use Rattle.matrix.proofs.Passing.{matrix_passes}
-use Rattle.matrix.proofs.NodeRows.{length-rows_of, row_of-next, row_of-rows_of}
-use Rattle.difference.specs.Rows.{difference}
-use Rattle.difference.proofs.Laws.Rows.{medians-in_range}
-use Rattle.branching.specs.Nodes.{taxa_placed}
-use Rattle.branching.specs.Growing.{growing_tree, branching}
-use Rattle.branching.specs.Asking.{branches_size, htus_of, ask_records}
-use Rattle.branching.proofs.Test.{branching_iff}
-use Rattle.branching.specs.declared.order.Order.{Order}
-use Rattle.wagner.specs.Next.{next_by}
-use Rattle.wagner.specs.Build.{Built, build, wagner}
-use Rattle.wagner.specs.Answers.{wagner_in}
-use Rattle.wagner.specs.Matrix.{matrix_after}
-use Rattle.wagner.proofs.EachRow.{row_passes, rows_pass}
-use Rattle.wagner.proofs.Matrix.{after_size, after_rows}
+use Rattle.matrix_form.specs.Shape.{row}
+use Rattle.matrix_form.specs.NodeRows.{row_of, rows_of}
+use Rattle.matrix_form.specs.Questions.{LentMatrix, LentWeights, all_in_range, htu_in_range, htus_in_range}
+use Rattle.matrix_form.proofs.Passing.{matrix_passes}
+use Rattle.matrix_form.proofs.NodeRows.{length-rows_of, row_of-next, row_of-rows_of}
+use Rattle.difference_form.specs.Rows.{difference}
+use Rattle.difference_form.proofs.Laws.Rows.{medians-in_range}
+use Rattle.tree_form.specs.Nodes.{taxa_placed}
+use Rattle.tree_form.specs.Growing.{growing_tree, branching}
+use Rattle.tree_form.specs.Asking.{branches_size, htus_of, ask_records}
+use Rattle.tree_form.proofs.Test.{branching_iff}
+use Rattle.tree_form.specs.declared.order.Order.{Order}
+use Rattle.wagner_form.specs.Next.{next_by}
+use Rattle.wagner_form.specs.Build.{Built, build, wagner}
+use Rattle.wagner_form.specs.Matrix.{matrix_after, wagner_in}
+use Rattle.wagner_form.proofs.EachRow.{row_passes, rows_pass}
+use Rattle.wagner_form.proofs.Matrix.{after_size, after_rows}
 use Rattle.wagner.proofs.Lengths.{ours_sound, ours-branching, ours_room}
 
 -- a row of no codes has none out of range

@@ -14,30 +14,30 @@ use Rattle.lists.specs.Sums.{sum_over}
 use Rattle.lists.proofs.Numbers.{length_map_numbers, map-numbers}
 use Rattle.lists.proofs.Over.{over-part}
 use Rattle.lists.proofs.Sums.{sum_map}
-use Rattle.matrix.specs.Shape.{row, row_start, columns}
-use Rattle.matrix.specs.NodeRows.{row_of, rows_of}
-use Rattle.matrix.specs.Questions.{LentMatrix}
-use Rattle.matrix.proofs.Row.{row_128}
-use Rattle.matrix.proofs.NodeRows.{length-rows_of, row_of-rows_of}
-use Rattle.difference.specs.Rows.{difference, node_difference}
-use Rattle.branching.specs.declared.branch.Branch.{Branch}
-use Rattle.branching.specs.Ancestors.{ancestor}
-use Rattle.branching.specs.Nodes.{other_nodes}
-use Rattle.branching.specs.Facts.{Branching}
-use Rattle.branching.specs.Branches.{tree_length, branch_of, branch_records, lengths_by, with_records}
-use Rattle.branching.specs.RowLengths.{length_under}
-use Rattle.branching.specs.Hanging.{no_branches}
-use Rattle.branching.proofs.Records.{records-length}
-use Rattle.branching.proofs.Whole.{branching_nodes, growing_ancestor_le}
-use Rattle.wagner.specs.Build.{Built, wagner_length, wagner_branches}
-use Rattle.wagner.specs.Records.{length_in, LengthsOf}
-use Rattle.branching.specs.declared.order.Order.{Order}
-use Rattle.wagner.specs.Answers.{wagner_in}
-use Rattle.wagner.specs.Matrix.{matrix_after}
-use Rattle.wagner.proofs.Whole.{wagner-branching}
-use Rattle.wagner.proofs.Difference.{wagner_sound}
-use Rattle.wagner.proofs.Matrix.{rows_of-each, after_rows, after_else}
-use Rattle.wagner.proofs.BuildLength.{Sound}
+use Rattle.matrix_form.specs.Shape.{row, row_start, columns}
+use Rattle.matrix_form.specs.NodeRows.{row_of, rows_of}
+use Rattle.matrix_form.specs.Questions.{LentMatrix}
+use Rattle.matrix_form.proofs.Row.{row_128}
+use Rattle.matrix_form.proofs.NodeRows.{length-rows_of, row_of-rows_of}
+use Rattle.difference_form.specs.Rows.{difference, node_difference}
+use Rattle.tree_form.specs.declared.branch.Branch.{Branch}
+use Rattle.tree_form.specs.Ancestors.{ancestor}
+use Rattle.tree_form.specs.Nodes.{other_nodes}
+use Rattle.tree_form.specs.Facts.{Branching}
+use Rattle.tree_form.specs.Branches.{tree_length, branch_of, branch_records, with_records}
+use Rattle.tree_records.specs.Lengths.{lengths_by}
+use Rattle.tree_form.specs.RowLengths.{length_under}
+use Rattle.tree_form.specs.Hanging.{no_branches}
+use Rattle.tree_form.proofs.Records.{records-length}
+use Rattle.tree_form.proofs.Whole.{branching_nodes, growing_ancestor_le}
+use Rattle.wagner_form.specs.Build.{Built, wagner_length, wagner_branches}
+use Rattle.wagner.specs.Steps.{length_in, LengthsOf}
+use Rattle.tree_form.specs.declared.order.Order.{Order}
+use Rattle.wagner_form.specs.Matrix.{matrix_after, wagner_in}
+use Rattle.wagner_form.proofs.Whole.{wagner-branching}
+use Rattle.wagner_form.proofs.Difference.{wagner_sound}
+use Rattle.wagner_form.proofs.Matrix.{rows_of-each, after_rows, after_else}
+use Rattle.wagner_form.proofs.BuildLength.{Sound}
 
 -- a record of zeros
 abbrev no_branch : Branch

@@ -1,10 +1,4 @@
--- The laws of placements and of the build, and their definitions computed on examples.
-pub mod Examples
-pub mod Closest
-pub mod Whole
-pub mod BuildLength
-pub mod Matrix
-pub mod Difference
+-- Laws of a build under way, for the proofs of the functions.
 pub mod LeastKey
 pub mod Choosing
 pub mod Renewing
@@ -12,7 +6,5 @@ pub mod Changing
 pub mod UnderWay
 pub mod Lengths
 pub mod StillLent
-pub mod EachRow
 pub mod Finished
 pub mod Alike
-pub mod Rising

@@ -13,11 +13,11 @@ use lib.Seq.{get_or-set_same, get_or-set_other}
 use Rattle.std.specs.Prelude.{Option, Some}
 use Rattle.std.specs.Option.{unwrap_or}
 use Rattle.lists.proofs.Least.{least_of-mem, least_of_congr}
-use Rattle.branching.specs.declared.placement.Placement.{Placement}
-use Rattle.branching.specs.Nodes.{in_tree, Unplaced}
+use Rattle.tree_form.specs.declared.placement.Placement.{Placement}
+use Rattle.tree_form.specs.Nodes.{in_tree, Unplaced}
 use Rattle.branching.specs.Unasked.{interval_at, nearest_at, hung_at, placed_at}
-use Rattle.branching.proofs.Nodes.{false-in_tree, node_nodes_in}
-use Rattle.branching.specs.declared.order.Order.TheVariants.{Advance, Closest}
+use Rattle.tree_form.proofs.Nodes.{false-in_tree, node_nodes_in}
+use Rattle.tree_form.specs.declared.order.Order.TheVariants.{Advance, Closest}
 use Rattle.wagner.specs.Order.{least_key, key_of, key_by}
 use Rattle.wagner.specs.Closeness.{places, kept, kept_of, intervals, RowRight, KeptThree, Changed, AllChanged}
 use Rattle.wagner.specs.Closeness.{RowRenewed, Table, KeysNext}

@@ -5,15 +5,14 @@ use Prim.Native.Nat.{ℕ, suc, ◌≤◌, ◌<◌}
 use native.Mathlib.Omega.{arith}
 use lib.IntN.{ℤ}
 use lib.Seq.{ext_get_or}
-use Rattle.matrix.specs.NodeRows.{rows_of}
-use Rattle.matrix.specs.Shape.{row}
-use Rattle.matrix.specs.Questions.{LentMatrix, all_in_range}
-use Rattle.matrix.proofs.NodeRows.{length-rows_of, get_or-rows_of}
-use Rattle.difference.specs.Rows.{difference}
-use Rattle.branching.specs.declared.order.Order.{Order}
-use Rattle.wagner.specs.Answers.{wagner_in}
-use Rattle.wagner.specs.Matrix.{matrix_after}
-use Rattle.wagner.proofs.Matrix.{after_size, after_taxon}
+use Rattle.matrix_form.specs.NodeRows.{rows_of}
+use Rattle.matrix_form.specs.Shape.{row}
+use Rattle.matrix_form.specs.Questions.{LentMatrix, all_in_range}
+use Rattle.matrix_form.proofs.NodeRows.{length-rows_of, get_or-rows_of}
+use Rattle.difference_form.specs.Rows.{difference}
+use Rattle.tree_form.specs.declared.order.Order.{Order}
+use Rattle.wagner_form.specs.Matrix.{matrix_after, wagner_in}
+use Rattle.wagner_form.proofs.Matrix.{after_size, after_taxon}
 use Rattle.wagner.proofs.Lengths.{ours_sound, ours_room}
 
 -- a lent matrix, and what it holds after the build

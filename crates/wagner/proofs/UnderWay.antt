@@ -5,9 +5,9 @@ use native.Mathlib.Decide.{dec_le}
 use Rattle.std.specs.Prelude.{Some, None, Ok}
 use Rattle.lists.specs.Least.{least_item}
 use Rattle.lists.specs.Numbers.{numbers}
-use Rattle.branching.proofs.Counts.{taxa_placed_lt, some-unplaced, unplaced-taxon}
-use Rattle.matrix.specs.Questions.{ask_matrix}
-use Rattle.matrix.proofs.Passing.{matrix_passes}
+use Rattle.tree_form.proofs.Counts.{taxa_placed_lt, some-unplaced, unplaced-taxon}
+use Rattle.matrix_form.specs.Questions.{ask_matrix}
+use Rattle.matrix_form.proofs.Passing.{matrix_passes}
 use mathlib.Core.List.{List, [], ◌∷◌, ◌++◌, append_assoc, append-nil}
 use Prim.Native.Nat.{ℕ, suc, ◌+◌, ◌*◌, ◌-◌, ◌≤◌, ◌<◌}
 use native.Mathlib.Omega.{arith}
@@ -20,37 +20,37 @@ use Rattle.lists.specs.Sums.{sum_over}
 use Rattle.lists.proofs.Filled.{filled-snoc}
 use Rattle.lists.proofs.Stripes.{stripes-snoc}
 use Rattle.lists.proofs.Sums.{sum_snoc}
-use Rattle.matrix.specs.Shape.{row_start, columns}
-use Rattle.matrix.specs.NodeRows.{rows_of, with_row, with_rows}
-use Rattle.matrix.specs.Questions.{LentMatrix, LentWeights}
-use Rattle.matrix.proofs.NodeRows.{length-rows_of}
-use Rattle.difference.specs.Rows.{difference, most_difference}
-use Rattle.branching.specs.declared.placement.Placement.{Placement}
+use Rattle.matrix_form.specs.Shape.{row_start, columns}
+use Rattle.matrix_form.specs.NodeRows.{rows_of, with_row, with_rows}
+use Rattle.matrix_form.specs.Questions.{LentMatrix, LentWeights}
+use Rattle.matrix_form.proofs.NodeRows.{length-rows_of}
+use Rattle.difference_form.specs.Rows.{difference, most_difference}
+use Rattle.tree_form.specs.declared.placement.Placement.{Placement}
 use Rattle.branching.specs.declared.placement.Placed.{Placed}
-use Rattle.branching.specs.Ancestors.{ancestors}
-use Rattle.branching.specs.Nodes.{nodes_out, Unplaced}
-use Rattle.branching.specs.Facts.{alone}
-use Rattle.branching.specs.Hanging.{no_branches}
-use Rattle.branching.specs.Placing.{AfterPlacing, place}
+use Rattle.branching.specs.Views.{ancestors}
+use Rattle.tree_form.specs.Nodes.{nodes_out, Unplaced}
+use Rattle.tree_form.specs.Facts.{alone}
+use Rattle.tree_form.specs.Hanging.{no_branches}
+use Rattle.tree_form.specs.Placing.{AfterPlacing, place}
 use Rattle.branching.specs.Placed.{last_row, place_in, matrix_placed}
 use Rattle.branching.specs.Unasked.{no_placement, unasked, UnaskedDone}
-use Rattle.branching.proofs.Nodes.{node_nodes_in, no_branches-none, no_branches-places}
+use Rattle.tree_form.proofs.Nodes.{node_nodes_in, no_branches-none, no_branches-places}
 use Rattle.branching.proofs.Unasked.{AsPlaced, unasked-placed, no_row}
 use Rattle.branching.proofs.Standing.{Standing, standing_placed, standing_test, last_is, Step, first, later, placed-step, added-most}
 use Rattle.branching.proofs.Standing.{placed-rows, placed_standing}
 use Rattle.wagner.specs.declared.answer.WagnerTree.{WagnerTree}
-use Rattle.branching.specs.declared.order.Order.{Order}
-use Rattle.wagner.specs.Next.{next_by}
-use Rattle.wagner.specs.Build.{Built, added_length, build_on, build, wagner, wagner_length}
-use Rattle.wagner.specs.Matrix.{matrix_after}
-use Rattle.wagner.specs.Answers.{most_placements, wagner_in, BuiltFrom}
+use Rattle.tree_form.specs.declared.order.Order.{Order}
+use Rattle.wagner_form.specs.Next.{next_by}
+use Rattle.wagner_form.specs.Build.{Built, added_length, build_on, build, wagner, wagner_length}
+use Rattle.wagner_form.specs.Matrix.{matrix_after, wagner_in}
+use Rattle.wagner.specs.Answers.{most_placements, BuiltFrom}
 use Rattle.wagner.specs.Order.{key_of, KeysRight, Advancements}
 use Rattle.wagner.specs.Closeness.{Table, KeysNext}
 use Rattle.wagner.specs.Steps.{RowOne, OneMore}
 use Rattle.wagner.proofs.Choosing.{chosen-least, chosen-none, alone-key, next_right}
 use Rattle.wagner.proofs.Changing.{placed_changed}
-use Rattle.wagner.proofs.Difference.{wagner-length}
-use Rattle.wagner.proofs.Matrix.{rows_of-each}
+use Rattle.wagner_form.proofs.Difference.{wagner-length}
+use Rattle.wagner_form.proofs.Matrix.{rows_of-each}
 
 -- the rows of the nodes of a tree
 abbrev pub rows_now : List ℤ → ℕ → ℕ → List ℕ → List (List ℤ)

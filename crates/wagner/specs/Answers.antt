@@ -1,24 +1,19 @@
 -- What the call for the Wagner tree of a lent matrix answers.
 use Rattle.std.specs.Prelude.{◌≡◌, List, ℕ, ℤ, length, Result, Ok, Err, MatchResult}
 use Rattle.lists.specs.Filled.{filled}
-use Rattle.matrix.specs.NodeRows.{rows_of}
-use Rattle.matrix.specs.Questions.{ask_matrix}
-use Rattle.matrix.specs.declared.refusal.Refusal.{Refusal}
-use Rattle.difference.specs.Rows.{difference}
-use Rattle.branching.specs.Ancestors.{ancestors}
-use Rattle.branching.specs.Placing.{no_placement}
+use Rattle.matrix_form.specs.Questions.{ask_matrix}
+use Rattle.matrix_form.specs.declared.refusal.Refusal.{Refusal}
+use Rattle.difference_form.specs.Rows.{difference}
+use Rattle.branching.specs.Views.{ancestors}
+use Rattle.tree_form.specs.Placing.{no_placement}
 use Rattle.wagner.specs.declared.answer.WagnerTree.{WagnerTree}
-use Rattle.branching.specs.declared.order.Order.{Order}
-use Rattle.wagner.specs.Build.{Built, wagner, wagner_length}
-use Rattle.wagner.specs.Matrix.{matrix_after}
+use Rattle.tree_form.specs.declared.order.Order.{Order}
+use Rattle.wagner_form.specs.Build.{wagner_length}
+use Rattle.wagner_form.specs.Matrix.{wagner_in, matrix_after}
 
 -- at most 63 taxa are placed
 abbrev pub most_placements : ℕ
 most_placements = 63
-
--- the Wagner tree of the rows of a matrix by the weights of its characters, in an order of placing
-unfoldable pub wagner_in : Order → List ℤ → List ℕ → ℕ → ℕ → Built
-wagner_in order codes weights n m = wagner (difference weights) order n (rows_of codes m n)
 
 -- the answer of a build that no question refuses, for a lent matrix of n taxa and m characters, by its weights and in an order of placing:
 -- the Wagner tree; the placements, with zeros behind them, and their number; the matrix with the rows of the HTUs; the length under the

@@ -2,15 +2,15 @@
 -- The interval differences that are kept of each taxon and each interval, and what a placement changes of them.
 use Rattle.std.specs.Prelude.{◌≡◌, ◌≢◌, ◌⊎◌, ℕ, ◌<◌, ℤ, get_or, Option, Some}
 use mathlib.Core.List.{List, [], Memᴰ}
-use Rattle.matrix.specs.Shape.{row}
-use Rattle.difference.specs.Rows.{difference, node_difference}
-use Rattle.branching.specs.declared.placement.Placement.{Placement}
-pub use Rattle.branching.specs.Ancestors.{places}
-use Rattle.branching.specs.Ancestors.{ancestors}
-use Rattle.branching.specs.Nodes.{nodes_in, other_nodes, Unplaced}
+use Rattle.matrix_form.specs.Shape.{row}
+use Rattle.difference_form.specs.Rows.{difference, node_difference}
+use Rattle.tree_form.specs.declared.placement.Placement.{Placement}
+pub use Rattle.tree_form.specs.Ancestors.{places}
+use Rattle.branching.specs.Views.{ancestors}
+use Rattle.tree_form.specs.Nodes.{nodes_in, other_nodes, Unplaced}
 use Rattle.branching.specs.Unasked.{interval_at}
-use Rattle.branching.specs.declared.order.Order.{Order}
-use Rattle.branching.specs.declared.order.Order.TheVariants.{Closest}
+use Rattle.tree_form.specs.declared.order.Order.{Order}
+use Rattle.tree_form.specs.declared.order.Order.TheVariants.{Closest}
 use Rattle.wagner.specs.Order.{key_by, KeysRight}
 use Rattle.wagner.specs.declared.closeness.Made.{Made}
 

@@ -1,10 +1,6 @@
--- The Wagner tree: the whole build (document 01, "The Wagner tree"; Farris 1970), and what the calls answer.
-pub mod Next
-pub mod Build
-pub mod Matrix
+-- What the call for the Wagner tree answers, by the struct that it hands back, and what the private functions promise. What the tree is
+-- stands in `wagner_form`.
 pub mod Answers
-pub mod Records
-pub mod Rising
 pub mod Order
 pub mod Closeness
 pub mod Steps

@@ -2,12 +2,12 @@
 -- The keys by which the taxon to place next is chosen.
 use Rattle.std.specs.Prelude.{◌≡◌, List, [], ◌∷◌, ℕ, ◌<◌, ℤ, get_or, Option, Some, None}
 use Rattle.lists.specs.Least.{first_least}
-use Rattle.matrix.specs.Shape.{row}
-use Rattle.difference.specs.Rows.{difference, node_difference}
-use Rattle.branching.specs.Nodes.{Unplaced}
+use Rattle.matrix_form.specs.Shape.{row}
+use Rattle.difference_form.specs.Rows.{difference, node_difference}
+use Rattle.tree_form.specs.Nodes.{Unplaced}
 use Rattle.branching.specs.Unasked.{nearest_at, placed_at}
-use Rattle.branching.specs.declared.order.Order.{Order}
-use Rattle.branching.specs.declared.order.Order.TheVariants.{Advance, Closest}
+use Rattle.tree_form.specs.declared.order.Order.{Order}
+use Rattle.tree_form.specs.declared.order.Order.TheVariants.{Advance, Closest}
 
 -- the least key of a list, if it has an item
 unfoldable pub least_key : {A : Type 0} → (A → ℕ) → List A → Option ℕ

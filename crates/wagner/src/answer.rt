@@ -1,8 +1,9 @@
 // What a build hands back.
-use branching::placement::{Placed, Placement};
+use branching::placement::Placed;
 use branching::tree::Tree;
 use filled::Filled;
 use matrix::MOST_TAXA;
+use tree_form::placement::Placement;
 
 // A build places at most 63 taxa behind row 1.
 // Kept: no plainer, `prim` has this number for its links: they are equal since each taxon behind row 1 has one of each, and each is said where its list is.

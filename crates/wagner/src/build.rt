@@ -4,10 +4,10 @@ ghost use Rattle.wagner.specs.Answers.{BuildDone};
 use crate::answer::WagnerTree;
 use crate::closeness::Made;
 use crate::keys::Keys;
-use branching::order::Order;
 use difference::nodes::Nodes;
 use matrix::lent::Lent;
-use matrix::refusal::Refusal;
+use matrix_form::refusal::Refusal;
+use tree_form::order::Order;
 
 // The Wagner tree of a lent matrix of n taxa and m characters, by their weights, in an order of placing. The codes of the HTUs
 // are written into their rows of the matrix; a refusal writes nothing.

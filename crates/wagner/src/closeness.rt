@@ -1,11 +1,12 @@
 // The keys by closeness: for each taxon that is not placed, the length that its placement would add. The interval difference of each taxon
 // from each interval is kept, and a placement changes it for three intervals alone.
 ghost use Rattle.std.specs.Prelude.{◌≡◌, ◌≤◌};
-ghost use Rattle.matrix.specs.Shape.{most_taxa};
+ghost use Rattle.matrix_form.specs.Shape.{most_taxa};
 
-use branching::placement::{Placed, Placement};
-use branching::tree::PLACES;
+use branching::placement::Placed;
 use difference::nodes::Nodes;
+use tree_form::placement::Placement;
+use tree_form::tree::PLACES;
 
 // A placement that was made on a tree of a lent matrix: the nodes after it, and the tree and the placement.
 #[derive(Clone, Copy)]
@@ -17,7 +18,7 @@ pub(crate) struct Made<'a, 'b> {
 }
 
 impl<'a, 'b> Made<'a, 'b> {
-    ghost use Rattle.branching.specs.Ancestors.{ancestors};
+    ghost use Rattle.branching.specs.Views.{ancestors};
     ghost use Rattle.wagner.specs.Order.{least_key};
     ghost use Rattle.wagner.specs.Closeness.{kept, intervals, ThreeKept, RowMade};
 

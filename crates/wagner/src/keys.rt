@@ -1,12 +1,13 @@
 // The keys of the taxa while a build goes on: by them the taxon to place next is chosen, and after its placement they are made right.
 ghost use Rattle.std.specs.Prelude.{◌≤◌};
-ghost use Rattle.matrix.specs.Shape.{most_taxa};
+ghost use Rattle.matrix_form.specs.Shape.{most_taxa};
 
 use crate::closeness::Made;
 use crate::order::{KEYS, advancements};
-use branching::order::Order;
-use branching::tree::{PLACES, Tree};
+use branching::tree::Tree;
 use difference::nodes::Nodes;
+use tree_form::order::Order;
+use tree_form::tree::PLACES;
 
 // The order of placing; the key of each taxon; and by closeness the interval differences that are kept of it, by the lower end.
 // Kept: no plainer, the keys of both orders are one list, as `advancements` makes it; the table is read and written by closeness alone.
@@ -21,11 +22,11 @@ impl Keys {
     ghost use Rattle.std.specs.Prelude.{◌≡◌};
     ghost use Rattle.lists.specs.Least.{least_item};
     ghost use Rattle.lists.specs.Numbers.{numbers};
-    ghost use Rattle.branching.specs.Ancestors.{ancestors};
-    ghost use Rattle.branching.specs.Nodes.{nodes_out};
+    ghost use Rattle.branching.specs.Views.{ancestors};
+    ghost use Rattle.tree_form.specs.Nodes.{nodes_out};
     ghost use Rattle.wagner.specs.Order.{key_of, Advancements};
     ghost use Rattle.wagner.specs.Closeness.{KeysMade};
-    ghost use Rattle.branching.specs.declared.order.Order.TheVariants.{Closest};
+    ghost use Rattle.tree_form.specs.declared.order.Order.TheVariants.{Closest};
 
     // The keys before the first placement: in both orders those of the advancements.
     pub(crate) fn first(order: Order, nodes: &Nodes) -> Keys

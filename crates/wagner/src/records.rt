@@ -1,16 +1,18 @@
 // A finished tree as branch records, with their lengths under the codes of the matrix.
 ghost use Rattle.std.specs.Prelude.{◌≡◌};
-ghost use Rattle.branching.specs.Ancestors.{ancestors};
-ghost use Rattle.branching.specs.Branches.{with_records};
-ghost use Rattle.wagner.specs.Records.{length_in, LengthsOf};
+ghost use Rattle.branching.specs.Views.{ancestors};
+ghost use Rattle.tree_form.specs.Branches.{with_records};
+ghost use Rattle.wagner.specs.Steps.{length_in, LengthsOf};
 
-use branching::branch::{BRANCHES, Branch};
-use branching::lent::with_records;
-use branching::tree::{PLACES, Tree};
+use branching::tree::Tree;
 use difference::nodes::Nodes;
 use matrix::MOST_CHARACTERS;
 use matrix::lent::Lent;
 use std::array;
+use tree_form::branch::Branch;
+use tree_form::tree::PLACES;
+use tree_records::branch::BRANCHES;
+use tree_records::lent::with_records;
 
 // The lengths of the branches, by node number: the difference of each row from that of its immediate ancestor, over the first 128 characters.
 fn lengths(lent: &Lent, tree: &Tree) -> [u64; PLACES]

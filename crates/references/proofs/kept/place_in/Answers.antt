@@ -2,7 +2,7 @@
 use Rattle.std.proofs.Common.{rules, ◌≡◌, Err}
 use Rattle.branching.specs.declared.placement.NotPlaced.{NotPlaced}
 use Rattle.branching.specs.Placed.{placement_says}
-use Rattle.branching.proofs.Mapped.{mapped_err}
+use Rattle.tree_form.proofs.Mapped.{mapped_err}
 use Rattle.references.proofs.KeptLaws.{refused_stays}
 use Rattle.references.proofs.kept.place_in.Goals as goal
 

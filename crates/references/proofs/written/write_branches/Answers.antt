@@ -1,7 +1,7 @@
 -- `references::written::write_branches` meets its contract.
 use Rattle.std.proofs.Common.{sym, ◌∙◌, ◌≡◌, length}
 use Rattle.std.proofs.lemmas.Result.{err_from_is_err_and}
-use Rattle.branching.specs.Asking.{branches_size}
+use Rattle.tree_form.specs.Asking.{branches_size}
 use Rattle.references.proofs.Recording.{other_size, written_refused, written_passed}
 use Rattle.references.proofs.written.write_branches.Goals as goal
 

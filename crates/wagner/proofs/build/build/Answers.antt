@@ -1,6 +1,6 @@
 -- `wagner::build::build` meets its contract.
 use Rattle.std.proofs.Common.{arith, refl, sym, ◌∙◌, []}
-use Rattle.matrix.proofs.Passing.{matrix_passes, matrix_passed}
+use Rattle.matrix_form.proofs.Passing.{matrix_passes, matrix_passed}
 use Rattle.wagner.proofs.UnderWay.{begun_under_way, next-less, next-most, next_under_way, done_under_way}
 use Rattle.wagner.proofs.build.build.Goals as goal
 

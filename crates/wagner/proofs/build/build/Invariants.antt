@@ -1,6 +1,6 @@
 -- `wagner::build::build` meets its contract. The loop's invariant: the build is under way, and what is left of it goes on from here.
 use Rattle.std.proofs.Common.{List, length, ◌≡◌, ◌-◌}
-use Rattle.branching.specs.declared.placement.Placement.{Placement}
+use Rattle.tree_form.specs.declared.placement.Placement.{Placement}
 use Rattle.wagner.proofs.UnderWay.{UnderWay}
 use Rattle.wagner.proofs.build.build.Given as goal
 

@@ -1,9 +1,9 @@
 -- `wagner::order::advancements` meets its contract.
 use Rattle.std.proofs.Common.{rules, ℕ, List, ◌∙◌, ap, get_or, zero-add}
 use Rattle.lists.proofs.Numbers.{map-numbers}
-use Rattle.matrix.specs.Shape.{row}
-use Rattle.difference.specs.Rows.{difference, node_difference}
-use Rattle.branching.proofs.Ranges.{made-map}
+use Rattle.matrix_form.specs.Shape.{row}
+use Rattle.difference_form.specs.Rows.{difference, node_difference}
+use Rattle.tree_form.proofs.Ranges.{made-map}
 use Rattle.wagner.specs.Order.{key_of}
 use Rattle.wagner.proofs.order.advancements.Goals as goal
 

@@ -1,10 +1,11 @@
 -- `wagner::records::lengths` meets its contract.
 use Rattle.std.proofs.Common.{rules, ℕ, List, ◌∙◌, ap, get_or, zero-add, min}
 use Rattle.lists.proofs.Numbers.{map-numbers}
-use Rattle.matrix.specs.Shape.{row}
-use Rattle.difference.specs.Rows.{difference, node_difference}
-use Rattle.branching.specs.Ancestors.{ancestor, ancestors}
-use Rattle.branching.proofs.Ranges.{made-map}
+use Rattle.matrix_form.specs.Shape.{row}
+use Rattle.difference_form.specs.Rows.{difference, node_difference}
+use Rattle.tree_form.specs.Ancestors.{ancestor}
+use Rattle.branching.specs.Views.{ancestors}
+use Rattle.tree_form.proofs.Ranges.{made-map}
 use Rattle.wagner.proofs.Lengths.{length_in-first}
 use Rattle.wagner.proofs.records.lengths.Goals as goal
 

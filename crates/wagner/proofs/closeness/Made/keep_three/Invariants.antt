@@ -1,6 +1,6 @@
 -- `wagner::closeness::Made::keep_three` meets its contract. The loop's invariant: the places of the nodes gone through are written.
 use Rattle.std.proofs.Common.{◌≡◌}
-use Rattle.branching.specs.Ancestors.{ancestors}
+use Rattle.branching.specs.Views.{ancestors}
 use Rattle.wagner.proofs.Renewing.{three_nodes, Written}
 use Rattle.wagner.proofs.closeness.Made.keep_three.Given as goal
 

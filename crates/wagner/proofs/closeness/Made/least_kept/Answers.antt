@@ -3,11 +3,11 @@ use Rattle.std.proofs.Common.{rules, arith, sym, ◌∙◌, ap, ◌-◌, ◌*◌
 use Rattle.std.proofs.lemmas.Iterator.{YieldsList-from_range, YieldsList-from_map}
 use Rattle.std.proofs.lemmas.Iterator.Adapters.{option_map_id}
 use Rattle.std.proofs.lemmas.Iterator.Consumers.{YieldsList-at, YieldsList-from_filter, min_from_yields_List}
-use Rattle.branching.specs.Ancestors.{ancestors}
-use Rattle.branching.specs.Nodes.{in_tree, nodes_in, other_nodes}
+use Rattle.branching.specs.Views.{ancestors}
+use Rattle.tree_form.specs.Nodes.{in_tree, nodes_in, other_nodes}
 use Rattle.wagner.specs.Order.{least_key}
 use Rattle.wagner.specs.Closeness.{kept}
-use Rattle.branching.proofs.Ranges.{filter-range}
+use Rattle.tree_form.proofs.Ranges.{filter-range}
 use Rattle.wagner.proofs.LeastKey.{least_from_min}
 use Rattle.wagner.proofs.closeness.Made.least_kept.Goals as goal
 

@@ -2,11 +2,11 @@
 use Rattle.std.proofs.Common.{rules, arith, ap, ◌∙◌, ℕ, not, ◌+◌}
 use Rattle.std.proofs.lemmas.Iterator.{YieldsList-from_range}
 use Rattle.std.proofs.lemmas.Iterator.Consumers.{YieldsList-from_filter}
-use Rattle.branching.specs.Ancestors.{ancestors}
-use Rattle.branching.specs.Nodes.{in_tree, nodes_out}
+use Rattle.branching.specs.Views.{ancestors}
+use Rattle.tree_form.specs.Nodes.{in_tree, nodes_out}
 use Rattle.lists.specs.Least.{least_item}
 use Rattle.lists.proofs.Picked.{min_by_key_is}
-use Rattle.branching.proofs.Ranges.{filter-range}
+use Rattle.tree_form.proofs.Ranges.{filter-range}
 use Rattle.wagner.specs.Order.{key_of}
 use Rattle.wagner.proofs.keys.Keys.next.Goals as goal
 

@@ -1,7 +1,7 @@
 -- `wagner::keys::Keys::renew_closest` meets its contract. The loop's invariant: keys and what is kept of the taxa before v are right after the
 -- placement, and what is kept of the others is as it was.
 use Rattle.std.proofs.Common.{length, ◌≡◌}
-use Rattle.branching.specs.Ancestors.{ancestors}
+use Rattle.branching.specs.Views.{ancestors}
 use Rattle.wagner.proofs.Renewing.{RenewedUpTo}
 use Rattle.wagner.proofs.keys.Keys.renew_closest.Given as goal
 

@@ -10,21 +10,21 @@ use native.Mathlib.Decide.{dec_le}
 use lib.IntN.{ℤ}
 use lib.ListN.{length, length-append}
 use Rattle.lists.specs.Sums.{sum_over}
-use Rattle.matrix.specs.NodeRows.{row_of}
-use Rattle.branching.specs.Ancestors.{ancestor}
-use Rattle.branching.specs.Facts.{GrowingTree, alone, several}
-use Rattle.branching.specs.Nodes.{Unplaced}
-use Rattle.branching.specs.Hanging.{no_branches}
-use Rattle.branching.proofs.Nodes.{no_branches-none, no_branches-places}
-use Rattle.branching.proofs.Test.{growing-placed}
-use Rattle.branching.proofs.Lengths.{alone-length}
-use Rattle.difference.specs.Rows.{node_difference}
-use Rattle.branching.specs.RowLengths.{length_under}
-use Rattle.branching.specs.Placing.{AfterPlacing, median_row, nearest_interval, link_first, hang, place}
-use Rattle.wagner.specs.Build.{Built, added_length, build_on, build}
-use Rattle.branching.proofs.Placing.{place-first, place-later, nearest_node, place_grows, place-places}
-use Rattle.wagner.proofs.Whole.{Chooses}
-use Rattle.branching.proofs.RowLengths.{MedianLaws, OfLength, Growth, row_of_old, row_of_new, median_row_sized, place-added}
+use Rattle.matrix_form.specs.NodeRows.{row_of}
+use Rattle.tree_form.specs.Ancestors.{ancestor}
+use Rattle.tree_form.specs.Facts.{GrowingTree, alone, several}
+use Rattle.tree_form.specs.Nodes.{Unplaced}
+use Rattle.tree_form.specs.Hanging.{no_branches}
+use Rattle.tree_form.proofs.Nodes.{no_branches-none, no_branches-places}
+use Rattle.tree_form.proofs.Test.{growing-placed}
+use Rattle.tree_form.proofs.Lengths.{alone-length}
+use Rattle.difference_form.specs.Rows.{node_difference}
+use Rattle.tree_form.specs.RowLengths.{length_under}
+use Rattle.tree_form.specs.Placing.{AfterPlacing, median_row, nearest_interval, link_first, hang, place}
+use Rattle.wagner_form.specs.Build.{Built, added_length, build_on, build}
+use Rattle.tree_form.proofs.Placing.{place-first, place-later, nearest_node, place_grows, place-places}
+use Rattle.wagner_form.proofs.Whole.{Chooses}
+use Rattle.tree_form.proofs.RowLengths.{MedianLaws, OfLength, Growth, row_of_old, row_of_new, median_row_sized, place-added}
 
 -- a row of m codes more
 rows_more : (m : ℕ) (rows : List (List ℤ)) (r : List ℤ) → OfLength m rows → length r ≡ m → OfLength m (rows ++ (r ∷ []))

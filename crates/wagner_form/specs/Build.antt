@@ -1,16 +1,16 @@
 -- The whole build: from row 1 alone, taxon after taxon is placed until all n are in the tree.
 use Rattle.std.specs.Prelude.{List, [], ◌∷◌, ℕ, zero, suc, ◌-◌, ℤ}
-use Rattle.difference.specs.Rows.{node_difference}
-use Rattle.matrix.specs.NodeRows.{row_of}
-use Rattle.branching.specs.declared.placement.Placement.{Placement}
-use Rattle.branching.specs.declared.branch.Branch.{Branch}
-use Rattle.branching.specs.Hanging.{no_branches}
-use Rattle.branching.specs.Branches.{branch_records}
+use Rattle.difference_form.specs.Rows.{node_difference}
+use Rattle.matrix_form.specs.NodeRows.{row_of}
+use Rattle.tree_form.specs.declared.placement.Placement.{Placement}
+use Rattle.tree_form.specs.declared.branch.Branch.{Branch}
+use Rattle.tree_form.specs.Hanging.{no_branches}
+use Rattle.tree_form.specs.Branches.{branch_records}
 use Rattle.lists.specs.Sums.{sum_over}
-use Rattle.branching.specs.RowLengths.{length_under}
-use Rattle.branching.specs.Placing.{AfterPlacing, place}
-use Rattle.branching.specs.declared.order.Order.{Order}
-use Rattle.wagner.specs.Next.{next_by}
+use Rattle.tree_form.specs.RowLengths.{length_under}
+use Rattle.tree_form.specs.Placing.{AfterPlacing, place}
+use Rattle.tree_form.specs.declared.order.Order.{Order}
+use Rattle.wagner_form.specs.Next.{next_by}
 
 -- what comes out of a build: the tree, the rows of all nodes, and the placements in order
 pub record Built : Type 0 where

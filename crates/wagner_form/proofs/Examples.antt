@@ -5,30 +5,32 @@ use mathlib.Core.List.{List, [], ◌∷◌, ◌++◌, flat_map}
 use mathlib.Core.Bool.{Bool, true}
 use Prim.Native.Nat.{ℕ, ◌*◌, ◌-◌}
 use lib.IntN.{ℤ, pos, negsuc}
-use lib.ListN.{take}
-use Rattle.matrix.specs.NodeRows.{row_of}
-use Rattle.difference.specs.Rows.{interval_by, apart, part, lower, higher, median, medians, difference, node_difference}
+use lib.ListN.{take, replicate}
+use Rattle.lists.specs.Over.{over, stripes}
+use Rattle.matrix_form.specs.NodeRows.{row_of, with_rows}
+use Rattle.difference_form.specs.Rows.{interval_by, apart, part, lower, higher, median, medians, difference, node_difference}
 use Rattle.lists.specs.Numbers.{numbers}
 use Rattle.lists.specs.Least.{first_least, least_of}
 use Rattle.lists.specs.Pairs.{pairs}
-use Rattle.matrix.specs.Shape.{last_node, weight_at}
+use Rattle.matrix_form.specs.Shape.{last_node, weight_at}
 use Rattle.lists.specs.Tests.{every, same_numbers}
-use Rattle.branching.specs.declared.placement.Placement.{Placement}
-use Rattle.branching.specs.declared.branch.Branch.{Branch}
-use Rattle.branching.specs.Ancestors.{ancestor, descendants}
+use Rattle.tree_form.specs.declared.placement.Placement.{Placement}
+use Rattle.tree_form.specs.declared.branch.Branch.{Branch}
+use Rattle.tree_form.specs.Ancestors.{ancestor, descendants}
 use Rattle.lists.specs.Filters.{keep}
-use Rattle.branching.specs.Nodes.{has_ancestor, in_tree, nodes_in, nodes_out, other_nodes, taxa_placed}
-use Rattle.branching.specs.Growing.{descendant_count, descendants_wanted, climbs, row_one_alone, nodes_only, htus_in, ancestors_in}
-use Rattle.branching.specs.Growing.{descendants_right, all_climb, grown, growing_tree, branching}
-use Rattle.branching.specs.Hanging.{no_branches, linked, hung, next_htu}
-use Rattle.branching.specs.Branches.{tree_length, branch_of, branch_records, branches_read, ancestors_of, named_in_order, lent_branching}
+use Rattle.tree_form.specs.Nodes.{has_ancestor, in_tree, nodes_in, nodes_out, other_nodes, taxa_placed}
+use Rattle.tree_form.specs.Growing.{descendant_count, descendants_wanted, climbs, row_one_alone, nodes_only, htus_in, ancestors_in}
+use Rattle.tree_form.specs.Growing.{descendants_right, all_climb, grown, growing_tree, branching}
+use Rattle.tree_form.specs.Hanging.{no_branches, linked, hung, next_htu}
+use Rattle.tree_form.specs.Branches.{tree_length, branch_of, branch_records, branches_read, ancestors_of, named_in_order, lent_branching}
 use Rattle.lists.specs.Sums.{sum_over}
-use Rattle.branching.specs.RowLengths.{node_interval, length_under}
-use Rattle.branching.specs.declared.order.Order.{Order}
-use Rattle.branching.specs.declared.order.Order.TheVariants.{Advance, Closest}
-use Rattle.wagner.specs.Next.{hangings, taxon_of, advancement, by_advancement, by_closeness, next_by}
-use Rattle.wagner.specs.Build.{Built, build_on, build, wagner, wagner_length, wagner_branches}
-use Rattle.branching.specs.Placing.{AfterPlacing, median_row, from_interval, nearest_interval, link_first, hang, place_on, place}
+use Rattle.tree_form.specs.RowLengths.{node_interval, length_under}
+use Rattle.tree_form.specs.declared.order.Order.{Order}
+use Rattle.tree_form.specs.declared.order.Order.TheVariants.{Advance, Closest}
+use Rattle.wagner_form.specs.Next.{hangings, taxon_of, advancement, by_advancement, by_closeness, next_by}
+use Rattle.wagner_form.specs.Build.{Built, build_on, build, wagner, wagner_length, wagner_branches}
+use Rattle.wagner_form.specs.Matrix.{matrix_after}
+use Rattle.tree_form.specs.Placing.{AfterPlacing, median_row, from_interval, nearest_interval, link_first, hang, place_on, place}
 
 -- taxon, lower end, upper end, HTU, length added
 abbrev line : ℕ → ℕ → ℕ → ℕ → ℕ → Placement
@@ -220,3 +222,10 @@ branches-listed = refl
 branches-lent : lent_branching 4 branches ≡ true
 unfolding branches
 branches-lent = refl
+
+-- a matrix of nines after that build: the rows of #1 and #2, nodes 5 and 6, have the medians of D, B and A and of C, B and #1 in three
+-- characters, and all else is as before
+matrix-written : matrix_after (replicate 645 (pos 9)) 4 (wagner (difference alike) Advance 4 four_taxa)
+    ≡ replicate 512 (pos 9) ++ (pos 0 ∷ pos 1 ∷ pos 0 ∷ []) ++ replicate 125 (pos 9) ++ (pos 2 ∷ pos 1 ∷ pos 0 ∷ []) ++ replicate 2 (pos 9)
+unfolding shown_by over stripes with_rows matrix_after
+matrix-written = refl

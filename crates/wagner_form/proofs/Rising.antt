@@ -18,25 +18,25 @@ use Rattle.lists.specs.Tests.{among}
 use Rattle.lists.proofs.Keep.{keep-mem, keep-split, keep_all, keep_twice}
 use Rattle.lists.proofs.Least.{least_of-mem, least_of_le, least_of_congr}
 use Rattle.lists.proofs.Numbers.{length-numbers, numbers-within}
-use Rattle.matrix.specs.NodeRows.{row_of}
-use Rattle.difference.specs.Rows.{difference, node_difference}
-use Rattle.branching.specs.declared.placement.Placement.{Placement}
-use Rattle.branching.specs.Nodes.{in_tree, nodes_in, nodes_out, taxa_placed, Unplaced}
-use Rattle.branching.specs.Facts.{alone}
-use Rattle.branching.specs.Hanging.{no_branches}
-use Rattle.branching.specs.Placing.{AfterPlacing, place}
-use Rattle.branching.proofs.Nodes.{no_branches-none, no_branches-places, false-in_tree}
-use Rattle.branching.proofs.Counts.{some-unplaced}
-use Rattle.branching.proofs.Test.{growing-placed}
-use Rattle.branching.proofs.Placing.{place-only, place_in, place-taxon}
-use Rattle.branching.proofs.RowLengths.{OfLength, Growth}
-use Rattle.branching.proofs.Rival.{difference_laws}
-use Rattle.branching.specs.declared.order.Order.TheVariants.{Advance}
-use Rattle.wagner.specs.Next.{advancement, by_advancement, next_by}
-use Rattle.wagner.specs.Build.{build_on, build, wagner}
-use Rattle.wagner.specs.Rising.{InOrder, all_placed, placed_next, Rising, none, one, more}
-use Rattle.wagner.proofs.Whole.{order_chooses}
-use Rattle.wagner.proofs.BuildLength.{place_growth, place-rows}
+use Rattle.matrix_form.specs.NodeRows.{row_of}
+use Rattle.difference_form.specs.Rows.{difference, node_difference}
+use Rattle.tree_form.specs.declared.placement.Placement.{Placement}
+use Rattle.tree_form.specs.Nodes.{in_tree, nodes_in, nodes_out, taxa_placed, Unplaced}
+use Rattle.tree_form.specs.Facts.{alone}
+use Rattle.tree_form.specs.Hanging.{no_branches}
+use Rattle.tree_form.specs.Placing.{AfterPlacing, place}
+use Rattle.tree_form.proofs.Nodes.{no_branches-none, no_branches-places, false-in_tree}
+use Rattle.tree_form.proofs.Counts.{some-unplaced}
+use Rattle.tree_form.proofs.Test.{growing-placed}
+use Rattle.tree_form.proofs.Placing.{place-only, place_in, place-taxon}
+use Rattle.tree_form.proofs.RowLengths.{OfLength, Growth}
+use Rattle.tree_form.proofs.Rival.{difference_laws}
+use Rattle.tree_form.specs.declared.order.Order.TheVariants.{Advance}
+use Rattle.wagner_form.specs.Next.{advancement, by_advancement, next_by}
+use Rattle.wagner_form.specs.Build.{build_on, build, wagner}
+use Rattle.wagner_form.specs.Rising.{InOrder, all_placed, placed_next, Rising, none, one, more}
+use Rattle.wagner_form.proofs.Whole.{order_chooses}
+use Rattle.wagner_form.proofs.BuildLength.{place_growth, place-rows}
 
 -- taxa in order have rising keys
 pub order_rises : (key : ℕ → ℕ) {us vs : List ℕ} → InOrder key us vs → Rising key vs

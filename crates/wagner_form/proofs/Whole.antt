@@ -7,26 +7,26 @@ use native.Mathlib.Omega.{arith}
 use native.Mathlib.Nat.{zero-add}
 use lib.IntN.{ℤ}
 use lib.ListN.{length}
-use Rattle.difference.specs.Rows.{node_difference}
-use Rattle.matrix.specs.NodeRows.{row_of}
+use Rattle.difference_form.specs.Rows.{node_difference}
+use Rattle.matrix_form.specs.NodeRows.{row_of}
 use Rattle.lists.specs.Least.{least_of}
 use Rattle.lists.specs.Numbers.{numbers}
-use Rattle.branching.specs.Nodes.{taxa_placed, nodes_out, Unplaced}
-use Rattle.branching.specs.Facts.{GrowingTree, alone, Branching}
-use Rattle.branching.specs.Hanging.{no_branches}
-use Rattle.branching.specs.Branches.{lent_branching}
-use Rattle.branching.proofs.Nodes.{no_branches-none, no_branches-places}
-use Rattle.branching.proofs.Counts.{some-unplaced, unplaced-taxon}
-use Rattle.branching.proofs.Test.{growing-placed}
-use Rattle.branching.proofs.Records.{records-lent}
-use Rattle.branching.specs.declared.order.Order.{Order}
-use Rattle.branching.specs.declared.order.Order.TheVariants.{Advance, Closest}
-use Rattle.wagner.specs.Next.{advancement, by_advancement, next_by}
-use Rattle.wagner.specs.Build.{build_on, build, wagner, wagner_branches}
-use Rattle.wagner.proofs.Closest.{adds, closeness_least}
-use Rattle.branching.specs.Placing.{AfterPlacing, place}
+use Rattle.tree_form.specs.Nodes.{taxa_placed, nodes_out, Unplaced}
+use Rattle.tree_form.specs.Facts.{GrowingTree, alone, Branching}
+use Rattle.tree_form.specs.Hanging.{no_branches}
+use Rattle.tree_form.specs.Branches.{lent_branching}
+use Rattle.tree_form.proofs.Nodes.{no_branches-none, no_branches-places}
+use Rattle.tree_form.proofs.Counts.{some-unplaced, unplaced-taxon}
+use Rattle.tree_form.proofs.Test.{growing-placed}
+use Rattle.tree_form.proofs.Records.{records-lent}
+use Rattle.tree_form.specs.declared.order.Order.{Order}
+use Rattle.tree_form.specs.declared.order.Order.TheVariants.{Advance, Closest}
+use Rattle.wagner_form.specs.Next.{advancement, by_advancement, next_by}
+use Rattle.wagner_form.specs.Build.{build_on, build, wagner, wagner_branches}
+use Rattle.wagner_form.proofs.Closest.{adds, closeness_least}
+use Rattle.tree_form.specs.Placing.{AfterPlacing, place}
 use Rattle.lists.proofs.Least.{least_of-mem}
-use Rattle.branching.proofs.Placing.{place_grows, place-places}
+use Rattle.tree_form.proofs.Placing.{place_grows, place-places}
 
 -- a rule for the next taxon chooses one that is not placed, as long as there is one
 abbrev pub Chooses : (ℕ → List ℕ → List (List ℤ) → ℕ) → ℕ → Type 0

@@ -11,10 +11,10 @@ use Rattle.lists.specs.Numbers.{numbers}
 use Rattle.lists.specs.Pairs.{pairs}
 use Rattle.lists.proofs.Least.{least_of_congr, first_least_congr, first_least-mem}
 use Rattle.lists.proofs.Pairs.{least_pair, pairs-none}
-use Rattle.branching.specs.Nodes.{nodes_in, nodes_out, other_nodes}
-use Rattle.branching.specs.Placing.{from_interval, nearest_interval, link_first, hang, place_on, place}
-use Rattle.branching.proofs.Nodes.{node_nodes_in}
-use Rattle.wagner.specs.Next.{hangings, taxon_of, advancement, by_advancement, by_closeness}
+use Rattle.tree_form.specs.Nodes.{nodes_in, nodes_out, other_nodes}
+use Rattle.tree_form.specs.Placing.{from_interval, nearest_interval, link_first, hang, place_on, place}
+use Rattle.tree_form.proofs.Nodes.{node_nodes_in}
+use Rattle.wagner_form.specs.Next.{hangings, taxon_of, advancement, by_advancement, by_closeness}
 
 module _ (d : List ℤ → List ℤ → ℕ) (n : ℕ) (tree : List ℕ) (rows : List (List ℤ)) where
   -- the taxa not yet placed

@@ -8,16 +8,16 @@ use native.Mathlib.Decide.{dec_le}
 use lib.IntN.{ℤ, pos}
 use lib.ListN.{take-append-drop, length, get_or, take, drop, length-drop}
 use lib.Seq.{length-take-le, get_or-take, get_or-drop, ext_get_or}
-use Rattle.matrix.specs.NodeRows.{rows_of, with_rows}
-use Rattle.matrix.proofs.NodeRows.{row_of-next, length-rows_of, row_of-rows_of, length-with_rows, with_rows-before, with_rows-rows, with_rows-else}
+use Rattle.matrix_form.specs.NodeRows.{rows_of, with_rows}
+use Rattle.matrix_form.proofs.NodeRows.{row_of-next, length-rows_of, row_of-rows_of, length-with_rows, with_rows-before, with_rows-rows, with_rows-else}
 use Rattle.lists.proofs.Stripes.{stripes-before}
-use Rattle.matrix.specs.Shape.{row, row_start, columns}
-use Rattle.matrix.proofs.Row.{length-row}
-use Rattle.branching.specs.Hanging.{no_branches}
-use Rattle.wagner.specs.Matrix.{matrix_after}
-use Rattle.wagner.specs.Build.{Built}
-use Rattle.branching.proofs.RowLengths.{OfLength}
-use Rattle.wagner.proofs.BuildLength.{Sound}
+use Rattle.matrix_form.specs.Shape.{row, row_start, columns}
+use Rattle.matrix_form.proofs.Row.{length-row}
+use Rattle.tree_form.specs.Hanging.{no_branches}
+use Rattle.wagner_form.specs.Matrix.{matrix_after}
+use Rattle.wagner_form.specs.Build.{Built}
+use Rattle.tree_form.proofs.RowLengths.{OfLength}
+use Rattle.wagner_form.proofs.BuildLength.{Sound}
 
 -- the rows of nodes 1 to count in a matrix that has them have m codes each
 pub rows_of-each : (codes : List ℤ) (m count : ℕ) → m ≤ columns → row_start (suc count) ≤ length codes → OfLength m (rows_of codes m count)

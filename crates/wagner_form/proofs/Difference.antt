@@ -4,15 +4,15 @@ use mathlib.Core.List.{List}
 use Prim.Native.Nat.{ℕ, ◌≤◌}
 use lib.IntN.{ℤ}
 use lib.ListN.{length}
-use Rattle.difference.specs.Rows.{difference}
-use Rattle.branching.specs.Hanging.{no_branches}
-use Rattle.branching.specs.declared.order.Order.{Order}
-use Rattle.wagner.specs.Next.{next_by}
-use Rattle.wagner.specs.Build.{added_length, wagner, wagner_length}
-use Rattle.wagner.proofs.Whole.{order_chooses}
-use Rattle.branching.proofs.RowLengths.{OfLength}
-use Rattle.branching.proofs.Rival.{difference_laws}
-use Rattle.wagner.proofs.BuildLength.{Sound, build_sound, build-length}
+use Rattle.difference_form.specs.Rows.{difference}
+use Rattle.tree_form.specs.Hanging.{no_branches}
+use Rattle.tree_form.specs.declared.order.Order.{Order}
+use Rattle.wagner_form.specs.Next.{next_by}
+use Rattle.wagner_form.specs.Build.{added_length, wagner, wagner_length}
+use Rattle.wagner_form.proofs.Whole.{order_chooses}
+use Rattle.tree_form.proofs.RowLengths.{OfLength}
+use Rattle.tree_form.proofs.Rival.{difference_laws}
+use Rattle.wagner_form.proofs.BuildLength.{Sound, build_sound, build-length}
 
 -- n rows of m codes, n from 1 to 64
 module _ (order : Order) (weights : List ℕ) (n m : ℕ) (taxa : 1 ≤ n) (most : n ≤ 64) (rows : List (List ℤ)) (all : length rows ≡ n)

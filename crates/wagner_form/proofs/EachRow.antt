@@ -10,11 +10,11 @@ use lib.IntN.{ℤ}
 use lib.ListN.{length, get_or-eq_default}
 use Rattle.lists.specs.Tests.{every}
 use Rattle.lists.proofs.Every.{every_at, every-cons, every_append}
-use Rattle.matrix.specs.NodeRows.{row_of}
-use Rattle.difference.specs.Rows.{medians}
-use Rattle.branching.specs.Ancestors.{ancestor}
-use Rattle.branching.specs.Placing.{median_row, nearest_interval, link_first, hang, place_on, place}
-use Rattle.wagner.specs.Build.{build_on}
+use Rattle.matrix_form.specs.NodeRows.{row_of}
+use Rattle.difference_form.specs.Rows.{medians}
+use Rattle.tree_form.specs.Ancestors.{ancestor}
+use Rattle.tree_form.specs.Placing.{median_row, nearest_interval, link_first, hang, place_on, place}
+use Rattle.wagner_form.specs.Build.{build_on}
 
 -- a test that the row of no codes passes
 module _ (test : List ℤ → Bool) (empty : test [] ≡ true) where

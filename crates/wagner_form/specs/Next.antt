@@ -3,12 +3,12 @@ use Rattle.std.specs.Prelude.{List, [], ◌∷◌, ℕ, ℤ}
 use Rattle.lists.specs.Least.{first_least, least_of}
 use Rattle.lists.specs.Numbers.{numbers}
 use Rattle.lists.specs.Pairs.{pairs}
-use Rattle.matrix.specs.NodeRows.{row_of}
-use Rattle.difference.specs.Rows.{node_difference}
-use Rattle.branching.specs.Nodes.{nodes_in, nodes_out, other_nodes}
-use Rattle.branching.specs.Placing.{from_interval}
-use Rattle.branching.specs.declared.order.Order.{Order}
-use Rattle.branching.specs.declared.order.Order.TheVariants.{Advance, Closest}
+use Rattle.matrix_form.specs.NodeRows.{row_of}
+use Rattle.difference_form.specs.Rows.{node_difference}
+use Rattle.tree_form.specs.Nodes.{nodes_in, nodes_out, other_nodes}
+use Rattle.tree_form.specs.Placing.{from_interval}
+use Rattle.tree_form.specs.declared.order.Order.{Order}
+use Rattle.tree_form.specs.declared.order.Order.TheVariants.{Advance, Closest}
 
 -- every unplaced taxon with every interval of the tree, which its lower end names: by rising row of the taxon, then by rising lower end
 unfoldable pub hangings : ℕ → List ℕ → List (ℕ × ℕ)
