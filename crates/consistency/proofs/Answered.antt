@@ -5,17 +5,19 @@ use Prim.Native.Nat.{ℕ}
 use Rattle.std.proofs.Common.{Option, Ok}
 use native.Mathlib.Omega.{arith}
 use lib.IntN.{ℤ}
-use Rattle.matrix.specs.Outcomes.{value}
-use Rattle.matrix.specs.Questions.{ask_matrix}
-use Rattle.matrix.proofs.Passing.{matrix_passed}
-use Rattle.branching.specs.declared.branch.Branch.{Branch}
-use Rattle.branching.specs.Branches.{places_of}
-use Rattle.branching.specs.Asking.{ask_branching}
-use Rattle.fitting.specs.Calls.{TotalOf}
+use Rattle.matrix_form.specs.Outcomes.{value}
+use Rattle.matrix_form.specs.Questions.{ask_matrix}
+use Rattle.matrix_form.proofs.Passing.{matrix_passed}
+use Rattle.tree_form.specs.declared.branch.Branch.{Branch}
+use Rattle.tree_form.specs.Branches.{places_of}
+use Rattle.tree_form.specs.Asking.{ask_branching}
+use Rattle.fitting.specs.Costs.{TotalOf}
 use Rattle.fitting.proofs.Passed.{branching_passed, total-is}
-use Rattle.consistency.specs.Index.{index}
-use Rattle.consistency.specs.Calls.{FloorOf, IndexOf, floor_answer, index_answer}
-use Rattle.consistency.specs.declared.index.Index.{Index}
+use Rattle.consistency_form.specs.Index.{index}
+use Rattle.consistency_form.specs.Calls.{floor_answer, index_answer}
+use Rattle.consistency.specs.Steps.{FloorOf}
+use Rattle.consistency.specs.Steps.{IndexOf}
+use Rattle.consistency_form.specs.declared.index.Index.{Index}
 use Rattle.consistency.proofs.Columns.{floor-most}
 
 -- the floor of a lent matrix that no question refuses

@@ -9,22 +9,23 @@ use Rattle.lists.specs.Numbers.{numbers}
 use Rattle.lists.proofs.Numbers.{numbers-within, length-numbers}
 use Rattle.lists.proofs.Maps.{map_same}
 use Rattle.lists.proofs.Sums.{sum_same, sum_most}
-use Rattle.matrix.specs.Shape.{in_range, weight_of}
-use Rattle.matrix.specs.NodeRows.{rows_of}
-use Rattle.matrix.specs.Questions.{LentMatrix, LentWeights}
+use Rattle.matrix_form.specs.Shape.{in_range, weight_of}
+use Rattle.matrix_form.specs.NodeRows.{rows_of}
+use Rattle.matrix_form.specs.Questions.{LentMatrix, LentWeights}
 use Rattle.std.specs.List.{range_with_len, fold}
-use Rattle.difference.specs.Rows.{part, lower, higher}
-use Rattle.difference.proofs.Laws.Places.{place, everywhere, lower-place, higher-place}
-use Rattle.difference.proofs.Laws.Weights.{part-in_range, weight_of_weight}
-use Rattle.fitting.specs.Sets.{only}
-use Rattle.fitting.specs.declared.spans.Span.{Span}
-use Rattle.fitting.specs.Handing.{state_at}
-use Rattle.fitting.specs.Assignments.{character}
+use Rattle.difference_form.specs.Rows.{part, lower, higher}
+use Rattle.difference_form.proofs.Laws.Places.{place, everywhere, lower-place, higher-place}
+use Rattle.difference_form.proofs.Laws.Weights.{part-in_range, weight_of_weight}
+use Rattle.fit_form.specs.Sets.{only}
+use Rattle.fit_form.specs.declared.spans.Span.{Span}
+use Rattle.fit_form.specs.Handing.{state_at}
+use Rattle.fit_form.specs.Assignments.{character}
 use Rattle.fitting.proofs.Columns.{character-code, character-known}
-use Rattle.consistency.specs.Floor.{lowest, highest, codes_of, character_floor, floor}
-use Rattle.consistency.specs.Calls.{lent_floor, most_floor}
+use Rattle.consistency_form.specs.Floor.{lowest, highest, codes_of, character_floor, floor}
+use Rattle.consistency_form.specs.Calls.{lent_floor}
+use Rattle.consistency.specs.Steps.{most_floor}
 use Rattle.consistency.specs.Steps.{column, widened, ends_of, column_floors}
-use Rattle.consistency.proofs.NeverPasses.{ends-keep}
+use Rattle.consistency_form.proofs.NeverPasses.{ends-keep}
 
 -- the ends of the code of one row are this code
 pub ends-one : (matrix : List ℤ) (j v : ℕ) → ends_of (column matrix j v 1) ≡ only (state_at matrix v j)

@@ -1,8 +1,4 @@
--- What is proved about the floor and the index.
-pub mod Ends
-pub mod NeverPasses
-pub mod Division
+-- Laws for the proofs of the functions.
 pub mod Columns
-pub mod Limits
 pub mod Answered
-pub mod Examples
+pub mod Limits

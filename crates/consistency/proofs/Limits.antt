@@ -4,9 +4,9 @@ use mathlib.Core.Bool.{true, false, and-eq-true_iff, true≢false}
 use mathlib.Core.List.{List}
 use Prim.Native.Nat.{ℕ, ◌≤◌}
 use lib.IntN.{ℤ}
-use Rattle.matrix.specs.Questions.{LentMatrix, one_to, within_limits}
-use Rattle.matrix.proofs.Passing.{one_to-true, true-one_to}
-use Rattle.consistency.specs.Calls.{FloorOf}
+use Rattle.matrix_form.specs.Questions.{LentMatrix, one_to, within_limits}
+use Rattle.matrix_form.proofs.Passing.{one_to-true, true-one_to}
+use Rattle.consistency.specs.Steps.{FloorOf}
 
 -- there is a taxon then, and there are at most 128 characters
 pub within : (n m : ℕ) → within_limits n m ≡ true → (1 ≤ n) × (m ≤ 128)

@@ -1,5 +1,2 @@
--- The floor of a matrix and the consistency index of a branching (document 02, M-102).
-pub mod Floor
-pub mod Index
-pub mod Calls
+-- What the private functions promise; what a reader has to believe stands in `consistency_form`.
 pub mod Steps

@@ -1,13 +1,17 @@
 -- For the proofs of the private functions alone; no public contract cites this file.
 -- The codes of a column of a lent matrix, and what is found of them.
-use Rattle.std.specs.Prelude.{◌≡◌, List, map, ℕ, ◌^◌, ◌≤◌, ℤ}
+use Rattle.std.specs.Prelude.{◌≡◌, List, map, ℕ, ◌^◌, ◌≤◌, ℤ, Option, None, ◌<◌}
 use Rattle.lists.specs.Numbers.{numbers}
 use Rattle.lists.specs.Sums.{sum_over}
-use Rattle.matrix.specs.Shape.{weight_of}
-use Rattle.difference.specs.Rows.{lower, higher, part}
-use Rattle.fitting.specs.Handing.{state_at}
-use Rattle.fitting.specs.declared.spans.Span.{Span}
-use Rattle.consistency.specs.Floor.{lowest, highest, character_floor}
+use Rattle.matrix_form.specs.Shape.{weight_of}
+use Rattle.difference_form.specs.Rows.{lower, higher, part, most_difference}
+use Rattle.fit_form.specs.Handing.{state_at}
+use Rattle.fit_form.specs.declared.spans.Span.{Span}
+use Rattle.consistency_form.specs.Floor.{lowest, highest, character_floor, floor}
+use Rattle.consistency_form.specs.Index.{index}
+use Rattle.consistency_form.specs.declared.index.Index.{Index}
+use Rattle.matrix_form.specs.Questions.{LentMatrix}
+use Rattle.consistency_form.specs.Calls.{lent_floor}
 
 -- the codes in column j of the rows of nodes v, v+1, ..
 unfoldable pub column : List ℤ → ℕ → ℕ → ℕ → List ℤ
@@ -33,3 +37,16 @@ pub record FloorIn (weight : ℕ) (matrix : List ℤ) (n j r : ℕ) : Type 0 whe
 -- the sum of the floors of the codes of n taxa in columns 1 to m
 unfoldable pub column_floors : List ℤ → List ℕ → ℕ → ℕ → ℕ
 column_floors matrix weights n m = sum_over (λ j. character_floor (part (weight_of weights j)) (column matrix j 1 n)) (numbers 1 m)
+
+-- the highest floor that a matrix can have: as much as two rows can differ
+abbrev pub most_floor : ℕ
+most_floor = most_difference
+
+-- r is the index of a floor and a total; for a floor that no matrix has there is none
+pub record IndexOf (floor total : ℕ) (r : Option Index) : Type 0 where
+  pub is : floor ≤ most_floor → r ≡ index floor total
+  pub above : most_floor < floor → r ≡ None
+
+-- r is the floor of a lent matrix
+pub record FloorOf (codes : List ℤ) (weights : List ℕ) (n m r : ℕ) : Type 0 where
+  pub is : LentMatrix codes n m → r ≡ lent_floor codes weights n m

@@ -1,17 +1,19 @@
-// Kept: no plainer, as in the calls of `fitting`: the records are lent beside the matrix, and the question and the tree are two functions of branching.
+// Kept: no plainer, as in the calls of `fitting`: the records are lent beside the matrix, and the question and the tree are two functions of tree_records.
 // The call for the floor of a lent matrix, and the one for the consistency index of a lent branching.
 ghost use Rattle.std.specs.Prelude.{◌≡◌};
-ghost use Rattle.matrix.specs.Outcomes.{result_says};
-ghost use Rattle.consistency.specs.Calls.{floor_answer, index_answer};
+ghost use Rattle.matrix_form.specs.Outcomes.{result_says};
+ghost use Rattle.consistency_form.specs.Calls.{floor_answer, index_answer};
 
 use crate::floor::floor_of;
-use crate::index::{Index, index_of};
-use branching::branch::{BRANCHES, Branch};
-use branching::lent::tree_of;
-use branching::questions::ask_branching;
+use crate::index::index_of;
+use consistency_form::index::Index;
 use fitting::totals::total_of;
 use matrix::lent::Lent;
-use matrix::refusal::Refusal;
+use matrix_form::refusal::Refusal;
+use tree_form::branch::Branch;
+use tree_records::branch::BRANCHES;
+use tree_records::lent::tree_of;
+use tree_records::questions::ask_branching;
 
 // The floor of a lent matrix. It writes nothing.
 pub fn floor(lent: &Lent) -> Result<u64, Refusal>

@@ -1,12 +1,13 @@
 // The floor of a matrix: the sum over characters of the weight times highest less lowest code among the taxa.
 ghost use Rattle.std.specs.Prelude.{◌≡◌, ◌≤◌};
-ghost use Rattle.consistency.specs.Calls.{FloorOf};
+ghost use Rattle.consistency.specs.Steps.{FloorOf};
 ghost use Rattle.consistency.specs.Steps.{widened, EndsOf, FloorIn, column_floors};
 
 use difference::codes::{higher, lower, part};
 use difference::nodes::Nodes;
-use fitting::characters::code_at;
-use fitting::spans::{Span, only};
+use fit_form::spans::Span;
+use fit_passes::characters::code_at;
+use fit_sets::spans::only;
 use matrix::lent::Lent;
 use matrix::questions::within_limits;
 use matrix::weights::weight_at;

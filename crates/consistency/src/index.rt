@@ -1,18 +1,13 @@
 // The consistency index: how many thousandths of a total its floor makes, and what is left over.
-ghost use Rattle.consistency.specs.Calls.{IndexOf};
+ghost use Rattle.consistency.specs.Steps.{IndexOf};
+
+use consistency_form::index::Index;
 
 // The index is counted in thousandths.
 const THOUSAND: u64 = 1000;
 
 // The highest floor that a matrix can have: 128 times 9 times 1998.
 const MOST_FLOOR: u64 = 2301696;
-
-// Quotient and remainder of 1000 times the floor, divided by a total.
-#[derive(Clone, Copy, PartialEq, Eq)]
-pub struct Index {
-    pub quotient: u64,
-    pub remainder: u64,
-}
 
 // The index of a floor and a total: none with a total of 0, nor for a floor that no matrix has.
 pub fn index_of(floor: u64, total: u64) -> Option<Index>

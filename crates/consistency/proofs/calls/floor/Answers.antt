@@ -1,7 +1,7 @@
 -- `consistency::calls::floor` meets its contract: a refusal is that of the questions. Assumes nothing.
 use mathlib.Core.Path.{sym, ◌∙◌}
 use Rattle.std.proofs.lemmas.Result.{err_from_is_err_and}
-use Rattle.consistency.specs.Calls.{floor_answer}
+use Rattle.consistency_form.specs.Calls.{floor_answer}
 use Rattle.consistency.proofs.Answered.{floor_passed}
 use Rattle.consistency.proofs.calls.floor.Goals as goal
 

@@ -1,7 +1,7 @@
 -- `consistency::calls::index` meets its contract: a refusal is that of the questions. Assumes nothing.
 use mathlib.Core.Path.{sym, ◌∙◌}
 use Rattle.std.proofs.lemmas.Result.{err_from_is_err_and}
-use Rattle.consistency.specs.Calls.{index_answer}
+use Rattle.consistency_form.specs.Calls.{index_answer}
 use Rattle.consistency.proofs.Answered.{index_passed}
 use Rattle.consistency.proofs.calls.index.Goals as goal
 

@@ -3,9 +3,9 @@ use mir.Syntax.{w32}
 use mathlib.Core.Path.{ap₂, ◌∙◌}
 use borrow.Author.Rules.{sfits_of}
 use mir.Facts.{to_z-of_z}
-use Rattle.difference.specs.Rows.{lower, higher}
-use Rattle.fitting.proofs.Bits.{of_bits}
-use Rattle.fitting.proofs.Sets.Distance.{span}
+use Rattle.difference_form.specs.Rows.{lower, higher}
+use Rattle.fit_form.proofs.Bits.{of_bits}
+use Rattle.fit_form.proofs.Sets.Distance.{span}
 use Rattle.consistency.proofs.floor.widened.Goals as goal
 
 pub returns : goal.returns

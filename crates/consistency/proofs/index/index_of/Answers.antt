@@ -3,7 +3,7 @@ use mathlib.Core.Path.{◌≡◌, refl}
 use Prim.Native.Nat.{ℕ, zero, suc, ◌*◌, ◌/◌, ◌%◌, ◌≤◌}
 use native.Mathlib.Omega.{arith}
 use Rattle.std.proofs.Common.{Some}
-use Rattle.consistency.specs.Index.{thousand, index}
+use Rattle.consistency_form.specs.Index.{thousand, index}
 use Rattle.consistency.proofs.index.index_of.Goals as goal
 
 -- the index of a total that is not 0

@@ -5,11 +5,11 @@ use borrow.Author.Rules.{sfits_of}
 use lib.Signed.{nat_abs-le}
 use mir.Syntax.{w32}
 use mir.Val.{SFits}
-use Rattle.difference.specs.Rows.{part}
-use Rattle.difference.proofs.Laws.Weights.{part-most}
-use Rattle.fitting.proofs.Bits.{of_bits}
-use Rattle.fitting.specs.declared.spans.Span.{Span}
-use Rattle.consistency.specs.Floor.{character_floor}
+use Rattle.difference_form.specs.Rows.{part}
+use Rattle.difference_form.proofs.Laws.Weights.{part-most}
+use Rattle.fit_form.proofs.Bits.{of_bits}
+use Rattle.fit_form.specs.declared.spans.Span.{Span}
+use Rattle.consistency_form.specs.Floor.{character_floor}
 use Rattle.consistency.proofs.floor.Taxa.character_floor.Goals as goal
 
 pub returns : goal.returns

@@ -7,10 +7,10 @@ use Rattle.std.proofs.lemmas.Iterator.Consumers.{sum_by_from_yields_List}
 use Rattle.std.proofs.lemmas.List.Sums.{sum_by-cons}
 use Rattle.std.proofs.lemmas.List.FromFn.{length-range_with_len}
 use Rattle.lists.specs.Sums.{sum_over}
-use Rattle.matrix.specs.Shape.{weight_at, weight_of}
-use Rattle.difference.specs.Rows.{part}
-use Rattle.branching.proofs.Ranges.{range-numbers}
-use Rattle.consistency.specs.Floor.{character_floor}
+use Rattle.matrix_form.specs.Shape.{weight_at, weight_of}
+use Rattle.difference_form.specs.Rows.{part}
+use Rattle.tree_form.proofs.Ranges.{range-numbers}
+use Rattle.consistency_form.specs.Floor.{character_floor}
 use Rattle.consistency.specs.Steps.{column, column_floors}
 use Rattle.consistency.proofs.floor.Taxa.sum_floors.Goals as goal
 

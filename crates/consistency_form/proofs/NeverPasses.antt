@@ -12,24 +12,24 @@ use Rattle.lists.specs.Numbers.{numbers}
 use Rattle.lists.proofs.Numbers.{numbers-within, length_map_numbers}
 use Rattle.lists.proofs.Maps.{map-mem}
 use Rattle.lists.proofs.Sums.{sum_le, sum_none}
-use Rattle.matrix.specs.Shape.{weight_of}
-use Rattle.matrix.specs.Questions.{are_weights}
-use Rattle.difference.specs.Rows.{weighing}
-use Rattle.difference.proofs.Laws.Weights.{part-sym, part_self, part_triangle}
-use Rattle.branching.specs.Growing.{branching}
-use Rattle.branching.proofs.Test.{branching_iff}
-use Rattle.branching.proofs.Whole.{branching-grown}
+use Rattle.matrix_form.specs.Shape.{weight_of}
+use Rattle.matrix_form.specs.Questions.{are_weights}
+use Rattle.difference_form.specs.Rows.{weighing}
+use Rattle.difference_form.proofs.Laws.Weights.{part-sym, part_self, part_triangle}
+use Rattle.tree_form.specs.Growing.{branching}
+use Rattle.tree_form.proofs.Test.{branching_iff}
+use Rattle.tree_form.proofs.Whole.{branching-grown}
 use Rattle.clades.proofs.Sets.Laws.{Distance}
 use Rattle.clades.proofs.OneCharacter.CharacterFit.{Node}
 use Rattle.clades.proofs.OneCharacter.Reach.{reach}
-use Rattle.fitting.specs.Assignments.{character, total, IsAssignment}
-use Rattle.fitting.specs.Fit.{chosen_state, fitted_total}
-use Rattle.fitting.proofs.Clades.Built.{CladeOf, clade_of_lem}
-use Rattle.fitting.proofs.Clades.Taxa.{node_of}
-use Rattle.fitting.proofs.Matrix.Totals.{cost_of, total-cost}
-use Rattle.fitting.proofs.Matrix.ThirdRival.{third_rival}
-use Rattle.consistency.specs.Floor.{lowest, highest, codes_of, character_floor, floor, FloorNeverPasses}
-use Rattle.consistency.proofs.Ends.{lowest-keeps, highest-keeps}
+use Rattle.fit_form.specs.Assignments.{character, total, IsAssignment}
+use Rattle.fit_form.specs.Fit.{chosen_state, fitted_total}
+use Rattle.fit_form.proofs.Clades.Built.{CladeOf, clade_of_lem}
+use Rattle.fit_form.proofs.Clades.Taxa.{node_of}
+use Rattle.fit_form.proofs.Matrix.Totals.{cost_of, total-cost}
+use Rattle.fit_form.proofs.Matrix.ThirdRival.{third_rival}
+use Rattle.consistency_form.specs.Floor.{lowest, highest, codes_of, character_floor, floor, FloorNeverPasses}
+use Rattle.consistency_form.proofs.Ends.{lowest-keeps, highest-keeps}
 
 -- the codes of the taxa in a character are as many as the taxa
 length-codes_of : (rows : List (List ℤ)) (n j : ℕ) → length (codes_of rows n j) ≡ n

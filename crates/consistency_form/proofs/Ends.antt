@@ -11,11 +11,11 @@ use lib.ListN.{length}
 use lib.Signed.{◌≤ℤ◌, ≤ℤ_refl}
 use Rattle.lists.specs.Numbers.{numbers}
 use Rattle.lists.specs.Sums.{sum_over}
-use Rattle.matrix.specs.Shape.{weight_of}
-use Rattle.difference.specs.Rows.{apart, part, lower, higher, weighing}
-use Rattle.difference.proofs.Laws.Order.{lower-keeps, higher-keeps}
-use Rattle.difference.proofs.Laws.Codes.{≤ℤ-trans, lower-least, higher-most, between_ends, sub-first}
-use Rattle.consistency.specs.Floor.{lowest, highest, codes_of, character_floor, floor}
+use Rattle.matrix_form.specs.Shape.{weight_of}
+use Rattle.difference_form.specs.Rows.{apart, part, lower, higher, weighing}
+use Rattle.difference_form.proofs.Laws.Order.{lower-keeps, higher-keeps}
+use Rattle.difference_form.proofs.Laws.Codes.{≤ℤ-trans, lower-least, higher-most, between_ends, sub-first}
+use Rattle.consistency_form.specs.Floor.{lowest, highest, codes_of, character_floor, floor}
 
 -- what holds of every code of a list holds of its lowest and of its highest
 module _ (P : ℤ → Type 0) where

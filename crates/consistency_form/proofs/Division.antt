@@ -3,9 +3,9 @@ use mathlib.Core.Path.{◌≡◌, refl, sym, ap, ap₂, ◌∙◌}
 use Prim.Native.Nat.{ℕ, zero, suc, ◌+◌, ◌*◌, ◌/◌, ◌%◌, ◌≤◌, ◌<◌}
 use native.Mathlib.Nat.{div-add-mod', mod-lt, zero-lt-suc, zero-add, add_comm, add-mul-div_right, mul-add-mod_self_right, div-eq_of_lt, mod-eq_of_lt, div-lt_iff_lt-mul, le_of_mul-le-mul_right}
 use native.Mathlib.Omega.{arith}
-use Rattle.consistency.specs.declared.index.Index.{Index}
+use Rattle.consistency_form.specs.declared.index.Index.{Index}
 use Rattle.std.proofs.Common.{Option, Some}
-use Rattle.consistency.specs.Index.{thousand, IsIndex, divided, no_total, index}
+use Rattle.consistency_form.specs.Index.{thousand, IsIndex, divided, no_total, index}
 
 -- the index is what the paper says
 pub index_is : (floor total : ℕ) → IsIndex floor total (index floor total)

@@ -3,9 +3,9 @@
 use Rattle.std.specs.Prelude.{◌≡◌, true, List, [], ◌∷◌, map, ℕ, ◌≤◌, ℤ, pos}
 use Rattle.lists.specs.Numbers.{numbers}
 use Rattle.lists.specs.Sums.{sum_over}
-use Rattle.difference.specs.Rows.{lower, higher}
-use Rattle.branching.specs.Growing.{branching}
-use Rattle.fitting.specs.Assignments.{character, total, IsAssignment}
+use Rattle.difference_form.specs.Rows.{lower, higher}
+use Rattle.tree_form.specs.Growing.{branching}
+use Rattle.fit_form.specs.Assignments.{character, total, IsAssignment}
 
 -- the lowest of some codes; of none, 0
 unfoldable pub lowest : List ℤ → ℤ

@@ -1,6 +1,6 @@
 -- The consistency index in thousandths, with what is left over (document 02, M-102).
 use Rattle.std.specs.Prelude.{◌≡◌, Option, Some, None, ℕ, zero, suc, ◌+◌, ◌*◌, ◌/◌, ◌%◌, ◌<◌}
-use Rattle.consistency.specs.declared.index.Index.{Index}
+use Rattle.consistency_form.specs.declared.index.Index.{Index}
 
 -- the index is counted in thousandths
 abbrev pub thousand : ℕ

@@ -1,0 +1,28 @@
+-- What the call for the floor of a lent matrix and the one for the index of a lent branching answer: the questions of document 01 in their
+-- order, then the definition.
+use Rattle.std.specs.Prelude.{Option, List, ℕ, ℤ}
+use Rattle.matrix_form.specs.NodeRows.{rows_of}
+use Rattle.matrix_form.specs.Outcomes.{Outcome, answered}
+use Rattle.matrix_form.specs.Questions.{ask_matrix}
+use Rattle.difference_form.specs.Rows.{weighing}
+use Rattle.tree_form.specs.declared.branch.Branch.{Branch}
+use Rattle.tree_form.specs.Branches.{ancestors_of}
+use Rattle.tree_form.specs.Asking.{ask_branching}
+use Rattle.fit_form.specs.Fit.{fitted_total}
+use Rattle.consistency_form.specs.Floor.{floor}
+use Rattle.consistency_form.specs.Index.{index}
+use Rattle.consistency_form.specs.declared.index.Index.{Index}
+
+-- the floor of a lent matrix of n taxa and m characters, by its weights
+abbrev pub lent_floor : List ℤ → List ℕ → ℕ → ℕ → ℕ
+lent_floor codes weights n m = floor (weighing weights).step (rows_of codes m n) n m
+
+-- the floor of a lent matrix, once its questions are answered
+unfoldable pub floor_answer : List ℤ → List ℕ → ℕ → ℕ → Outcome ℕ
+floor_answer codes weights n m = answered (ask_matrix codes weights n m) (lent_floor codes weights n m)
+
+-- the index of a lent branching, by the floor of its matrix and its fitted total, once its questions are answered
+unfoldable pub index_answer : List ℤ → List ℕ → ℕ → ℕ → List Branch → Outcome (Option Index)
+index_answer codes weights n m records =
+    answered (ask_branching codes weights n m records)
+    (index (lent_floor codes weights n m) (fitted_total (weighing weights).step (ancestors_of n records) (rows_of codes m n) n m))
