@@ -14,18 +14,18 @@ use lib.Signed.{lt_z}
 use Rattle.std.specs.Borrow.{Bor}
 use Rattle.std.specs.Prelude.{Option, Some, None, MatchOption}
 use Rattle.std.specs.Option.{option_map, unwrap_or}
-use Rattle.consistency.specs.declared.index.Index.{Index}
+use Rattle.consistency_form.specs.declared.index.Index.{Index}
 use Rattle.lists.proofs.Numbers.{map-numbers}
-use Rattle.difference.specs.Rows.{apart}
-use Rattle.difference.proofs.Laws.Codes.{apart_from_zero}
+use Rattle.difference_form.specs.Rows.{apart}
+use Rattle.difference_form.proofs.Laws.Codes.{apart_from_zero}
 use Rattle.file_form.specs.Bytes.{minus, part_length, first_part}
 use Rattle.file_form.specs.Decimal.{digits_of, decimal}
 use Rattle.file_form.specs.Text.{bytes}
 use Rattle.file_form.specs.Job.{name_size}
-use Rattle.lines.specs.Lines.{line, hyphen, htu_name, node_name}
-use Rattle.lines.specs.Kinds.{index_line}
-use Rattle.lines.specs.Fields.{or_hyphen}
-use Rattle.lines.specs.Names.{name_bytes, names_in}
+use Rattle.listing_form.specs.Lines.{line, hyphen, htu_name, node_name}
+use Rattle.listing_form.specs.Kinds.{index_line}
+use Rattle.lines.specs.Fields.{names_in, or_hyphen}
+use Rattle.lines.specs.Fields.{name_bytes}
 
 -- a code below zero
 pub code_below : (z : ℤ) → lt_z z (pos 0) ≡ true → minus ∷ digits_of (apart z (pos 0)) ≡ decimal z

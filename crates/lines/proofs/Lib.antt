@@ -1,4 +1,3 @@
--- What is proved about bytes that are put one after another, and about the fields of a line.
+-- Laws for the proofs of the functions that put lines.
 pub mod Puts
 pub mod Fields
-pub mod LineFields

@@ -1,7 +1,4 @@
--- The lines of a listing, each by its contents (document 01, "The printed tree, whole"); names in lent bytes; bytes put into a list.
-pub mod Lines
-pub mod Kinds
-pub mod Names
+-- What the private functions are handed and promise; what a reader has to believe stands in `listing_form`.
 pub mod Fields
 pub mod Put
 pub mod Puts

@@ -2,7 +2,7 @@
 ghost use Rattle.std.specs.Prelude.{List, ◌∷◌, ℕ};
 ghost use Rattle.file_form.specs.Bytes.{tab};
 ghost use Rattle.file_form.specs.Decimal.{digits_of, decimal};
-ghost use Rattle.lines.specs.Kinds.{mark};
+ghost use Rattle.listing_form.specs.Kinds.{mark};
 ghost use Rattle.lines.specs.Fields.{node_text, or_hyphen};
 ghost use Rattle.lines.specs.Puts.{Puts};
 

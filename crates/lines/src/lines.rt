@@ -1,19 +1,21 @@
 // The lines of the listing, one method for each kind: fields with a tab before each but the first, and a line feed.
 // Kept: no plainer, the names are no part of the bytes that are put: one listing serves a job with names and a refusal without.
-ghost use Rattle.matrix.specs.Refusals.{refusal_number};
-ghost use Rattle.lines.specs.Kinds.{index_line, prim_line, wagner_line, branch_line, state_line, refusal_line, total_text};
+ghost use Rattle.matrix_form.specs.Refusals.{refusal_number};
+ghost use Rattle.listing_form.specs.Kinds.{index_line, prim_line, wagner_line, branch_line, state_line, refusal_line};
+ghost use Rattle.lines.specs.Fields.{total_text};
 ghost use Rattle.lines.specs.Puts.{Puts};
 ghost use Rattle.lines.specs.Fields.{names_of};
 
 use crate::names::Names;
 use crate::put::Listing;
-use branching::placement::Placement;
-use consistency::index::Index;
+use consistency_form::index::Index;
 use file_form::LINE_FEED;
-use fitting::characters::States;
-use fitting::whole::BranchFit;
-use matrix::refusal::{Refusal, number};
-use prim::answer::Link;
+use fit_form::characters::States;
+use fit_form::whole::BranchFit;
+use matrix::refusal::number;
+use matrix_form::refusal::Refusal;
+use prim_form::answer::Link;
+use tree_form::placement::Placement;
 
 impl<'a> Listing<'a> {
     // Puts the line of a block's total, with the byte of its letter.

@@ -1,7 +1,7 @@
 // The names of taxa in lent bytes, and the nodes that they name.
 ghost use Rattle.std.specs.Prelude.{◌≡◌};
-ghost use Rattle.lines.specs.Lines.{node_name};
-ghost use Rattle.lines.specs.Names.{name_bytes};
+ghost use Rattle.listing_form.specs.Lines.{node_name};
+ghost use Rattle.lines.specs.Fields.{name_bytes};
 ghost use Rattle.lines.specs.Fields.{names_of, node_text};
 
 use file_form::NAME_SIZE;

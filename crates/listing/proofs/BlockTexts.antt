@@ -5,9 +5,9 @@ use Prim.Native.Nat.{ℕ, ◌+◌, ◌-◌, ◌*◌}
 use native.Mathlib.Omega.{arith}
 use lib.IntN.{ℤ}
 use Rattle.lists.specs.Numbers.{numbers}
-use Rattle.branching.specs.Nodes.{other_nodes}
+use Rattle.tree_form.specs.Nodes.{other_nodes}
 use Rattle.listing.specs.Handed.{branch_text_at, branch_texts, state_text_at, node_texts, state_texts}
-use Rattle.fitting.specs.declared.whole.BranchFit.{BranchFit}
+use Rattle.fit_form.specs.declared.whole.BranchFit.{BranchFit}
 
 module _ (n : ℕ) (names : List (List ℕ)) where
   -- the `T` lines: nodes 2 to before 2n-1

@@ -1,6 +1,4 @@
 -- How large the numbers, nodes and codes are that are printed, and with that how many bytes a listing has.
-pub mod Rows
-pub mod Build
 pub mod Fields
 pub mod Fit
 pub mod LineNumbers

@@ -6,11 +6,11 @@ use Rattle.std.specs.Prelude.{Ok, Err}
 use native.Mathlib.Omega.{arith}
 use borrow.Author.Tests.{eq-eqb, ne_eqb}
 use lib.ListN.{length}
-use Rattle.matrix.specs.Outcomes.{value}
-use Rattle.matrix.specs.declared.refusal.Refusal.TheVariants.{ListSize}
+use Rattle.matrix_form.specs.Outcomes.{value}
+use Rattle.matrix_form.specs.declared.refusal.Refusal.TheVariants.{ListSize}
 use Rattle.lines.specs.Put.{Put}
-use Rattle.listing.specs.Listing.{output}
-use Rattle.listing.specs.Call.{output_size, ask_output, ListDone}
+use Rattle.listing_form.specs.Listing.{output}
+use Rattle.listing_form.specs.Call.{output_size, ask_output, ListDone}
 use Rattle.listing.proofs.PutFront.{put_front}
 use Rattle.listing.proofs.Bounds.Output.{output_room}
 

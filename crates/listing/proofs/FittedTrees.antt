@@ -6,32 +6,35 @@ use Prim.Native.Nat.{ℕ}
 use native.Mathlib.Omega.{arith}
 use lib.IntN.{ℤ}
 use Rattle.std.specs.Prelude.{Option}
-use Rattle.matrix.specs.NodeRows.{rows_of}
-use Rattle.matrix.specs.Questions.{LentMatrix, LentWeights}
+use Rattle.matrix_form.specs.NodeRows.{rows_of}
+use Rattle.matrix_form.specs.Questions.{LentMatrix, LentWeights}
 use Rattle.file_form.specs.Job.{Job}
-use Rattle.difference.specs.Rows.{Measure, weighing}
+use Rattle.difference_form.specs.Rows.{Measure, weighing}
 use Rattle.branching.specs.declared.tree.Tree.{Tree}
-use Rattle.branching.specs.Ancestors.{ancestors, ancestor}
-use Rattle.branching.specs.Within.{branching_within}
-use Rattle.fitting.specs.Calls.{Low, High, Chosen, branch_at, TreeFitted}
-use Rattle.fitting.specs.Fit.{states_in}
-use Rattle.fitting.specs.declared.whole.Fit.{Fit}
-use Rattle.fitting.specs.Handing.{state_at}
+use Rattle.tree_form.specs.Ancestors.{ancestor}
+use Rattle.branching.specs.Views.{ancestors}
+use Rattle.tree_form.specs.Within.{branching_within}
+use Rattle.fit_form.specs.Calls.{Low, High, Chosen, branch_at}
+use Rattle.fitting.specs.Lists.{TreeFitted}
+use Rattle.fit_form.specs.Fit.{states_in}
+use Rattle.fit_form.specs.declared.whole.Fit.{Fit}
+use Rattle.fit_form.specs.Handing.{state_at}
 use Rattle.fitting.proofs.Handed.{state_written}
-use Rattle.fitting.proofs.SameTree.{fit_same, total-same, range_same, state-same}
-use Rattle.consistency.specs.declared.index.Index.{Index}
-use Rattle.consistency.specs.Floor.{floor}
-use Rattle.consistency.specs.Index.{index}
-use Rattle.consistency.specs.Calls.{FloorOf, IndexOf}
+use Rattle.fit_form.proofs.SameTree.{fit_same, total-same, range_same, state-same}
+use Rattle.consistency_form.specs.declared.index.Index.{Index}
+use Rattle.consistency_form.specs.Floor.{floor}
+use Rattle.consistency_form.specs.Index.{index}
+use Rattle.consistency.specs.Steps.{FloorOf}
+use Rattle.consistency.specs.Steps.{IndexOf}
 use Rattle.consistency.proofs.Columns.{floor-most}
-use Rattle.lines.specs.Names.{names_in}
-use Rattle.lines.specs.Kinds.{total_line, index_line, branch_line}
+use Rattle.lines.specs.Fields.{names_in}
+use Rattle.listing_form.specs.Kinds.{total_line, index_line, branch_line}
 use Rattle.listing.specs.declared.job.FittedTree.{FittedTree}
-use Rattle.lines.specs.Lines.{joined}
+use Rattle.listing_form.specs.Lines.{joined}
 use Rattle.listing.specs.Handed.{HoldsNames, branch_text_at, branch_texts, fitted_texts}
 use Rattle.listing.specs.Found.{StateLists, FittedOf, tree_texts}
-use Rattle.listing.proofs.Joined.{flat_map-same}
-use Rattle.listing.proofs.Parts.{tree_lines, htu_lines, tree_total, tree_index, tree_text}
+use Rattle.listing_form.proofs.Joined.{flat_map-same}
+use Rattle.listing_form.proofs.Parts.{tree_lines, htu_lines, tree_total, tree_index, tree_text}
 use Rattle.listing.proofs.HandedTexts.{fitted-text, range-text}
 
 -- what the calls for a fit, the floor and the index promise of a branching with a lent matrix

@@ -6,39 +6,40 @@ use Prim.Native.Nat.{ℕ}
 use lib.IntN.{ℤ}
 use borrow.Author.Rules.{rules}
 use Rattle.std.specs.Prelude.{Result, Ok, Err, IsOk}
-use Rattle.matrix.specs.Shape.{row}
-use Rattle.matrix.specs.NodeRows.{rows_of}
-use Rattle.matrix.specs.Questions.{LentMatrix, LentWeights, ask_matrix}
-use Rattle.matrix.specs.declared.refusal.Refusal.{Refusal}
-use Rattle.matrix.proofs.Passing.{matrix_passes}
+use Rattle.matrix_form.specs.Shape.{row}
+use Rattle.matrix_form.specs.NodeRows.{rows_of}
+use Rattle.matrix_form.specs.Questions.{LentMatrix, LentWeights, ask_matrix}
+use Rattle.matrix_form.specs.declared.refusal.Refusal.{Refusal}
+use Rattle.matrix_form.proofs.Passing.{matrix_passes}
 use Rattle.file_form.specs.Job.{Job}
 use Rattle.file_form.specs.declared.header.Kind.TheVariants.{Wagner}
-use Rattle.difference.specs.Rows.{difference, node_difference, Measure, weighing}
-use Rattle.prim.specs.Network.{network}
+use Rattle.difference_form.specs.Rows.{difference, node_difference, Measure, weighing}
+use Rattle.prim_form.specs.Network.{network}
 use Rattle.prim.specs.Answers.{Holds, NetworkAnswer}
 use Rattle.prim.specs.declared.answer.Network.{Network}
-use Rattle.branching.specs.Ancestors.{ancestors, ancestor}
-use Rattle.branching.specs.Within.{branching_within}
-use Rattle.branching.proofs.Within.{branching-plain}
-use Rattle.branching.specs.declared.order.Order.{Order}
+use Rattle.tree_form.specs.Ancestors.{ancestor}
+use Rattle.branching.specs.Views.{ancestors}
+use Rattle.tree_form.specs.Within.{branching_within}
+use Rattle.tree_form.proofs.Within.{branching-plain}
+use Rattle.tree_form.specs.declared.order.Order.{Order}
 use Rattle.wagner.specs.declared.answer.WagnerTree.{WagnerTree}
-use Rattle.wagner.specs.Build.{Built, wagner, wagner_length}
-use Rattle.wagner.specs.Matrix.{matrix_after}
-use Rattle.wagner.specs.Answers.{wagner_in, BuiltFrom, BuildDone}
+use Rattle.wagner_form.specs.Build.{Built, wagner, wagner_length}
+use Rattle.wagner_form.specs.Matrix.{matrix_after, wagner_in}
+use Rattle.wagner.specs.Answers.{BuiltFrom, BuildDone}
 use Rattle.wagner.proofs.StillLent.{still_lent, same-taxa}
 use Rattle.rivals.proofs.Lent.{same-network}
-use Rattle.rivals.proofs.Built.{built-whole}
-use Rattle.lines.specs.Lines.{joined}
-use Rattle.lines.specs.Kinds.{total_line}
-use Rattle.lines.specs.Names.{names_in}
-use Rattle.listing.specs.Meant.{order_meant}
+use Rattle.listing.proofs.Built.{built-whole}
+use Rattle.listing_form.specs.Lines.{joined}
+use Rattle.listing_form.specs.Kinds.{total_line}
+use Rattle.lines.specs.Fields.{names_in}
+use Rattle.listing_form.specs.Meant.{order_meant}
 use Rattle.listing.specs.declared.job.FittedTree.{FittedTree}
 use Rattle.listing.specs.declared.job.Results.{Results}
-use Rattle.listing.specs.Listing.{listing}
+use Rattle.listing_form.specs.Listing.{listing}
 use Rattle.listing.specs.Handed.{HoldsNames, HoldsPlacements, prim_texts, wagner_texts}
 use Rattle.listing.specs.Sizes.{SizesWithin}
 use Rattle.listing.specs.Found.{FittedOf, ResultsOf, result_texts}
-use Rattle.listing.proofs.Parts.{links_of, built_of, prim_lines, wagner_lines, prim_total, wagner_total, built-text}
+use Rattle.listing_form.proofs.Parts.{links_of, built_of, prim_lines, wagner_lines, prim_total, wagner_total, built-text}
 use Rattle.listing.proofs.HandedTexts.{prim_text, wagner-text}
 use Rattle.listing.proofs.FittedTrees.{tree_put}
 

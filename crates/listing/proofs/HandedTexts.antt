@@ -8,24 +8,24 @@ use lib.ListN.{take}
 use Rattle.lists.specs.Numbers.{numbers}
 use Rattle.lists.proofs.Filled.{filled-first}
 use Rattle.lists.proofs.Numbers.{numbers-within}
-use Rattle.matrix.specs.Outcomes.{refused}
-use Rattle.prim.specs.Network.{Link}
+use Rattle.matrix_form.specs.Outcomes.{refused}
+use Rattle.prim_form.specs.Network.{Link}
 use Rattle.prim.specs.Answers.{Holds}
 use Rattle.prim.specs.declared.answer.Network.{Network}
 use Rattle.prim.proofs.Holding.{holds-first}
-use Rattle.branching.specs.declared.placement.Placement.{Placement}
-use Rattle.branching.specs.Ancestors.{ancestor}
-use Rattle.branching.specs.Nodes.{other_nodes}
-use Rattle.fitting.specs.declared.whole.BranchFit.{BranchFit}
-use Rattle.lines.specs.Lines.{joined}
-use Rattle.lines.specs.Kinds.{prim_line, wagner_line, branch_line, state_line, refusal_line}
-use Rattle.lines.specs.Names.{names_in}
-use Rattle.listing.specs.Blocks.{fitted_line, fitted_lines, range_line, range_lines}
-use Rattle.listing.specs.Listing.{printed}
+use Rattle.tree_form.specs.declared.placement.Placement.{Placement}
+use Rattle.tree_form.specs.Ancestors.{ancestor}
+use Rattle.tree_form.specs.Nodes.{other_nodes}
+use Rattle.fit_form.specs.declared.whole.BranchFit.{BranchFit}
+use Rattle.listing_form.specs.Lines.{joined}
+use Rattle.listing_form.specs.Kinds.{prim_line, wagner_line, branch_line, state_line, refusal_line}
+use Rattle.lines.specs.Fields.{names_in}
+use Rattle.listing_form.specs.Blocks.{fitted_line, fitted_lines, range_line, range_lines}
+use Rattle.listing_form.specs.Listing.{printed}
 use Rattle.listing.specs.Handed.{HoldsNames, HoldsPlacements, HoldsFit, HoldsStates, branch_text_at, branch_texts, state_text_at, node_texts, state_texts}
 use Rattle.branching.specs.Unasked.{no_placement}
 use Rattle.wagner.specs.Answers.{most_placements}
-use Rattle.listing.proofs.Joined.{joined-one, joined-map, joined-each, flat_map-same}
+use Rattle.listing_form.proofs.Joined.{joined-one, joined-map, joined-each, flat_map-same}
 use Rattle.listing.proofs.Unpadded.{same_names}
 
 -- the line of a refusal is what is printed for it

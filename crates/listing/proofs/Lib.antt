@@ -1,23 +1,13 @@
--- The listing: its definitions computed, the bytes that are put and what they say, its parts and totals, and the room it takes.
-pub mod Computed
-pub mod Examples
-pub mod OneTaxon
+-- Laws for the proofs of the functions that put the listing.
 pub mod PutFront
-pub mod LineSizes
-pub mod InTurn
 pub mod BlockTexts
-pub mod Joined
 pub mod Unpadded
 pub mod ReadNames
 pub mod HandedTexts
-pub mod Parts
-pub mod Printed
 pub mod FittedTrees
+pub mod Built
 pub mod FoundResults
 pub mod PutJobs
 pub mod ReadListed
 pub mod Called
-pub mod InPrint
-pub mod OfFiles
-pub mod Totals
 pub mod Bounds

@@ -3,28 +3,29 @@ use mathlib.Core.Path.{◌≡◌, refl, sym, ap, ◌∙◌}
 use mathlib.Core.List.{List}
 use Prim.Native.Nat.{ℕ}
 use lib.IntN.{ℤ}
-use Rattle.matrix.specs.NodeRows.{rows_of}
+use Rattle.matrix_form.specs.NodeRows.{rows_of}
 use Rattle.file_form.specs.declared.header.Header.{Header}
 use Rattle.file_form.specs.declared.header.Kind.TheVariants.{Wagner, Own}
 use Rattle.file_form.specs.Written.{LentLists}
-use Rattle.difference.specs.Rows.{Measure, weighing}
-use Rattle.branching.specs.declared.branch.Branch.{Branch}
+use Rattle.difference_form.specs.Rows.{Measure, weighing}
+use Rattle.tree_form.specs.declared.branch.Branch.{Branch}
 use Rattle.branching.specs.declared.tree.Tree.{Tree}
-use Rattle.branching.specs.Ancestors.{ancestors, ancestor, tree_with}
-use Rattle.branching.specs.Branches.{ancestors_of, places_of}
-use Rattle.branching.specs.LentNumbers.{records_in}
-use Rattle.branching.proofs.Lending.{places-ancestors}
-use Rattle.lines.specs.Lines.{joined}
-use Rattle.lines.specs.Names.{names_in}
+use Rattle.tree_form.specs.Ancestors.{ancestor, tree_with}
+use Rattle.branching.specs.Views.{ancestors}
+use Rattle.tree_form.specs.Branches.{ancestors_of, places_of}
+use Rattle.tree_form.specs.LentNumbers.{records_in}
+use Rattle.tree_form.proofs.Lending.{places-ancestors}
+use Rattle.listing_form.specs.Lines.{joined}
+use Rattle.lines.specs.Fields.{names_in}
 use Rattle.lines.specs.declared.put.Listing.{Listing}
 use Rattle.lines.specs.Puts.{Puts}
 use Rattle.lines.proofs.Puts.{put_same}
-use Rattle.listing.specs.Meant.{order_meant}
+use Rattle.listing_form.specs.Meant.{order_meant}
 use Rattle.listing.specs.declared.job.FittedTree.{FittedTree}
 use Rattle.listing.specs.declared.job.Results.{Results}
-use Rattle.listing.specs.Listing.{listing}
+use Rattle.listing_form.specs.Listing.{listing}
 use Rattle.listing.specs.Found.{FittedOf, ResultsOf, tree_texts, result_texts, held_job, ListsJob}
-use Rattle.listing.proofs.Parts.{own-text}
+use Rattle.listing_form.proofs.Parts.{own-text}
 use Rattle.listing.proofs.FittedTrees.{tree_put}
 use Rattle.listing.proofs.FoundResults.{results_listed}
 

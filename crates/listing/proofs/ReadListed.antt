@@ -6,39 +6,39 @@ use Prim.Native.Nat.{ℕ}
 use lib.IntN.{ℤ}
 use native.Mathlib.Omega.{arith}
 use lib.ListN.{length, replicate, length-replicate}
-use Rattle.matrix.specs.Shape.{columns, matrix_size}
-use Rattle.matrix.specs.NodeRows.{rows_of}
-use Rattle.matrix.specs.Questions.{LentMatrix, LentWeights}
-use Rattle.matrix.specs.Refusals.{refusal_number}
-use Rattle.matrix.specs.Outcomes.{value, refused}
+use Rattle.matrix_form.specs.Shape.{columns, matrix_size}
+use Rattle.matrix_form.specs.NodeRows.{rows_of}
+use Rattle.matrix_form.specs.Questions.{LentMatrix, LentWeights}
+use Rattle.matrix_form.specs.Refusals.{refusal_number}
+use Rattle.matrix_form.specs.Outcomes.{value, refused}
 use Rattle.file_form.specs.Header.{header_of}
 use Rattle.file_form.specs.Reading.{read_answer}
-use Rattle.matrix_file.specs.Report.{read_says, read_outcome, ReadDone}
+use Rattle.file_form.specs.Report.{read_says, read_outcome, ReadDone}
 use Rattle.file_form.specs.Written.{names_size, weights_written, LentLists}
 use Rattle.file_form.specs.declared.header.Header.{Header}
-use Rattle.matrix_file.specs.declared.answer.Refused.{Refused}
+use Rattle.file_form.specs.declared.answer.Refused.{Refused}
 use Rattle.std.specs.Prelude.{Result, Ok, Err}
 use Rattle.file_form.proofs.File.Outcomes.{then_refused}
-use Rattle.matrix_file.proofs.Lists.ReadLists.{job_lent, job_weighed, Accepting, read_accepting}
-use Rattle.matrix_file.proofs.Lists.ReadWalk.{full-lists, sized, full as outcome-full}
-use Rattle.branching.specs.Branches.{ancestors_of}
-use Rattle.branching.specs.LentNumbers.{lent_numbers, records_in}
+use Rattle.file_form.proofs.Lists.ReadLists.{job_lent, job_weighed, Accepting, read_accepting}
+use Rattle.file_form.proofs.Lists.Sizes.{full-lists, sized, full as outcome-full}
+use Rattle.tree_form.specs.Branches.{ancestors_of}
+use Rattle.tree_form.specs.LentNumbers.{lent_numbers, records_in}
 use Rattle.rivals.proofs.Own.{own-lent, own_handed_back}
-use Rattle.difference.specs.Rows.{weighing}
+use Rattle.difference_form.specs.Rows.{weighing}
 use Rattle.rivals.proofs.Reading.{read_rows, written_measure}
-use Rattle.lines.specs.Lines.{joined}
-use Rattle.lines.specs.Kinds.{refusal_line}
+use Rattle.listing_form.specs.Lines.{joined}
+use Rattle.listing_form.specs.Kinds.{refusal_line}
 use Rattle.lines.specs.declared.put.Listing.{Listing}
 use Rattle.lines.specs.Puts.{Puts}
 use Rattle.lines.proofs.Puts.{put_same}
-use Rattle.listing.specs.Meant.{measure_meant}
-use Rattle.listing.specs.Listing.{listing, printed, output}
+use Rattle.listing_form.specs.Meant.{measure_meant}
+use Rattle.listing_form.specs.Listing.{listing, printed, output}
 use Rattle.listing.specs.Handed.{HoldsNames}
 use Rattle.listing.specs.Found.{held_job, HoldsJob, ListsJob, BranchingLent}
 use Rattle.listing.proofs.HandedTexts.{refusal_text}
 use Rattle.listing.proofs.ReadNames.{names-held}
-use Rattle.listing.proofs.Printed.{output-printed}
-use Rattle.listing.proofs.Totals.{limits}
+use Rattle.listing_form.proofs.Printed.{output-printed}
+use Rattle.listing_form.proofs.Totals.{limits}
 
 -- a read of a file into lists of full size
 module _ (file : List ℕ) (old new : LentLists) (r : Result Header Refused) (done : ReadDone file old new r) (full : length old.matrix ≡ matrix_size)
@@ -48,7 +48,7 @@ module _ (file : List ℕ) (old new : LentLists) (r : Result Header Refused) (do
   weights-full = ap length ones ∙ length-replicate {A = ℕ} columns 1
 
   -- the lists have their full size
-  sizes-full : sized file old ≡ true
+  sizes-full : sized old ≡ true
   sizes-full = full-lists _ _ _ _ (full, weights-full, room, records)
 
   -- a refused file brings its refusal

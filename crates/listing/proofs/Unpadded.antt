@@ -16,8 +16,8 @@ use Rattle.lists.proofs.Every.{every-head, every-tail}
 use Rattle.file_form.specs.Bytes.{underscore, is_digit, is_letter, part_length, first_part}
 use Rattle.file_form.specs.Job.{name_size, in_name, name_form}
 use Rattle.file_form.specs.Written.{padded}
-use Rattle.lines.specs.Lines.{node_name}
-use Rattle.lines.specs.Names.{names_in}
+use Rattle.listing_form.specs.Lines.{node_name}
+use Rattle.lines.specs.Fields.{names_in}
 use Rattle.lines.proofs.Fields.{part_goes_on, node_taxon, node_lent, node_htu}
 use Rattle.listing.specs.Handed.{HoldsNames}
 

@@ -1,33 +1,34 @@
 -- What is found of a lent matrix and of a tree, and the text that is put for it. No public contract cites this.
 use Rattle.std.specs.Prelude.{◌≡◌, true, List, ◌++◌, ℕ, ℤ, length}
-use Rattle.matrix.specs.Shape.{matrix_size, row}
-use Rattle.matrix.specs.NodeRows.{rows_of}
+use Rattle.matrix_form.specs.Shape.{matrix_size, row}
+use Rattle.matrix_form.specs.NodeRows.{rows_of}
 use Rattle.file_form.specs.declared.header.Header.{Header}
 use Rattle.file_form.specs.declared.header.Kind.TheVariants.{Own}
 use Rattle.file_form.specs.Job.{Job}
 use Rattle.file_form.specs.Written.{LentLists, lent}
-use Rattle.difference.specs.Rows.{Measure, difference, node_difference, weighing}
-use Rattle.prim.specs.Network.{network}
+use Rattle.difference_form.specs.Rows.{Measure, difference, node_difference, weighing}
+use Rattle.prim_form.specs.Network.{network}
 use Rattle.prim.specs.Answers.{Holds}
 use Rattle.branching.specs.declared.tree.Tree.{Tree}
-use Rattle.branching.specs.Ancestors.{ancestors, tree_with}
-use Rattle.branching.specs.Branches.{ancestors_of, lent_branching}
-use Rattle.branching.specs.LentNumbers.{records_in}
-use Rattle.branching.specs.declared.order.Order.{Order}
-use Rattle.wagner.specs.Build.{wagner_length}
-use Rattle.wagner.specs.Answers.{wagner_in}
-use Rattle.fitting.specs.Calls.{FitOf}
-use Rattle.fitting.specs.Fit.{fitted_total}
-use Rattle.consistency.specs.Index.{index}
-use Rattle.consistency.specs.Floor.{floor}
-use Rattle.lines.specs.Lines.{joined}
-use Rattle.lines.specs.Kinds.{index_line}
+use Rattle.tree_form.specs.Ancestors.{tree_with}
+use Rattle.branching.specs.Views.{ancestors}
+use Rattle.tree_form.specs.Branches.{ancestors_of, lent_branching}
+use Rattle.tree_form.specs.LentNumbers.{records_in}
+use Rattle.tree_form.specs.declared.order.Order.{Order}
+use Rattle.wagner_form.specs.Build.{wagner_length}
+use Rattle.wagner_form.specs.Matrix.{wagner_in}
+use Rattle.fit_form.specs.Calls.{FitOf}
+use Rattle.fit_form.specs.Fit.{fitted_total}
+use Rattle.consistency_form.specs.Index.{index}
+use Rattle.consistency_form.specs.Floor.{floor}
+use Rattle.listing_form.specs.Lines.{joined}
+use Rattle.listing_form.specs.Kinds.{index_line}
 use Rattle.lines.specs.declared.put.Listing.{Listing}
 use Rattle.lines.specs.Puts.{Puts}
 use Rattle.listing.specs.declared.job.Lists.{Lists}
 use Rattle.listing.specs.declared.job.FittedTree.{FittedTree}
 use Rattle.listing.specs.declared.job.Results.{Results}
-use Rattle.listing.specs.Listing.{listing}
+use Rattle.listing_form.specs.Listing.{listing}
 use Rattle.listing.specs.Sizes.{SizesWithin}
 use Rattle.listing.specs.Handed.{HoldsNames, HoldsPlacements, HoldsStates, prim_texts, wagner_texts, fitted_texts, state_texts}
 

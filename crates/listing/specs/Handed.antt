@@ -7,20 +7,21 @@ use Rattle.lists.specs.Numbers.{numbers}
 use Rattle.file_form.specs.Job.{name_form}
 use Rattle.file_form.specs.Written.{padded}
 use Rattle.prim.specs.declared.answer.Network.{Network}
-use Rattle.branching.specs.declared.placement.Placement.{Placement}
+use Rattle.tree_form.specs.declared.placement.Placement.{Placement}
 use Rattle.branching.specs.declared.tree.Tree.{Tree}
 use Rattle.branching.specs.Unasked.{no_placement}
 use Rattle.wagner.specs.declared.answer.WagnerTree.{WagnerTree}
 use Rattle.wagner.specs.Answers.{most_placements}
-use Rattle.branching.specs.Ancestors.{ancestors, ancestor}
-use Rattle.branching.specs.Nodes.{other_nodes}
-use Rattle.fitting.specs.Handing.{state_at}
-use Rattle.fitting.specs.Fit.{chosen_state, range, fitted_length, marked}
-use Rattle.fitting.specs.Calls.{branch_at}
-use Rattle.fitting.specs.declared.whole.BranchFit.{BranchFit}
-use Rattle.fitting.specs.declared.whole.Fit.{Fit}
-use Rattle.lines.specs.Kinds.{total_line, prim_line, wagner_line, branch_line, state_line}
-use Rattle.lines.specs.Names.{name_bytes}
+use Rattle.tree_form.specs.Ancestors.{ancestor}
+use Rattle.branching.specs.Views.{ancestors}
+use Rattle.tree_form.specs.Nodes.{other_nodes}
+use Rattle.fit_form.specs.Handing.{state_at}
+use Rattle.fit_form.specs.Fit.{chosen_state, range, fitted_length, marked}
+use Rattle.fit_form.specs.Calls.{branch_at}
+use Rattle.fit_form.specs.declared.whole.BranchFit.{BranchFit}
+use Rattle.fit_form.specs.declared.whole.Fit.{Fit}
+use Rattle.listing_form.specs.Kinds.{total_line, prim_line, wagner_line, branch_line, state_line}
+use Rattle.lines.specs.Fields.{name_bytes}
 use Rattle.lines.specs.declared.put.Listing.{Listing}
 use Rattle.lines.specs.Puts.{Puts}
 

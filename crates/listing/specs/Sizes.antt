@@ -1,6 +1,6 @@
--- How many taxa and characters a job can have. No public contract cites this.
+-- The numbers of taxa and characters that a legend of lines is for. No exported contract cites this file.
 use Rattle.std.specs.Prelude.{ℕ, ◌≤◌}
-use Rattle.matrix.specs.Shape.{columns}
+use Rattle.matrix_form.specs.Shape.{columns}
 
 -- n and m are within their limits
 pub record SizesWithin (n m : ℕ) : Type 0 where

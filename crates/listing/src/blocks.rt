@@ -1,15 +1,15 @@
 // The blocks of the listing, each apart: the lines of the network, of the placements, of the fitted tree and of the states.
-ghost use Rattle.std.specs.Prelude.{◌≡◌, List, ℕ};
+ghost use Rattle.std.specs.Prelude.{List, ℕ};
 ghost use mathlib.Core.List.{flat_map, ◌++◌};
 ghost use Rattle.lines.specs.Fields.{names_of};
-ghost use Rattle.lines.specs.Kinds.{total_text};
+ghost use Rattle.lines.specs.Fields.{total_text};
 ghost use Rattle.lines.specs.Puts.{Puts};
 ghost use Rattle.listing.specs.Handed.{PutsLine, fitted_texts, node_texts, state_texts};
 ghost use Rattle.listing.specs.Sizes.{SizesWithin};
 
 use branching::tree::Tree;
+use fit_form::whole::Fit;
 use fitting::ranges::Ranges;
-use fitting::whole::Fit;
 use lines::names::Names;
 use lines::put::Listing;
 

@@ -1,18 +1,18 @@
 // From a file's bytes to the bytes of its listing.
 ghost use Rattle.std.specs.Prelude.{◌≡◌, replicate};
-ghost use Rattle.matrix.specs.Shape.{columns};
+ghost use Rattle.matrix_form.specs.Shape.{columns};
 ghost use Rattle.lines.specs.Puts.{Puts};
-ghost use Rattle.listing.specs.Listing.{output};
-ghost use Rattle.listing.specs.Call.{ListDone};
+ghost use Rattle.listing_form.specs.Listing.{output};
+ghost use Rattle.listing_form.specs.Call.{ListDone};
 
 use crate::job::{Lists, Room, put_job};
-use branching::numbers::LENT_NUMBERS;
-use file_form::NAMES_SIZE;
 use fitting::ranges::Ranges;
 use lines::put::Listing;
-use matrix::refusal::Refusal;
 use matrix::{COLUMNS, LIGHTEST, MATRIX_SIZE};
+use matrix_file::NAMES_SIZE;
 use matrix_file::reading::read;
+use matrix_form::refusal::Refusal;
+use tree_records::numbers::LENT_NUMBERS;
 
 // So many bytes are lent for what is printed; no file needs more.
 pub const OUTPUT_SIZE: usize = 1048576;

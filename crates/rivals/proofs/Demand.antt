@@ -5,24 +5,24 @@ use mathlib.Core.Bool.{true}
 use mathlib.Core.List.{List, []}
 use Prim.Native.Nat.{ℕ, zero, suc, ◌≤◌}
 use lib.IntN.{ℤ}
-use Rattle.matrix.specs.Shape.{weight_at}
-use Rattle.matrix.specs.NodeRows.{row_of}
-use Rattle.matrix.specs.Questions.{within_limits, one_to, are_weights}
+use Rattle.matrix_form.specs.Shape.{weight_at}
+use Rattle.matrix_form.specs.NodeRows.{row_of}
+use Rattle.matrix_form.specs.Questions.{within_limits, one_to, are_weights}
 use Rattle.lists.specs.Tests.{every}
 use Rattle.lists.proofs.Both.{and_left, and_right}
-use Rattle.matrix.proofs.Passing.{one_to-true}
-use Rattle.difference.specs.Rows.{difference, weighing, plain, node_difference}
-use Rattle.difference.proofs.Laws.Rows.{difference-sym}
-use Rattle.difference.proofs.Laws.Measure.{measure_alike}
-use Rattle.prim.specs.Rival.{Shortest}
-use Rattle.prim.proofs.Shortest.{shortest}
-use Rattle.branching.specs.Growing.{branching}
-use Rattle.branching.specs.Branches.{named_in_order, lent_branching, ancestors_of}
-use Rattle.wagner.specs.Build.{wagner}
-use Rattle.wagner.proofs.Whole.{wagner-branching}
-use Rattle.branching.proofs.Test.{branching_iff}
-use Rattle.fitting.specs.Rival.{FitIsLeast}
-use Rattle.fitting.proofs.Matrix.ThirdRival.{third_rival}
+use Rattle.matrix_form.proofs.Passing.{one_to-true}
+use Rattle.difference_form.specs.Rows.{difference, weighing, plain, node_difference}
+use Rattle.difference_form.proofs.Laws.Rows.{difference-sym}
+use Rattle.difference_form.proofs.Laws.Measure.{measure_alike}
+use Rattle.prim_form.specs.Rival.{Shortest}
+use Rattle.prim_form.proofs.Shortest.{shortest}
+use Rattle.tree_form.specs.Growing.{branching}
+use Rattle.tree_form.specs.Branches.{named_in_order, lent_branching, ancestors_of}
+use Rattle.wagner_form.specs.Build.{wagner}
+use Rattle.wagner_form.proofs.Whole.{wagner-branching}
+use Rattle.tree_form.proofs.Test.{branching_iff}
+use Rattle.fit_form.specs.Rival.{FitIsLeast}
+use Rattle.fit_form.proofs.Matrix.ThirdRival.{third_rival}
 use Rattle.rivals.specs.Accepted.{Accepted}
 use Rattle.rivals.specs.Demand.{NoRivalDoesBetter}
 use Rattle.rivals.proofs.Rows.{MatrixRows, accepted_rows}

@@ -9,21 +9,21 @@ use Rattle.lists.specs.Least.{first_least, least_of}
 use Rattle.lists.specs.Numbers.{numbers}
 use Rattle.lists.specs.Sums.{sum_over}
 use Rattle.lists.specs.Tests.{every}
-use Rattle.matrix.specs.NodeRows.{row_of}
-use Rattle.matrix.specs.Shape.{in_range, weight_at, last_node}
-use Rattle.matrix.specs.Questions.{all_in_range}
+use Rattle.matrix_form.specs.NodeRows.{row_of}
+use Rattle.matrix_form.specs.Shape.{in_range, weight_at, last_node}
+use Rattle.matrix_form.specs.Questions.{all_in_range}
 use Rattle.file_form.specs.Job.{has_codes}
-use Rattle.difference.specs.Rows.{apart, part, lower, higher, median, medians, difference, interval_by, node_difference}
-use Rattle.branching.specs.declared.placement.Placement.{Placement}
-use Rattle.branching.specs.Ancestors.{ancestor, descendants}
-use Rattle.branching.specs.Nodes.{has_ancestor, in_tree, nodes_in, other_nodes, taxa_placed}
-use Rattle.branching.specs.Growing.{descendant_count, descendants_wanted, climbs, row_one_alone, nodes_only, htus_in, ancestors_in}
-use Rattle.branching.specs.Growing.{descendants_right, all_climb, grown, growing_tree}
-use Rattle.branching.specs.Hanging.{no_branches, linked, hung, next_htu}
-use Rattle.branching.specs.Branches.{tree_length}
-use Rattle.branching.specs.RowLengths.{node_interval, length_under}
-use Rattle.branching.specs.Placing.{median_row, from_interval, nearest_interval, link_first, hang, place_on, place}
-use Rattle.branching.specs.Rival.{hung_length}
+use Rattle.difference_form.specs.Rows.{apart, part, lower, higher, median, medians, difference, interval_by, node_difference}
+use Rattle.tree_form.specs.declared.placement.Placement.{Placement}
+use Rattle.tree_form.specs.Ancestors.{ancestor, descendants}
+use Rattle.tree_form.specs.Nodes.{has_ancestor, in_tree, nodes_in, other_nodes, taxa_placed}
+use Rattle.tree_form.specs.Growing.{descendant_count, descendants_wanted, climbs, row_one_alone, nodes_only, htus_in, ancestors_in}
+use Rattle.tree_form.specs.Growing.{descendants_right, all_climb, grown, growing_tree}
+use Rattle.tree_form.specs.Hanging.{no_branches, linked, hung, next_htu}
+use Rattle.tree_form.specs.Branches.{tree_length}
+use Rattle.tree_form.specs.RowLengths.{node_interval, length_under}
+use Rattle.tree_form.specs.Placing.{median_row, from_interval, nearest_interval, link_first, hang, place_on, place}
+use Rattle.tree_form.specs.Rival.{hung_length}
 use Rattle.rivals.specs.Accepted.{HandedIn}
 
 -- rows of A, B, C, D and E

@@ -5,18 +5,18 @@ use mathlib.Core.List.{List}
 use Prim.Native.Nat.{ℕ, ◌≤◌}
 use lib.IntN.{ℤ}
 use Rattle.std.specs.Prelude.{Some, Ok}
-use Rattle.matrix.specs.NodeRows.{rows_of}
-use Rattle.matrix.specs.Outcomes.{value}
-use Rattle.matrix.specs.Questions.{ask_matrix}
+use Rattle.matrix_form.specs.NodeRows.{rows_of}
+use Rattle.matrix_form.specs.Outcomes.{value}
+use Rattle.matrix_form.specs.Questions.{ask_matrix}
 use Rattle.file_form.specs.Job.{Job}
 use Rattle.file_form.specs.Reading.{read_answer}
-use Rattle.difference.specs.Rows.{weighing}
-use Rattle.branching.specs.Growing.{branching}
-use Rattle.fitting.specs.Fit.{fitted_total}
-use Rattle.consistency.specs.Floor.{floor, FloorNeverPasses}
-use Rattle.consistency.specs.Index.{thousand, IsIndex}
-use Rattle.consistency.proofs.NeverPasses.{floor_never_passes, floor-fitted}
-use Rattle.consistency.proofs.Division.{quotient_most}
+use Rattle.difference_form.specs.Rows.{weighing}
+use Rattle.tree_form.specs.Growing.{branching}
+use Rattle.fit_form.specs.Fit.{fitted_total}
+use Rattle.consistency_form.specs.Floor.{floor, FloorNeverPasses}
+use Rattle.consistency_form.specs.Index.{thousand, IsIndex}
+use Rattle.consistency_form.proofs.NeverPasses.{floor_never_passes, floor-fitted}
+use Rattle.consistency_form.proofs.Division.{quotient_most}
 use Rattle.rivals.specs.Accepted.{Accepted, file_read, matrix_lent}
 use Rattle.rivals.proofs.Rows.{accepted_rows}
 use Rattle.rivals.proofs.Demand.{taxa-limits}

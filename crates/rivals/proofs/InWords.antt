@@ -9,29 +9,29 @@ use native.Mathlib.Omega.{arith}
 use lib.IntN.{ℤ}
 use lib.ListN.{length, drop}
 use Rattle.std.specs.Prelude.{Ok}
-use Rattle.matrix.specs.Shape.{last_node}
-use Rattle.matrix.specs.NodeRows.{row_of, rows_of}
-use Rattle.matrix.specs.Questions.{ask_matrix}
+use Rattle.matrix_form.specs.Shape.{last_node}
+use Rattle.matrix_form.specs.NodeRows.{row_of, rows_of}
+use Rattle.matrix_form.specs.Questions.{ask_matrix}
 use Rattle.file_form.specs.Job.{Job}
-use Rattle.matrix.specs.Outcomes.{value}
+use Rattle.matrix_form.specs.Outcomes.{value}
 use Rattle.file_form.specs.Reading.{read_answer}
-use Rattle.difference.specs.Rows.{difference, node_difference, weighing}
-use Rattle.prim.specs.Network.{network, network_length}
-use Rattle.prim.specs.Rival.{Connected, link_ends, links_length}
-use Rattle.branching.specs.declared.placement.Placement.{Placement}
-use Rattle.branching.specs.Ancestors.{ancestor}
-use Rattle.branching.specs.Nodes.{Unplaced}
-use Rattle.branching.specs.Growing.{branching}
-use Rattle.branching.specs.Hanging.{no_branches, linked}
-use Rattle.branching.specs.RowLengths.{length_under}
-use Rattle.branching.specs.Placing.{place}
-use Rattle.branching.specs.Rival.{hung_length}
-use Rattle.branching.specs.declared.order.Order.{Order}
-use Rattle.branching.specs.declared.order.Order.TheVariants.{Closest}
-use Rattle.wagner.specs.Build.{Built, wagner}
-use Rattle.fitting.specs.Sets.{In}
-use Rattle.fitting.specs.Assignments.{character, IsAssignment, IsLeast, Occurs, total}
-use Rattle.fitting.specs.Fit.{chosen_state, range, fitted_total}
+use Rattle.difference_form.specs.Rows.{difference, node_difference, weighing}
+use Rattle.prim_form.specs.Network.{network, network_length}
+use Rattle.prim_form.specs.Rival.{Connected, link_ends, links_length}
+use Rattle.tree_form.specs.declared.placement.Placement.{Placement}
+use Rattle.tree_form.specs.Ancestors.{ancestor}
+use Rattle.tree_form.specs.Nodes.{Unplaced}
+use Rattle.tree_form.specs.Growing.{branching}
+use Rattle.tree_form.specs.Hanging.{no_branches, linked}
+use Rattle.tree_form.specs.RowLengths.{length_under}
+use Rattle.tree_form.specs.Placing.{place}
+use Rattle.tree_form.specs.Rival.{hung_length}
+use Rattle.tree_form.specs.declared.order.Order.{Order}
+use Rattle.tree_form.specs.declared.order.Order.TheVariants.{Closest}
+use Rattle.wagner_form.specs.Build.{Built, wagner}
+use Rattle.fit_form.specs.Sets.{In}
+use Rattle.fit_form.specs.Assignments.{character, IsAssignment, IsLeast, Occurs, total}
+use Rattle.fit_form.specs.Fit.{chosen_state, range, fitted_total}
 use Rattle.rivals.specs.Accepted.{Accepted, file_read, matrix_lent, HandedIn}
 use Rattle.rivals.specs.Demand.{NoRivalDoesBetter, EachIsLeast, more, BuildIsLeast, one_taxon, several_taxa}
 use Rattle.rivals.proofs.Demand.{no_rival}

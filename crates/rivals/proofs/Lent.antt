@@ -9,34 +9,34 @@ use lib.Dec.{leb, eqb}
 use lib.IntN.{ℤ}
 use lib.ListN.{length, get_or}
 use Rattle.std.specs.Prelude.{Ok}
-use Rattle.fitting.specs.Rival.{FitIsLeast}
-use Rattle.matrix.specs.NodeRows.{rows_of, row_of}
+use Rattle.fit_form.specs.Rival.{FitIsLeast}
+use Rattle.matrix_form.specs.NodeRows.{rows_of, row_of}
 use Rattle.lists.specs.Numbers.{numbers}
 use Rattle.lists.specs.Tests.{every}
-use Rattle.matrix.specs.Shape.{row}
-use Rattle.matrix.specs.Questions.{all_in_range, htu_in_range, htus_in_range, ask_matrix}
-use Rattle.matrix.specs.declared.refusal.Refusal.TheVariants.{NotBranching, ListSize}
-use Rattle.matrix.proofs.Passing.{ask_passed, and_then_passed, matrix_passed}
-use Rattle.difference.specs.Rows.{difference, node_difference, weighing}
-use Rattle.prim.specs.Network.{network}
-use Rattle.prim.proofs.Agreement.{network_agrees}
-use Rattle.branching.specs.Nodes.{taxa_placed}
-use Rattle.branching.proofs.Nodes.{taxa_placed_le}
+use Rattle.matrix_form.specs.Shape.{row}
+use Rattle.matrix_form.specs.Questions.{all_in_range, htu_in_range, htus_in_range, ask_matrix}
+use Rattle.matrix_form.specs.declared.refusal.Refusal.TheVariants.{NotBranching, ListSize}
+use Rattle.matrix_form.proofs.Passing.{ask_passed, and_then_passed, matrix_passed}
+use Rattle.difference_form.specs.Rows.{difference, node_difference, weighing}
+use Rattle.prim_form.specs.Network.{network}
+use Rattle.prim_form.proofs.Agreement.{network_agrees}
+use Rattle.tree_form.specs.Nodes.{taxa_placed}
+use Rattle.tree_form.proofs.Nodes.{taxa_placed_le}
 use Rattle.lists.proofs.Numbers.{numbers-append, length_map_numbers, map-numbers, get_or-numbers, length-numbers}
 use Rattle.lists.proofs.Both.{or_cases}
 use Rattle.lists.proofs.Every.{every_at, every-from}
-use Rattle.matrix.proofs.Row.{row-length}
+use Rattle.matrix_form.proofs.Row.{row-length}
 use Rattle.file_form.specs.Job.{has_codes}
-use Rattle.branching.specs.declared.branch.Branch.{Branch}
-use Rattle.branching.specs.Branches.{ancestors_of, lent_branching}
-use Rattle.branching.proofs.Passed.{PlacementAsked}
-use Rattle.branching.specs.Placing.{place}
-use Rattle.branching.specs.Rival.{PlacementIsLeast}
+use Rattle.tree_form.specs.declared.branch.Branch.{Branch}
+use Rattle.tree_form.specs.Branches.{ancestors_of, lent_branching}
+use Rattle.tree_form.proofs.Passed.{PlacementAsked}
+use Rattle.tree_form.specs.Placing.{place}
+use Rattle.tree_form.specs.Rival.{PlacementIsLeast}
 use Rattle.rivals.specs.Accepted.{CodeRows, matrix_lent, HandedIn}
 use Rattle.rivals.proofs.Demand.{no_rival}
-use Rattle.branching.specs.Growing.{row_one_alone}
-use Rattle.branching.specs.Asking.{htus_of, ask_branching, branches_size}
-use Rattle.matrix.proofs.NodeRows.{row_of-rows_of}
+use Rattle.tree_form.specs.Growing.{row_one_alone}
+use Rattle.tree_form.specs.Asking.{htus_of, ask_branching, branches_size}
+use Rattle.matrix_form.proofs.NodeRows.{row_of-rows_of}
 
 -- the network that the call answers is the one that the claim and the listing speak of
 pub same-network : (codes : List ℤ) (weights : List ℕ) (n m : ℕ)

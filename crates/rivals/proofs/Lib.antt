@@ -8,4 +8,3 @@ pub mod Lent
 pub mod Reading
 pub mod InWords
 pub mod Examples
-pub mod Built

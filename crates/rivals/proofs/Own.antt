@@ -5,25 +5,25 @@ use mathlib.Core.Bool.{true}
 use mathlib.Core.List.{List}
 use Prim.Native.Nat.{ℕ}
 use lib.ListN.{length}
-use Rattle.matrix.specs.Outcomes.{value}
+use Rattle.matrix_form.specs.Outcomes.{value}
 use Rattle.file_form.specs.Job.{Job, JobWithinLimits}
 use Rattle.file_form.specs.Branches.{branch_count, branched}
 use Rattle.file_form.specs.Reading.{read_answer}
-use Rattle.matrix_file.specs.Report.{ReadDone}
+use Rattle.file_form.specs.Report.{ReadDone}
 use Rattle.file_form.specs.Written.{LentLists}
 use Rattle.file_form.specs.declared.header.Header.{Header}
 use Rattle.file_form.specs.declared.header.Kind.TheVariants.{Own}
-use Rattle.matrix_file.specs.declared.answer.Refused.{Refused}
+use Rattle.file_form.specs.declared.answer.Refused.{Refused}
 use Rattle.std.specs.Prelude.{Result, Ok}
 use Rattle.file_form.proofs.File.Accepted.{accepted_exactly}
-use Rattle.matrix_file.proofs.Lists.ReadLists.{read_accepting}
-use Rattle.difference.specs.Rows.{weighing}
-use Rattle.branching.specs.Ancestors.{tree_with}
-use Rattle.branching.specs.Growing.{branching}
-use Rattle.branching.specs.Branches.{ancestors_of, lent_branching}
-use Rattle.branching.specs.LentNumbers.{lent_numbers, records_in, records_written}
-use Rattle.branching.proofs.LentNumbers.{written_ancestors, written_branching}
-use Rattle.fitting.specs.Rival.{FitIsLeast}
+use Rattle.file_form.proofs.Lists.ReadLists.{read_accepting}
+use Rattle.difference_form.specs.Rows.{weighing}
+use Rattle.tree_form.specs.Ancestors.{tree_with}
+use Rattle.tree_form.specs.Growing.{branching}
+use Rattle.tree_form.specs.Branches.{ancestors_of, lent_branching}
+use Rattle.tree_form.specs.LentNumbers.{lent_numbers, records_in, records_written}
+use Rattle.tree_form.proofs.LentNumbers.{written_ancestors, written_branching}
+use Rattle.fit_form.specs.Rival.{FitIsLeast}
 use Rattle.rivals.specs.Accepted.{file_read}
 use Rattle.rivals.proofs.Demand.{no_rival, taxa-limits}
 

@@ -8,28 +8,28 @@ use lib.IntN.{ℤ}
 use lib.ListN.{length, length-append}
 use Rattle.lists.specs.Numbers.{numbers}
 use Rattle.lists.proofs.Least.{least_of_le}
-use Rattle.difference.specs.Rows.{difference}
-use Rattle.branching.specs.Growing.{row_one_alone}
-use Rattle.branching.specs.Facts.{GrowingTree, alone, several, Grown}
-use Rattle.branching.specs.Nodes.{nodes_out, Unplaced, taxa_placed}
-use Rattle.branching.specs.Hanging.{no_branches}
-use Rattle.branching.proofs.Nodes.{no_branches-none, no_branches-places}
-use Rattle.branching.proofs.Test.{alone_iff, growing-fact, growing-placed}
-use Rattle.branching.specs.Placing.{link_first, place}
-use Rattle.branching.proofs.Placing.{place-first}
-use Rattle.branching.specs.Ancestors.{ancestor}
-use Rattle.branching.specs.RowLengths.{length_under}
-use Rattle.branching.specs.Rival.{hung_length, PlacementIsLeast}
-use Rattle.branching.proofs.Counts.{taxon-unplaced}
-use Rattle.branching.specs.declared.order.Order.{Order}
-use Rattle.branching.specs.declared.order.Order.TheVariants.{Closest}
-use Rattle.wagner.specs.Next.{by_closeness, next_by}
-use Rattle.wagner.specs.Build.{build_on, build, wagner}
-use Rattle.wagner.proofs.Closest.{adds, closeness_least}
-use Rattle.wagner.proofs.Whole.{order_chooses}
-use Rattle.wagner.proofs.BuildLength.{place_growth}
-use Rattle.branching.proofs.Rival.{difference_laws, placement-least}
-use Rattle.branching.proofs.RowLengths.{Growth}
+use Rattle.difference_form.specs.Rows.{difference}
+use Rattle.tree_form.specs.Growing.{row_one_alone}
+use Rattle.tree_form.specs.Facts.{GrowingTree, alone, several, Grown}
+use Rattle.tree_form.specs.Nodes.{nodes_out, Unplaced, taxa_placed}
+use Rattle.tree_form.specs.Hanging.{no_branches}
+use Rattle.tree_form.proofs.Nodes.{no_branches-none, no_branches-places}
+use Rattle.tree_form.proofs.Test.{alone_iff, growing-fact, growing-placed}
+use Rattle.tree_form.specs.Placing.{link_first, place}
+use Rattle.tree_form.proofs.Placing.{place-first}
+use Rattle.tree_form.specs.Ancestors.{ancestor}
+use Rattle.tree_form.specs.RowLengths.{length_under}
+use Rattle.tree_form.specs.Rival.{hung_length, PlacementIsLeast}
+use Rattle.tree_form.proofs.Counts.{taxon-unplaced}
+use Rattle.tree_form.specs.declared.order.Order.{Order}
+use Rattle.tree_form.specs.declared.order.Order.TheVariants.{Closest}
+use Rattle.wagner_form.specs.Next.{by_closeness, next_by}
+use Rattle.wagner_form.specs.Build.{build_on, build, wagner}
+use Rattle.wagner_form.proofs.Closest.{adds, closeness_least}
+use Rattle.wagner_form.proofs.Whole.{order_chooses}
+use Rattle.wagner_form.proofs.BuildLength.{place_growth}
+use Rattle.tree_form.proofs.Rival.{difference_laws, placement-least}
+use Rattle.tree_form.proofs.RowLengths.{Growth}
 use Rattle.rivals.specs.Accepted.{HandedIn}
 use Rattle.rivals.specs.Demand.{NoTaxonAddsLess, EachIsLeast, done, more, BuildIsLeast, one_taxon, several_taxa}
 use Rattle.rivals.proofs.Rows.{MatrixRows, rows_sized, rows_append}

@@ -10,19 +10,19 @@ use lib.ListN.{length, get_or, replicate, length-replicate, get_or-eq_default}
 use lib.Seq.{ext_get_or}
 use Rattle.lists.proofs.Filled.{get_d_replicate}
 use Rattle.lists.proofs.Over.{over-inside, over-behind}
-use Rattle.matrix.specs.NodeRows.{rows_of}
-use Rattle.matrix.specs.Shape.{matrix_size, columns, weight_at}
-use Rattle.matrix.proofs.Passing.{matrix_passes}
+use Rattle.matrix_form.specs.NodeRows.{rows_of}
+use Rattle.matrix_form.specs.Shape.{matrix_size, columns, weight_at}
+use Rattle.matrix_form.proofs.Passing.{matrix_passes}
 use Rattle.file_form.specs.Job.{Job, JobWithinLimits}
 use Rattle.file_form.specs.declared.header.Header.{Header}
-use Rattle.matrix_file.specs.Report.{ReadDone}
+use Rattle.file_form.specs.Report.{ReadDone}
 use Rattle.file_form.specs.Written.{matrix_written, weights_written, LentLists}
-use Rattle.matrix_file.specs.declared.answer.Refused.{Refused}
+use Rattle.file_form.specs.declared.answer.Refused.{Refused}
 use Rattle.std.specs.Prelude.{Result, Ok}
-use Rattle.matrix_file.proofs.Lists.ReadLists.{job_row, job_lent, job_weighed, read_accepting}
-use Rattle.difference.specs.Rows.{weighing}
-use Rattle.difference.proofs.Laws.Measure.{measure_weights}
-use Rattle.matrix.proofs.NodeRows.{length-rows_of}
+use Rattle.file_form.proofs.Lists.ReadLists.{job_row, job_lent, job_weighed, read_accepting}
+use Rattle.difference_form.specs.Rows.{weighing}
+use Rattle.difference_form.proofs.Laws.Measure.{measure_weights}
+use Rattle.matrix_form.proofs.NodeRows.{length-rows_of}
 use Rattle.rivals.specs.Accepted.{matrix_lent}
 use Rattle.rivals.specs.Demand.{NoRivalDoesBetter}
 use Rattle.rivals.proofs.Rows.{row_at}

@@ -9,18 +9,18 @@ use lib.IntN.{ℤ}
 use lib.ListN.{length, get_or}
 use lib.Seq.{take_all}
 use Rattle.std.specs.Prelude.{Ok}
-use Rattle.matrix.proofs.NodeRows.{row_of-rows_of, length-rows_of}
-use Rattle.branching.proofs.RowLengths.{OfLength}
-use Rattle.matrix.specs.NodeRows.{row_of, rows_of}
+use Rattle.matrix_form.proofs.NodeRows.{row_of-rows_of, length-rows_of}
+use Rattle.tree_form.proofs.RowLengths.{OfLength}
+use Rattle.matrix_form.specs.NodeRows.{row_of, rows_of}
 use Rattle.lists.specs.Tests.{every}
-use Rattle.matrix.specs.Shape.{row, is_weight}
-use Rattle.matrix.specs.Questions.{within_limits, all_in_range, are_weights, ask_matrix, LentMatrix}
+use Rattle.matrix_form.specs.Shape.{row, is_weight}
+use Rattle.matrix_form.specs.Questions.{within_limits, all_in_range, are_weights, ask_matrix, LentMatrix}
 use Rattle.lists.proofs.Both.{and_both}
 use Rattle.lists.proofs.Every.{every_at, every-from, every_append}
-use Rattle.matrix.proofs.Passing.{matrix_passed, weights_passed, true-one_to}
-use Rattle.matrix.proofs.Row.{row-length}
+use Rattle.matrix_form.proofs.Passing.{matrix_passed, weights_passed, true-one_to}
+use Rattle.matrix_form.proofs.Row.{row-length}
 use Rattle.file_form.specs.Job.{Job, has_codes}
-use Rattle.matrix.specs.Outcomes.{value}
+use Rattle.matrix_form.specs.Outcomes.{value}
 use Rattle.file_form.specs.Reading.{read_answer}
 use Rattle.file_form.proofs.File.FileOfRead.{file_of_read}
 use Rattle.rivals.specs.Accepted.{CodeRows, Accepted, file_read, matrix_lent}

@@ -1,13 +1,13 @@
 -- Accepted matrices, and the trees that are handed in for them.
 use Rattle.std.specs.Prelude.{◌≡◌, true, false, List, ℕ, ◌-◌, ℤ, length, Ok}
-use Rattle.matrix.specs.NodeRows.{rows_of}
+use Rattle.matrix_form.specs.NodeRows.{rows_of}
 use Rattle.lists.specs.Tests.{every}
-use Rattle.matrix.specs.Questions.{all_in_range, ask_matrix}
+use Rattle.matrix_form.specs.Questions.{all_in_range, ask_matrix}
 use Rattle.file_form.specs.Job.{Job, has_codes}
-use Rattle.matrix.specs.Outcomes.{value}
+use Rattle.matrix_form.specs.Outcomes.{value}
 use Rattle.file_form.specs.Reading.{read_answer}
-use Rattle.branching.specs.Nodes.{taxa_placed}
-use Rattle.branching.specs.Growing.{growing_tree, row_one_alone}
+use Rattle.tree_form.specs.Nodes.{taxa_placed}
+use Rattle.tree_form.specs.Growing.{growing_tree, row_one_alone}
 
 -- an accepted matrix of n taxa and m characters, by the weights of its characters and its rows: a read accepts it, or, lent, it passes the
 -- questions 12, 4, 16 and 10

@@ -1,22 +1,22 @@
 -- The claim: for an accepted matrix, no connected network of the taxa, no hanging of a taxon and no choice of inner states does better.
 use Rattle.std.specs.Prelude.{◌≡◌, true, List, [], ◌∷◌, ◌++◌, ℕ, ◌+◌, ◌≤◌, ℤ, length}
-use Rattle.matrix.specs.NodeRows.{row_of}
-use Rattle.difference.specs.Rows.{Measure, node_difference}
-use Rattle.prim.specs.Rival.{Shortest}
-use Rattle.branching.specs.declared.placement.Placement.{Placement}
-use Rattle.branching.specs.declared.branch.Branch.{Branch}
-use Rattle.branching.specs.Ancestors.{ancestor}
-use Rattle.branching.specs.Growing.{branching}
-use Rattle.branching.specs.Nodes.{Unplaced}
-use Rattle.branching.specs.Hanging.{no_branches, linked}
-use Rattle.branching.specs.Branches.{lent_branching, ancestors_of}
-use Rattle.branching.specs.RowLengths.{length_under}
-use Rattle.branching.specs.Placing.{AfterPlacing, link_first, place}
-use Rattle.branching.specs.declared.order.Order.{Order}
-use Rattle.branching.specs.declared.order.Order.TheVariants.{Closest}
-use Rattle.wagner.specs.Build.{Built, wagner}
-use Rattle.branching.specs.Rival.{hung_length, PlacementIsLeast}
-use Rattle.fitting.specs.Rival.{FitIsLeast}
+use Rattle.matrix_form.specs.NodeRows.{row_of}
+use Rattle.difference_form.specs.Rows.{Measure, node_difference}
+use Rattle.prim_form.specs.Rival.{Shortest}
+use Rattle.tree_form.specs.declared.placement.Placement.{Placement}
+use Rattle.tree_form.specs.declared.branch.Branch.{Branch}
+use Rattle.tree_form.specs.Ancestors.{ancestor}
+use Rattle.tree_form.specs.Growing.{branching}
+use Rattle.tree_form.specs.Nodes.{Unplaced}
+use Rattle.tree_form.specs.Hanging.{no_branches, linked}
+use Rattle.tree_form.specs.Branches.{lent_branching, ancestors_of}
+use Rattle.tree_form.specs.RowLengths.{length_under}
+use Rattle.tree_form.specs.Placing.{AfterPlacing, link_first, place}
+use Rattle.tree_form.specs.declared.order.Order.{Order}
+use Rattle.tree_form.specs.declared.order.Order.TheVariants.{Closest}
+use Rattle.wagner_form.specs.Build.{Built, wagner}
+use Rattle.tree_form.specs.Rival.{hung_length, PlacementIsLeast}
+use Rattle.fit_form.specs.Rival.{FitIsLeast}
 use Rattle.rivals.specs.Accepted.{HandedIn}
 
 -- what came out of a placement on a tree with rows of m codes, beside the hangings of every taxon that is not placed, on any interval and

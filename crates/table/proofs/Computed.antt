@@ -1,6 +1,6 @@
 -- The table, computed by the checker.
 use mathlib.Core.Path.{refl}
-use Rattle.listing.proofs.Computed.{computed}
+use Rattle.listing_form.proofs.Computed.{computed}
 use Rattle.table.specs.Table.{text, Table}
 
 -- all of the table holds

@@ -4,10 +4,10 @@ use Rattle.std.specs.Prelude.{◌≡◌, ℕ, ℤ, pos, negsuc, replicate}
 use mathlib.Core.List.{List, [], ◌∷◌, flat_map}
 use Prim.Native.String.{String}
 use Rattle.file_form.specs.Text.{bytes}
-use Rattle.difference.specs.Rows.{difference, median, interval_difference}
-use Rattle.fitting.specs.Sets.{join}
-use Rattle.fitting.specs.declared.spans.Span.{Span}
-use Rattle.listing.specs.Listing.{output}
+use Rattle.difference_form.specs.Rows.{difference, median, interval_difference}
+use Rattle.fit_form.specs.Sets.{join}
+use Rattle.fit_form.specs.declared.spans.Span.{Span}
+use Rattle.listing_form.specs.Listing.{output}
 
 -- the set of the states from a to b
 abbrev pub span : ℕ → ℕ → Span
@@ -84,7 +84,7 @@ listed =
     ∷ "H\t#2\t3\t0\t1\t1\n"
     ∷ []
 
--- the table
+-- the worked examples of document 01 that are proved together
 pub record Table : Type 0 where
   pub median : median (negsuc 0) (pos 2) (pos 0) ≡ pos 0
   pub apart_sets : join (span 0 1) (span 2 2) ≡ span 1 2

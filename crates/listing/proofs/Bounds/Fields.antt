@@ -10,16 +10,16 @@ use lib.IntN.{ℤ, pos, negsuc}
 use lib.ListN.{length, get_or}
 use borrow.Author.Tests.{leb-true}
 use Rattle.lists.proofs.Every.{every_at}
-use Rattle.matrix.specs.Shape.{in_range}
+use Rattle.matrix_form.specs.Shape.{in_range}
 use Rattle.file_form.specs.Decimal.{digits_of, decimal}
 use Rattle.file_form.specs.Job.{Job, JobWithinLimits, name_form}
 use Rattle.file_form.specs.Text.{bytes}
 use Rattle.file_form.proofs.Decimal.Digits.{digits_length}
-use Rattle.lines.specs.Lines.{hyphen, htu_name, node_name}
-use Rattle.lines.specs.Kinds.{mark}
+use Rattle.listing_form.specs.Lines.{hyphen, htu_name, node_name}
+use Rattle.listing_form.specs.Kinds.{mark}
 use Rattle.lines.proofs.Fields.{node_taxon, node_htu}
 use Rattle.listing.proofs.Unpadded.{name_short}
-use Rattle.listing.proofs.Totals.{limits}
+use Rattle.listing_form.proofs.Totals.{limits}
 
 -- a number below a thousand million has at most 9 digits
 pub number_size : (n : ℕ) → n < 1000000000 → length (digits_of n) ≤ 9

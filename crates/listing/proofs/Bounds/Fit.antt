@@ -11,23 +11,23 @@ use Rattle.lists.specs.Numbers.{numbers}
 use Rattle.lists.proofs.Every.{every-head, every-tail}
 use Rattle.lists.proofs.Numbers.{length-numbers}
 use Rattle.lists.proofs.Sums.{sum_most}
-use Rattle.matrix.specs.Shape.{in_range, weight_of}
-use Rattle.matrix.specs.Questions.{all_in_range}
+use Rattle.matrix_form.specs.Shape.{in_range, weight_of}
+use Rattle.matrix_form.specs.Questions.{all_in_range}
 use Rattle.file_form.specs.Job.{Job, JobWithinLimits}
-use Rattle.difference.specs.Rows.{most_difference, part}
-use Rattle.difference.proofs.Laws.Weights.{part-in_range}
-use Rattle.branching.specs.Ancestors.{ancestor}
-use Rattle.branching.specs.Facts.{Branching, Grown}
-use Rattle.branching.proofs.Test.{branching_iff}
-use Rattle.branching.proofs.Whole.{branching_nodes, branching-grown, growing_ancestor_le}
-use Rattle.fitting.specs.Assignments.{character, branch_length}
-use Rattle.fitting.specs.Fit.{chosen_state, range, fitted_length, fitted_total}
-use Rattle.fitting.proofs.Matrix.OnlyCodes.{Each, chosen_state-each, range-each}
-use Rattle.consistency.specs.Floor.{floor}
-use Rattle.consistency.proofs.NeverPasses.{floor-fitted}
-use Rattle.listing.specs.Meant.{measure_meant}
-use Rattle.listing.proofs.Totals.{Limits, limits}
-use Rattle.listing.proofs.Bounds.Rows.{near_job, first-known, weight_known}
+use Rattle.difference_form.specs.Rows.{most_difference, part}
+use Rattle.difference_form.proofs.Laws.Weights.{part-in_range}
+use Rattle.tree_form.specs.Ancestors.{ancestor}
+use Rattle.tree_form.specs.Facts.{Branching, Grown}
+use Rattle.tree_form.proofs.Test.{branching_iff}
+use Rattle.tree_form.proofs.Whole.{branching_nodes, branching-grown, growing_ancestor_le}
+use Rattle.fit_form.specs.Assignments.{character, branch_length}
+use Rattle.fit_form.specs.Fit.{chosen_state, range, fitted_length, fitted_total}
+use Rattle.fit_passes.proofs.Matrix.OnlyCodes.{Each, chosen_state-each, range-each}
+use Rattle.consistency_form.specs.Floor.{floor}
+use Rattle.consistency_form.proofs.NeverPasses.{floor-fitted}
+use Rattle.listing_form.specs.Meant.{measure_meant}
+use Rattle.listing_form.proofs.Totals.{Limits, limits}
+use Rattle.listing_form.proofs.Bounds.Rows.{near_job, first-known, weight_known}
 
 -- a code from -999 to 999
 abbrev pub IsNear : ℤ → Type 0

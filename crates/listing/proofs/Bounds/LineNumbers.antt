@@ -6,24 +6,24 @@ use Prim.Native.Nat.{ℕ, zero, suc, ◌+◌, ◌≤◌}
 use native.Mathlib.Nat.{add-zero}
 use native.Mathlib.Omega.{arith}
 use lib.ListN.{drop}
-use Rattle.matrix.specs.Outcomes.{ask, Outcome, value, refused, on_line, then_with}
-use Rattle.matrix.specs.Questions.{within_limits}
-use Rattle.matrix.specs.declared.refusal.Refusal.TheVariants.{FirstLine, UnknownOrder, BeyondLimits, FileGoesOn, BranchForm}
-use Rattle.matrix.specs.Outcomes.{Asked}
+use Rattle.matrix_form.specs.Outcomes.{ask, Outcome, value, refused, on_line, then_with}
+use Rattle.matrix_form.specs.Questions.{within_limits}
+use Rattle.matrix_form.specs.declared.refusal.Refusal.TheVariants.{FirstLine, UnknownOrder, BeyondLimits, FileGoesOn, BranchForm}
+use Rattle.matrix_form.specs.Outcomes.{Asked}
 use Rattle.std.specs.Prelude.{Ok, Err}
 use Rattle.file_form.specs.declared.header.Header.{Header}
 use Rattle.file_form.specs.Lines.{lines_of, fields_of}
 use Rattle.file_form.specs.Header.{header_in, row_line, behind_header, first_line_form, first_fields, order_known, ask_first_line, ask_weights}
 use Rattle.file_form.specs.Header.{ask_header}
-use Rattle.matrix.proofs.Passing.{ask_passed}
-use Rattle.matrix_file.proofs.File.OptionalWalk.{taken_most}
+use Rattle.matrix_form.proofs.Passing.{ask_passed}
+use Rattle.file_header.proofs.OptionalWalk.{taken_most}
 use Rattle.file_form.specs.Rows.{name_in, ask_row, ask_rows}
 use Rattle.file_form.specs.Job.{Job}
 use Rattle.matrix_file.specs.Walk.{behind_rows_most}
 use Rattle.file_form.specs.Branches.{branch_count, branch_form, ask_branches, ask_tree}
 use Rattle.file_form.specs.Reading.{job_of, nothing_more, ask_end, ask_after, ask_behind, ask_file, ask_length, read_answer}
 use Rattle.file_form.proofs.File.FileLength.{count_most}
-use Rattle.listing.proofs.Totals.{Limits, limits}
+use Rattle.listing_form.proofs.Totals.{Limits, limits}
 
 -- the highest line that a refusal gives
 abbrev pub most_lines : ℕ

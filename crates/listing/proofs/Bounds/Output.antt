@@ -5,18 +5,18 @@ use Prim.Native.Nat.{ℕ, ◌≤◌}
 use native.Mathlib.Omega.{arith}
 use lib.ListN.{length}
 use Rattle.file_form.specs.Decimal.{digits_of}
-use Rattle.matrix.specs.Outcomes.{Outcome, value, refused}
+use Rattle.matrix_form.specs.Outcomes.{Outcome, value, refused}
 use Rattle.file_form.specs.Job.{Job}
 use Rattle.file_form.specs.Reading.{read_answer}
 use Rattle.file_form.proofs.File.Numbered.{highest_number, refused_bounds}
 use Rattle.file_form.specs.Text.{bytes}
 use Rattle.file_form.proofs.File.Accepted.{accepted_exactly}
-use Rattle.lines.specs.Lines.{joined}
-use Rattle.lines.specs.Kinds.{refusal_line}
-use Rattle.listing.specs.Listing.{printed, listing_of, output}
-use Rattle.listing.specs.Call.{output_size}
-use Rattle.listing.proofs.Joined.{joined-one}
-use Rattle.listing.proofs.LineSizes.{sizes, line-size}
+use Rattle.listing_form.specs.Lines.{joined}
+use Rattle.listing_form.specs.Kinds.{refusal_line}
+use Rattle.listing_form.specs.Listing.{printed, listing_of, output}
+use Rattle.listing_form.specs.Call.{output_size}
+use Rattle.listing_form.proofs.Joined.{joined-one}
+use Rattle.listing_form.proofs.LineSizes.{sizes, line-size}
 use Rattle.listing.proofs.Bounds.Fields.{number_size}
 use Rattle.listing.proofs.Bounds.LineNumbers.{most_lines, LineWithin, none, some, file-line}
 use Rattle.listing.proofs.Bounds.Room.{job_room}

@@ -11,38 +11,38 @@ use lib.ListN.{length, length-append}
 use Rattle.lists.specs.Numbers.{numbers}
 use Rattle.lists.proofs.Numbers.{numbers-within, length-numbers}
 use Rattle.lists.proofs.Sums.{sum_most}
-use Rattle.matrix.specs.NodeRows.{row_of}
+use Rattle.matrix_form.specs.NodeRows.{row_of}
 use Rattle.file_form.specs.Decimal.{digits_of, decimal}
 use Rattle.file_form.specs.Job.{Job, JobWithinLimits}
 use Rattle.file_form.specs.Text.{bytes}
 use Rattle.file_form.specs.Branches.{branched}
 use Rattle.file_form.specs.declared.header.Kind.{Kind}
 use Rattle.file_form.specs.declared.header.Kind.TheVariants.{Wagner, Own}
-use Rattle.difference.specs.Rows.{most_difference, node_difference}
-use Rattle.prim.specs.Network.{Link, network_length}
-use Rattle.prim.proofs.Connected.{network-between, network_total_le}
-use Rattle.prim.proofs.Placing.{network-link, network-length}
-use Rattle.branching.specs.declared.placement.Placement.{Placement}
-use Rattle.branching.specs.Ancestors.{ancestor, tree_with}
-use Rattle.branching.specs.Facts.{Branching}
-use Rattle.branching.specs.Growing.{branching}
-use Rattle.branching.proofs.Test.{branching_iff}
-use Rattle.branching.proofs.Whole.{growing_ancestor_le}
-use Rattle.branching.specs.Nodes.{other_nodes}
-use Rattle.wagner.specs.Build.{wagner_length}
-use Rattle.wagner.proofs.Whole.{wagner-branching}
-use Rattle.fitting.specs.Fit.{chosen_state, range, fitted_length, fitted_total, marked}
-use Rattle.consistency.specs.Index.{thousand, index}
-use Rattle.consistency.proofs.Division.{thousandths_most}
-use Rattle.lines.specs.Lines.{hyphen, node_name, joined}
-use Rattle.lines.specs.Kinds.{mark, total_line, index_line, prim_line, wagner_line, branch_line, state_line}
-use Rattle.listing.specs.Meant.{order_meant, measure_meant}
-use Rattle.listing.specs.Blocks.{fitted_line, fitted_lines, range_line, range_lines}
-use Rattle.listing.specs.Listing.{listing}
-use Rattle.listing.specs.Call.{output_size}
-use Rattle.listing.proofs.Joined.{joined-map, joined-each, texts_room}
-use Rattle.listing.proofs.LineSizes.{sizes, line-size}
-use Rattle.listing.proofs.Parts.{
+use Rattle.difference_form.specs.Rows.{most_difference, node_difference}
+use Rattle.prim_form.specs.Network.{Link, network_length}
+use Rattle.prim_form.proofs.Connected.{network-between, network_total_le}
+use Rattle.prim_form.proofs.Placing.{network-link, network-length}
+use Rattle.tree_form.specs.declared.placement.Placement.{Placement}
+use Rattle.tree_form.specs.Ancestors.{ancestor, tree_with}
+use Rattle.tree_form.specs.Facts.{Branching}
+use Rattle.tree_form.specs.Growing.{branching}
+use Rattle.tree_form.proofs.Test.{branching_iff}
+use Rattle.tree_form.proofs.Whole.{growing_ancestor_le}
+use Rattle.tree_form.specs.Nodes.{other_nodes}
+use Rattle.wagner_form.specs.Build.{wagner_length}
+use Rattle.wagner_form.proofs.Whole.{wagner-branching}
+use Rattle.fit_form.specs.Fit.{chosen_state, range, fitted_length, fitted_total, marked}
+use Rattle.consistency_form.specs.Index.{thousand, index}
+use Rattle.consistency_form.proofs.Division.{thousandths_most}
+use Rattle.listing_form.specs.Lines.{hyphen, node_name, joined}
+use Rattle.listing_form.specs.Kinds.{mark, total_line, index_line, prim_line, wagner_line, branch_line, state_line}
+use Rattle.listing_form.specs.Meant.{order_meant, measure_meant}
+use Rattle.listing_form.specs.Blocks.{fitted_line, fitted_lines, range_line, range_lines}
+use Rattle.listing_form.specs.Listing.{listing}
+use Rattle.listing_form.specs.Call.{output_size}
+use Rattle.listing_form.proofs.Joined.{joined-map, joined-each, texts_room}
+use Rattle.listing_form.proofs.LineSizes.{sizes, line-size}
+use Rattle.listing_form.proofs.Parts.{
   links_of,
   built_of,
   prim_lines,
@@ -58,9 +58,9 @@ use Rattle.listing.proofs.Parts.{
   own-text,
   wagner-count,
 }
-use Rattle.listing.proofs.Totals.{Limits, limits, wagner-total, tree-total}
-use Rattle.listing.proofs.Bounds.Rows.{near_job, node_apart}
-use Rattle.listing.proofs.Bounds.Build.{SmallBuilt, wagner-small}
+use Rattle.listing_form.proofs.Totals.{Limits, limits, wagner-total, tree-total}
+use Rattle.listing_form.proofs.Bounds.Rows.{near_job, node_apart}
+use Rattle.listing_form.proofs.Bounds.Build.{SmallBuilt, wagner-small}
 use Rattle.listing.proofs.Bounds.Fields.{number_size, code-size, mark-size, hyphen-size, node_size}
 use Rattle.listing.proofs.Bounds.Fit.{state_near, range_near, fitted-apart, floor-below}
 

@@ -1,6 +1,6 @@
 -- What the check leaves of `listing::blocks::put_block`.
 use Rattle.lines.proofs.Puts.{left_start, left_end, left_put, left_same, put_then}
-use Rattle.listing.proofs.InTurn.{next_item, none_left}
+use Rattle.listing_form.proofs.InTurn.{next_item, none_left}
 use Rattle.listing.proofs.blocks.put_block.Goals as goal
 
 pub loop-thing-init : goal.loop-thing-init

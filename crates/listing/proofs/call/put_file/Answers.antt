@@ -2,8 +2,8 @@
 use borrow.Author.Rules.{rules}
 use mathlib.Core.Path.{◌≡◌}
 use lib.ListN.{length}
-use Rattle.matrix.specs.Shape.{matrix_size}
-use Rattle.branching.specs.LentNumbers.{lent_numbers}
+use Rattle.matrix_form.specs.Shape.{matrix_size}
+use Rattle.tree_form.specs.LentNumbers.{lent_numbers}
 use Rattle.file_form.specs.Written.{names_size}
 use Rattle.lines.proofs.Puts.{put_same}
 use Rattle.listing.proofs.ReadListed.{refused-printed, accepted_lent, accepted_weighed, accepted_branching, accepted_printed}

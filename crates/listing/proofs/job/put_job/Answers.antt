@@ -1,7 +1,7 @@
 -- `listing::job::put_job` meets its contract: what is put for what was found is the listing, for each kind of file. Assumes nothing.
 use mathlib.Core.Path.{◌∙◌, ap}
-use Rattle.branching.specs.Branches.{lent_branching}
-use Rattle.branching.specs.Within.{branching_within}
+use Rattle.tree_form.specs.Branches.{lent_branching}
+use Rattle.tree_form.specs.Within.{branching_within}
 use Rattle.fitting.proofs.Passed.{places-branching}
 use Rattle.listing.specs.Found.{lists_of}
 use Rattle.listing.proofs.PutJobs.{built_put, own_put}

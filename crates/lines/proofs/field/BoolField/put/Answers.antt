@@ -1,7 +1,7 @@
 -- A mark is put by its byte. Assumes nothing.
 use mathlib.Core.Path.{sym, ap}
 use Rattle.file_form.specs.Text.{bytes}
-use Rattle.lines.specs.Kinds.{mark}
+use Rattle.listing_form.specs.Kinds.{mark}
 use Rattle.lines.proofs.Puts.{put_same}
 use Rattle.lines.proofs.field.BoolField.put.Goals as goal
 

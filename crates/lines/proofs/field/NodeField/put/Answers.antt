@@ -2,7 +2,7 @@
 use mathlib.Core.Path.{sym, ap, ◌∙◌}
 use Rattle.file_form.specs.Bytes.{first_part}
 use Rattle.file_form.specs.Text.{bytes}
-use Rattle.lines.specs.Lines.{htu_name}
+use Rattle.listing_form.specs.Lines.{htu_name}
 use Rattle.lines.specs.Fields.{node_text}
 use Rattle.lines.proofs.Puts.{put_then, put_same}
 use Rattle.lines.proofs.Fields.{node_none, node_lent, node_htu}

@@ -1,9 +1,9 @@
 -- `lines::put::Listing::put_branch_line` meets its contract. Assumes nothing.
 use mathlib.Core.Path.{sym}
 use Rattle.file_form.specs.Text.{bytes}
-use Rattle.lines.specs.Kinds.{branch_line}
+use Rattle.listing_form.specs.Kinds.{branch_line}
 use Rattle.lines.proofs.Puts.{put_then, put_same, put_said}
-use Rattle.lines.proofs.LineFields.{behind, line_fields}
+use Rattle.listing_form.proofs.LineFields.{behind, line_fields}
 use Rattle.lines.proofs.put.Listing.put_branch_line.Goals as goal
 
 pub returns : goal.returns

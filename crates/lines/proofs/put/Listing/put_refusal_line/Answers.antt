@@ -2,9 +2,9 @@
 use mathlib.Core.Path.{sym, ap, ◌∙◌}
 use Prim.Native.Nat.{ℕ}
 use Rattle.file_form.specs.Text.{bytes}
-use Rattle.lines.specs.Kinds.{refusal_line}
+use Rattle.listing_form.specs.Kinds.{refusal_line}
 use Rattle.lines.proofs.Puts.{put_then, put_same}
-use Rattle.lines.proofs.LineFields.{behind, line_fields}
+use Rattle.listing_form.proofs.LineFields.{behind, line_fields}
 use Rattle.lines.proofs.put.Listing.put_refusal_line.Goals as goal
 
 pub returns : goal.returns

@@ -4,10 +4,10 @@ use mathlib.Core.Path.{sym}
 use mir.Syntax.{w32}
 use mir.Val.{SFits}
 use Rattle.file_form.specs.Text.{bytes}
-use Rattle.lines.specs.Kinds.{state_line}
+use Rattle.listing_form.specs.Kinds.{state_line}
 use Rattle.lines.proofs.Puts.{put_then, put_same, put_said}
 use Rattle.lines.proofs.Fields.{same_code}
-use Rattle.lines.proofs.LineFields.{behind, line_fields}
+use Rattle.listing_form.proofs.LineFields.{behind, line_fields}
 use Rattle.lines.proofs.put.Listing.put_state_line.Goals as goal
 
 pub returns : goal.returns

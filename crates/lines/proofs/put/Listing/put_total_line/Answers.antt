@@ -1,8 +1,8 @@
 -- `lines::put::Listing::put_total_line` meets its contract. Assumes nothing.
 use mathlib.Core.Path.{sym}
-use Rattle.lines.specs.Kinds.{total_text}
+use Rattle.lines.specs.Fields.{total_text}
 use Rattle.lines.proofs.Puts.{put_then, put_same}
-use Rattle.lines.proofs.LineFields.{behind, line_fields}
+use Rattle.listing_form.proofs.LineFields.{behind, line_fields}
 use Rattle.lines.proofs.put.Listing.put_total_line.Goals as goal
 
 pub returns : goal.returns

@@ -1,14 +1,15 @@
 -- What the check leaves of `listing::blocks::Legend::put_fitted_block`.
 use mathlib.Core.Path.{ap}
 use native.Mathlib.Omega.{arith}
-use Rattle.fitting.specs.Calls.{branch_at}
+use Rattle.fit_form.specs.Calls.{branch_at}
 use Rattle.file_form.specs.Text.{bytes}
-use Rattle.lines.specs.Kinds.{branch_line, total_line, total_text}
+use Rattle.listing_form.specs.Kinds.{branch_line, total_line}
+use Rattle.lines.specs.Fields.{total_text}
 use Rattle.lines.specs.Fields.{names_of}
 use Rattle.lines.proofs.Puts.{left_start, left_end, left_put, left_same, put_then, put_same}
 use Rattle.listing.specs.Handed.{branch_text_at, fitted_texts}
 use Rattle.listing.proofs.BlockTexts.{branches_from_two}
-use Rattle.listing.proofs.InTurn.{next_of, none_of}
+use Rattle.listing_form.proofs.InTurn.{next_of, none_of}
 use Rattle.listing.proofs.blocks.Legend.put_fitted_block.Goals as goal
 
 pub loop-v-init : goal.loop-v-init

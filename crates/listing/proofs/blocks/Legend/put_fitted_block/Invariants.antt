@@ -3,7 +3,7 @@
 use mathlib.Core.List.{flat_map}
 use Prim.Native.Nat.{◌-◌, ◌≤◌}
 use Rattle.lists.specs.Numbers.{numbers}
-use Rattle.branching.specs.Ancestors.{ancestors}
+use Rattle.branching.specs.Views.{ancestors}
 use Rattle.lines.specs.Fields.{names_of}
 use Rattle.lines.proofs.Puts.{Left}
 use Rattle.listing.specs.Handed.{branch_text_at, branch_texts}

@@ -1,12 +1,12 @@
 -- What the check leaves of `listing::blocks::Legend::put_node_lines`.
 use mathlib.Core.Path.{ap}
-use Rattle.fitting.specs.declared.characters.States.{States}
-use Rattle.lines.specs.Kinds.{state_line}
+use Rattle.fit_form.specs.declared.characters.States.{States}
+use Rattle.listing_form.specs.Kinds.{state_line}
 use Rattle.lines.specs.Fields.{names_of}
 use Rattle.lines.proofs.Puts.{left_start, left_end, left_put, left_same, put_same}
 use Rattle.listing.specs.Handed.{state_text_at}
 use Rattle.listing.proofs.BlockTexts.{states_from-one}
-use Rattle.listing.proofs.InTurn.{next_of, none_of}
+use Rattle.listing_form.proofs.InTurn.{next_of, none_of}
 use Rattle.listing.proofs.blocks.Legend.put_node_lines.Goals as goal
 
 pub loop-j-init : goal.loop-j-init

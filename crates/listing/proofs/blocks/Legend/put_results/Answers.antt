@@ -1,7 +1,8 @@
 -- `listing::blocks::Legend::put_results` meets its contract: block after block. Assumes nothing.
 use borrow.Author.Rules.{rules}
 use Rattle.file_form.specs.Text.{bytes}
-use Rattle.lines.specs.Kinds.{prim_line, wagner_line, total_line, total_text}
+use Rattle.listing_form.specs.Kinds.{prim_line, wagner_line, total_line}
+use Rattle.lines.specs.Fields.{total_text}
 use Rattle.lines.specs.Fields.{names_of}
 use Rattle.lines.proofs.Puts.{put_then}
 use Rattle.listing.specs.Handed.{prim_texts, wagner_texts}

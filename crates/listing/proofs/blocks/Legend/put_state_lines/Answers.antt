@@ -2,7 +2,7 @@
 use Rattle.lines.proofs.Puts.{left_start, left_end, left_put, left_same}
 use Rattle.listing.specs.Handed.{node_texts}
 use Rattle.listing.proofs.BlockTexts.{states_from-htu}
-use Rattle.listing.proofs.InTurn.{next_of, none_of}
+use Rattle.listing_form.proofs.InTurn.{next_of, none_of}
 use Rattle.listing.proofs.blocks.Legend.put_state_lines.Goals as goal
 
 pub loop-v-init : goal.loop-v-init
