@@ -7,30 +7,33 @@ use native.Mathlib.Omega.{arith}
 use lib.IntN.{ℤ}
 use lib.ListN.{length}
 use Rattle.std.specs.Prelude.{Ok}
-use Rattle.matrix.specs.NodeRows.{rows_of}
-use Rattle.matrix.specs.Outcomes.{value}
-use Rattle.matrix.specs.Questions.{ask_matrix}
-use Rattle.matrix.proofs.Passing.{matrix_passes}
-use Rattle.difference.specs.Rows.{weighing}
-use Rattle.branching.specs.Ancestors.{ancestors, ancestor}
-use Rattle.branching.proofs.Test.{branching_iff}
-use Rattle.branching.proofs.Within.{branching-plain}
-use Rattle.branching.proofs.Walks.{branching-rooted}
+use Rattle.matrix_form.specs.NodeRows.{rows_of}
+use Rattle.matrix_form.specs.Outcomes.{value}
+use Rattle.matrix_form.specs.Questions.{ask_matrix}
+use Rattle.matrix_form.proofs.Passing.{matrix_passes}
+use Rattle.difference_form.specs.Rows.{weighing}
+use Rattle.tree_form.specs.Ancestors.{ancestor}
+use Rattle.branching.specs.Views.{ancestors}
+use Rattle.tree_form.proofs.Test.{branching_iff}
+use Rattle.tree_form.proofs.Within.{branching-plain}
+use Rattle.tree_walk.proofs.Walks.{branching-rooted}
 use Rattle.wagner.specs.declared.answer.WagnerTree.{WagnerTree}
-use Rattle.branching.specs.declared.order.Order.{Order}
-use Rattle.wagner.specs.Answers.{wagner_in, BuiltFrom}
+use Rattle.tree_form.specs.declared.order.Order.{Order}
+use Rattle.wagner.specs.Answers.{BuiltFrom}
+use Rattle.wagner_form.specs.Matrix.{wagner_in}
 use Rattle.wagner.proofs.Lengths.{ours-branching}
 use Rattle.wagner.proofs.StillLent.{still_lent, same-taxa}
-use Rattle.fitting.specs.Calls.{Low, High, Chosen, states_written, lists_full, FitOf, TreeFitted}
-use Rattle.fitting.specs.declared.whole.Fit.{Fit}
+use Rattle.fit_form.specs.Calls.{Low, High, Chosen, states_written, lists_full, FitOf}
+use Rattle.fitting.specs.Lists.{TreeFitted}
+use Rattle.fit_form.specs.declared.whole.Fit.{Fit}
 use Rattle.fitting.proofs.Shapes.{sizes}
 use Rattle.fitting.proofs.Handed.{handed_back_lem}
-use Rattle.fitting.proofs.Matrix.ThirdRival.{third_rival}
-use Rattle.fitting.proofs.Pass.Standing.{last_several}
-use Rattle.exports.specs.Answers.{measured}
-use Rattle.exports.specs.Orders.{order_numbered, ask_order, ask_fit_order}
-use Rattle.exports.specs.Calls.{ask_wagner_fit, FitExported}
-use Rattle.exports.specs.declared.answers.Measured.{Measured}
+use Rattle.fit_form.proofs.Matrix.ThirdRival.{third_rival}
+use Rattle.fit_passes.proofs.Pass.Standing.{last_several}
+use Rattle.export_form.specs.Answers.{measured}
+use Rattle.export_form.specs.Orders.{order_numbered, ask_order, ask_fit_order}
+use Rattle.export_form.specs.Calls.{ask_wagner_fit, FitExported}
+use Rattle.export_form.specs.declared.answers.Measured.{Measured}
 
 -- the Wagner tree of a matrix that no question refuses, fitted into three lists of full size
 module _ (order : Order) (codes : List ℤ) (weights : List ℕ) (n m : ℕ) (low high chosen : List ℤ)

@@ -1,7 +1,3 @@
--- What is proved about the exported calls: what they hand back is what the calls below them answer.
-pub mod IndexSaid
+-- Laws for the proofs of the exported calls.
 pub mod OwnIndexed
-pub mod Listed
-pub mod OrderNumbers
 pub mod Fitted
-pub mod Zero

@@ -5,31 +5,31 @@ use Prim.Native.Nat.{ℕ}
 use borrow.Author.Tests.{eq-eqb}
 use lib.ListN.{length}
 use Rattle.std.specs.Prelude.{Result, Ok}
-use Rattle.matrix.specs.Outcomes.{value}
-use Rattle.matrix.specs.Questions.{ask_matrix}
-use Rattle.matrix.proofs.Passing.{matrix_passes}
+use Rattle.matrix_form.specs.Outcomes.{value}
+use Rattle.matrix_form.specs.Questions.{ask_matrix}
+use Rattle.matrix_form.proofs.Passing.{matrix_passes}
 use Rattle.file_form.specs.Job.{Job}
 use Rattle.file_form.specs.Reading.{read_answer}
-use Rattle.matrix_file.specs.Report.{ReadDone}
+use Rattle.file_form.specs.Report.{ReadDone}
 use Rattle.file_form.specs.Written.{LentLists, job_written}
 use Rattle.file_form.specs.declared.header.Header.{Header}
 use Rattle.file_form.specs.declared.header.Kind.TheVariants.{Own}
-use Rattle.matrix_file.specs.declared.answer.Refused.{Refused}
-use Rattle.matrix_file.proofs.Lists.ReadLists.{job_lent, job_weighed, read_accepting}
-use Rattle.difference.specs.Rows.{weighing}
-use Rattle.branching.specs.Ancestors.{tree_with}
-use Rattle.branching.specs.Asking.{ask_branching}
-use Rattle.branching.specs.LentNumbers.{lent_numbers}
-use Rattle.branching.proofs.LentNumbers.{length-records_in, length-records_written}
-use Rattle.fitting.specs.Fit.{fitted_total}
-use Rattle.consistency.specs.Floor.{floor}
-use Rattle.consistency.specs.Index.{index}
-use Rattle.consistency.specs.Calls.{index_answer}
+use Rattle.file_form.specs.declared.answer.Refused.{Refused}
+use Rattle.file_form.proofs.Lists.ReadLists.{job_lent, job_weighed, read_accepting}
+use Rattle.difference_form.specs.Rows.{weighing}
+use Rattle.tree_form.specs.Ancestors.{tree_with}
+use Rattle.tree_form.specs.Asking.{ask_branching}
+use Rattle.tree_form.specs.LentNumbers.{lent_numbers}
+use Rattle.tree_form.proofs.LentNumbers.{length-records_in, length-records_written}
+use Rattle.fit_form.specs.Fit.{fitted_total}
+use Rattle.consistency_form.specs.Floor.{floor}
+use Rattle.consistency_form.specs.Index.{index}
+use Rattle.consistency_form.specs.Calls.{index_answer}
 use Rattle.rivals.proofs.Own.{own-lent}
 use Rattle.rivals.proofs.Reading.{read_rows}
-use Rattle.exports.specs.Answers.{indexed}
-use Rattle.exports.specs.Calls.{index_exported}
-use Rattle.exports.specs.declared.answers.Indexed.{Indexed}
+use Rattle.export_form.specs.Answers.{indexed}
+use Rattle.export_form.specs.Calls.{index_exported}
+use Rattle.export_form.specs.declared.answers.Indexed.{Indexed}
 
 -- the index of a job's rows on its own branching, by lent weights
 abbrev own_index : List ℕ → Job → Indexed

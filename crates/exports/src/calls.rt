@@ -1,24 +1,25 @@
 // The calls that `exports_c` exports.
 // Kept: interface, C hands over each list and number by itself (matrix, weights, n and m, the three lists of states) and an order as a number, and `wagner_list` answers 0 where it refuses.
 ghost use Rattle.std.specs.Prelude.{◌≡◌};
-ghost use Rattle.matrix.specs.Outcomes.{result_says};
+ghost use Rattle.matrix_form.specs.Outcomes.{result_says};
 ghost use Rattle.file_form.specs.Written.{lent};
-ghost use Rattle.exports.specs.Orders.{order_numbered};
-ghost use Rattle.exports.specs.Answers.{measured, indexed};
-ghost use Rattle.exports.specs.Calls.{ListExported, ReadExported, network_exported, ask_build, BuildExported};
-ghost use Rattle.exports.specs.Calls.{ask_wagner_fit, FitExported, floor_exported, index_exported};
+ghost use Rattle.export_form.specs.Orders.{order_numbered};
+ghost use Rattle.export_form.specs.Answers.{measured, indexed};
+ghost use Rattle.export_form.specs.Calls.{ListExported, ReadExported, network_exported, ask_build, BuildExported};
+ghost use Rattle.export_form.specs.Calls.{ask_wagner_fit, FitExported, floor_exported, index_exported};
 
-use crate::answers::{FileRead, Indexed, Measured};
+use crate::answers::{file_read, indexed, measured};
 use crate::orders::order_asked;
-use branching::numbers::{LENT_NUMBERS, records_in};
 use consistency::calls::{floor, index};
-use consistency::index::Index;
+use consistency_form::index::Index;
+use export_form::answers::{FileRead, Indexed, Measured};
 use fitting::whole::{fit_tree, lists_full};
 use listing::call::list;
 use matrix::lent::Lent;
-use matrix::refusal::Refusal;
 use matrix_file::reading::read;
+use matrix_form::refusal::Refusal;
 use prim::network::network;
+use tree_records::numbers::{LENT_NUMBERS, records_in};
 use wagner::build::build;
 
 // Writes the listing of a file's bytes, or the line of its refusal, into the front of lent bytes, and answers how many bytes that are: 0 if
@@ -42,11 +43,11 @@ pub fn wagner_read(
         (lent matrix.old weights.old names.old branches.old)
         (lent matrix.new weights.new names.new branches.new) result }
 {
-    read(file, matrix, weights, names, branches).into()
+    file_read(read(file, matrix, weights, names, branches))
 }
 
 // The length of the Prim Network of a lent matrix, by the weights of its characters.
-#[tactic(auto, unfolding(crate::specs::Calls::network_exported))]
+#[tactic(auto, unfolding(export_form::specs::Calls::network_exported))]
 pub fn wagner_network(matrix: &[i32], weights: &[u8], n: usize, m: usize) -> Measured
     ensures { result ≡ network_exported matrix.now weights.now n m }
 {
@@ -56,12 +57,12 @@ pub fn wagner_network(matrix: &[i32], weights: &[u8], n: usize, m: usize) -> Mea
         n,
         m,
     };
-    network(&lent).map(|links| links.total).into()
+    measured(network(&lent).map(|links| links.total))
 }
 
 // The length of the Wagner tree of a lent matrix, in the order of placing with a number, and the codes of its HTUs in their rows.
 // Kept: no plainer, it takes what the call of C below is handed, which hands it on whole.
-#[tactic(auto, unfolding(crate::specs::Calls::ask_build))]
+#[tactic(auto, unfolding(export_form::specs::Calls::ask_build))]
 fn built_length(
     matrix: &mut [i32],
     weights: &[u8],
@@ -83,13 +84,13 @@ pub fn wagner_build(matrix: &mut [i32], weights: &[u8], n: usize, m: usize, orde
     ensures { BuildExported (order_numbered order) (ask_build matrix.old weights.now n m order)
         matrix.old matrix.new weights.now n m result }
 {
-    built_length(matrix, weights, n, m, order).into()
+    measured(built_length(matrix, weights, n, m, order))
 }
 
 // The fitted total of the Wagner tree of a lent matrix, in the order of placing with a number, with the codes of the HTUs in their rows and
 // their states in three lists.
 // Kept: no plainer, it takes what the call of C below is handed, which hands it on whole.
-#[tactic(auto, unfolding(crate::specs::Calls::ask_wagner_fit, crate::specs::Orders::ask_fit_order))]
+#[tactic(auto, unfolding(export_form::specs::Calls::ask_wagner_fit, export_form::specs::Orders::ask_fit_order))]
 fn fitted_total(
     matrix: &mut [i32],
     weights: &[u8],
@@ -138,11 +139,11 @@ pub fn wagner_fit(
         matrix.old matrix.new weights.now n m
         low.old low.new high.old high.new chosen.old chosen.new result }
 {
-    fitted_total(matrix, weights, n, m, order, low, high, chosen).into()
+    measured(fitted_total(matrix, weights, n, m, order, low, high, chosen))
 }
 
 // The floor of a lent matrix, by the weights of its characters.
-#[tactic(auto, unfolding(crate::specs::Calls::floor_exported))]
+#[tactic(auto, unfolding(export_form::specs::Calls::floor_exported))]
 pub fn wagner_floor(matrix: &[i32], weights: &[u8], n: usize, m: usize) -> Measured
     ensures { result ≡ floor_exported matrix.now weights.now n m }
 {
@@ -152,11 +153,11 @@ pub fn wagner_floor(matrix: &[i32], weights: &[u8], n: usize, m: usize) -> Measu
         n,
         m,
     };
-    floor(&lent).into()
+    measured(floor(&lent))
 }
 
 // The index of a branching that is lent as 375 numbers.
-#[tactic(auto, unfolding(crate::specs::Calls::index_exported))]
+#[tactic(auto, unfolding(export_form::specs::Calls::index_exported))]
 fn lent_index(lent: &Lent, branches: &[usize]) -> Result<Option<Index>, Refusal>
     ensures { indexed (result_says result) ≡ index_exported lent.now.matrix.now lent.now.weights.now lent.now.n lent.now.m branches.now }
 {
@@ -183,5 +184,5 @@ pub fn wagner_index(
         n,
         m,
     };
-    lent_index(&lent, branches).into()
+    indexed(lent_index(&lent, branches))
 }

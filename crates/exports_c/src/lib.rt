@@ -4,11 +4,11 @@
 
 ghost use Rattle.std.specs.Prelude.{◌≡◌};
 ghost use Rattle.file_form.specs.Written.{lent};
-ghost use Rattle.exports.specs.Orders.{order_numbered};
-ghost use Rattle.exports.specs.Calls.{ListExported, ReadExported, network_exported, ask_build, BuildExported};
-ghost use Rattle.exports.specs.Calls.{ask_wagner_fit, FitExported, floor_exported, index_exported};
+ghost use Rattle.export_form.specs.Orders.{order_numbered};
+ghost use Rattle.export_form.specs.Calls.{ListExported, ReadExported, network_exported, ask_build, BuildExported};
+ghost use Rattle.export_form.specs.Calls.{ask_wagner_fit, FitExported, floor_exported, index_exported};
 
-use exports::answers::{FileRead, Indexed, Measured};
+use export_form::answers::{FileRead, Indexed, Measured};
 use exports::calls;
 
 // Writes the listing of a file's bytes, or the line of its refusal, into the front of lent bytes, and answers how many bytes that are: 0 if

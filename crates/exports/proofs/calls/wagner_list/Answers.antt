@@ -1,6 +1,6 @@
 -- `exports::calls::wagner_list` meets its contract: it says how many bytes the call below it writes, or 0.
 use mathlib.Core.Path.{◌∙◌}
-use Rattle.exports.proofs.Listed.{number_or, list_exported}
+use Rattle.export_form.proofs.Listed.{number_or, list_exported}
 use Rattle.exports.proofs.calls.wagner_list.Goals as goal
 
 pub returns : goal.returns

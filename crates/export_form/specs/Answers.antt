@@ -1,15 +1,15 @@
 -- What the structs that are handed back say of what an input brings.
 use Rattle.std.specs.Prelude.{ℕ, Option, None, Some}
-use Rattle.matrix.specs.Outcomes.{Outcome, value, refused}
+use Rattle.matrix_form.specs.Outcomes.{Outcome, value, refused}
 use Rattle.file_form.specs.declared.header.Header.{Header}
 use Rattle.file_form.specs.declared.header.Kind.{Kind}
 use Rattle.file_form.specs.declared.header.Kind.TheVariants.{Wagner, Own}
-use Rattle.listing.specs.Meant.{order_meant}
-use Rattle.exports.specs.Orders.{order_number}
-use Rattle.consistency.specs.declared.index.Index.{Index}
-use Rattle.exports.specs.declared.answers.FileRead.{FileRead}
-use Rattle.exports.specs.declared.answers.Indexed.{Indexed}
-use Rattle.exports.specs.declared.answers.Measured.{Measured}
+use Rattle.listing_form.specs.Meant.{order_meant}
+use Rattle.export_form.specs.Orders.{order_number}
+use Rattle.consistency_form.specs.declared.index.Index.{Index}
+use Rattle.export_form.specs.declared.answers.FileRead.{FileRead}
+use Rattle.export_form.specs.declared.answers.Indexed.{Indexed}
+use Rattle.export_form.specs.declared.answers.Measured.{Measured}
 
 -- how many bytes were written: none on a refusal
 abbrev pub bytes_said : Outcome ℕ → ℕ

@@ -1,12 +1,12 @@
 -- Orders of placing by number, and the question put to such a number: a rule for a word in a file binds the number handed to a call, by the
 -- same refusal and at the file's place in the order of questions.
 use Rattle.std.specs.Prelude.{Bool, cond, ◌||◌, ℕ, eqb, Ok}
-use Rattle.matrix.specs.Shape.{columns, matrix_size}
-use Rattle.matrix.specs.Outcomes.{Asked, ask}
-use Rattle.matrix.specs.declared.refusal.Refusal.TheVariants.{ListSize, UnknownOrder}
-use Rattle.branching.specs.declared.order.Order.{Order}
-use Rattle.branching.specs.declared.order.Order.TheVariants.{Advance, Closest}
-use Rattle.fitting.specs.Calls.{lists_full}
+use Rattle.matrix_form.specs.Shape.{columns, matrix_size}
+use Rattle.matrix_form.specs.Outcomes.{Asked, ask}
+use Rattle.matrix_form.specs.declared.refusal.Refusal.TheVariants.{ListSize, UnknownOrder}
+use Rattle.tree_form.specs.declared.order.Order.{Order}
+use Rattle.tree_form.specs.declared.order.Order.TheVariants.{Advance, Closest}
+use Rattle.fit_form.specs.Calls.{lists_full}
 
 -- the number of an order: 1 by advancement, 2 the closest first
 abbrev pub order_number : Order → ℕ

@@ -4,12 +4,12 @@ use mathlib.Core.List.{List}
 use Prim.Native.Nat.{ℕ}
 use lib.IntN.{ℤ}
 use lib.ListN.{length}
-use Rattle.branching.specs.Asking.{ask_branching}
-use Rattle.branching.specs.Branches.{branches_read, ancestors_of, named_in_order, lent_branching}
-use Rattle.branching.specs.LentNumbers.{records_in}
-use Rattle.branching.proofs.LentNumbers.{length-records_in}
-use Rattle.consistency.specs.Calls.{index_answer}
-use Rattle.exports.specs.Calls.{index_exported}
+use Rattle.tree_form.specs.Asking.{ask_branching}
+use Rattle.tree_form.specs.Branches.{branches_read, ancestors_of, named_in_order, lent_branching}
+use Rattle.tree_form.specs.LentNumbers.{records_in}
+use Rattle.tree_form.proofs.LentNumbers.{length-records_in}
+use Rattle.consistency_form.specs.Calls.{index_answer}
+use Rattle.export_form.specs.Calls.{index_exported}
 
 -- two lists of one size whose first 2n-3 records name the same nodes and ancestors bring the same answer, whatever else they hold
 pub first-records : (codes : List ℤ) (weights : List ℕ) (n m : ℕ) (lent other : List ℕ) → length lent ≡ length other

@@ -5,19 +5,19 @@ use mathlib.Core.List.{List}
 use Prim.Native.Nat.{ℕ, ◌≤◌}
 use native.Mathlib.Omega.{arith}
 use Rattle.std.specs.Prelude.{Option, None, Some, Ok, Err}
-use Rattle.matrix.specs.Outcomes.{Asked, Outcome, value, refused, on_line, answered}
-use Rattle.matrix.specs.Refusals.{refusal_number}
-use Rattle.matrix.specs.declared.refusal.Refusal.{Refusal}
-use Rattle.matrix.specs.declared.refusal.Refusal.TheVariants.{FileTooLong, FileEmpty, FirstLine, BeyondLimits, LineMissing}
-use Rattle.matrix.specs.declared.refusal.Refusal.TheVariants.{NameForm, NameTaken, FieldCount, CodeForm, CodeRange, FileGoesOn}
-use Rattle.matrix.specs.declared.refusal.Refusal.TheVariants.{ListSize, NotThere, NotBranching, UnknownOrder, WeightForm, BranchForm}
+use Rattle.matrix_form.specs.Outcomes.{Asked, Outcome, value, refused, on_line, answered}
+use Rattle.matrix_form.specs.Refusals.{refusal_number}
+use Rattle.matrix_form.specs.declared.refusal.Refusal.{Refusal}
+use Rattle.matrix_form.specs.declared.refusal.Refusal.TheVariants.{FileTooLong, FileEmpty, FirstLine, BeyondLimits, LineMissing}
+use Rattle.matrix_form.specs.declared.refusal.Refusal.TheVariants.{NameForm, NameTaken, FieldCount, CodeForm, CodeRange, FileGoesOn}
+use Rattle.matrix_form.specs.declared.refusal.Refusal.TheVariants.{ListSize, NotThere, NotBranching, UnknownOrder, WeightForm, BranchForm}
 use Rattle.file_form.specs.Job.{Job}
 use Rattle.file_form.specs.Reading.{read_answer}
-use Rattle.matrix_file.specs.Report.{ask_size, read_outcome, with_header}
+use Rattle.file_form.specs.Report.{ask_size, read_outcome, with_header}
 use Rattle.file_form.specs.Written.{LentLists}
 use Rattle.file_form.proofs.File.Numbered.{refused_bounds}
-use Rattle.consistency.specs.declared.index.Index.{Index}
-use Rattle.exports.specs.Answers.{file_read, measured, indexed}
+use Rattle.consistency_form.specs.declared.index.Index.{Index}
+use Rattle.export_form.specs.Answers.{file_read, measured, indexed}
 
 -- no refusal has the number 0
 pub numbered : (refusal : Refusal) → 1 ≤ refusal_number refusal

@@ -1,31 +1,30 @@
 -- What each exported call answers, for all inputs and refusals, and what the lent lists then hold.
 use Rattle.std.specs.Prelude.{◌≡◌, ◌↔◌, List, ◌++◌, ℕ, ◌≤◌, eqb, ℤ, length, take, drop, Ok, Err}
-use Rattle.matrix.specs.Shape.{row}
-use Rattle.matrix.specs.NodeRows.{rows_of}
-use Rattle.matrix.specs.Outcomes.{Asked, ask, and_then, on_line, answered, asked_says, afterwards}
-use Rattle.matrix.specs.Questions.{ask_matrix}
-use Rattle.matrix.specs.declared.refusal.Refusal.TheVariants.{ListSize}
-use Rattle.difference.specs.Rows.{difference, node_difference, weighing}
+use Rattle.matrix_form.specs.Shape.{row}
+use Rattle.matrix_form.specs.NodeRows.{rows_of}
+use Rattle.matrix_form.specs.Outcomes.{Asked, ask, and_then, on_line, answered, asked_says, afterwards}
+use Rattle.matrix_form.specs.Questions.{ask_matrix}
+use Rattle.matrix_form.specs.declared.refusal.Refusal.TheVariants.{ListSize}
+use Rattle.difference_form.specs.Rows.{difference, node_difference, weighing}
 use Rattle.file_form.specs.Written.{LentLists}
-use Rattle.matrix_file.specs.Report.{with_header, read_outcome, lists_after}
-use Rattle.prim.specs.Network.{network, network_length}
-use Rattle.branching.specs.LentNumbers.{lent_numbers, records_in}
-use Rattle.branching.specs.declared.order.Order.{Order}
-use Rattle.wagner.specs.Build.{wagner_length}
-use Rattle.wagner.specs.Matrix.{matrix_after}
-use Rattle.wagner.specs.Answers.{wagner_in}
-use Rattle.fitting.specs.Fit.{fitted_total}
-use Rattle.fitting.specs.Calls.{Which, Low, High, Chosen, states_written}
-use Rattle.fitting.specs.Handing.{HandedBack}
-use Rattle.fitting.specs.declared.whole.Fit.{Fit}
-use Rattle.consistency.specs.Calls.{floor_answer, index_answer}
-use Rattle.listing.specs.Listing.{output}
-use Rattle.listing.specs.Call.{ask_output}
-use Rattle.exports.specs.Orders.{ask_order, ask_fit_order}
-use Rattle.exports.specs.Answers.{bytes_said, file_read, measured, indexed}
-use Rattle.exports.specs.declared.answers.FileRead.{FileRead}
-use Rattle.exports.specs.declared.answers.Measured.{Measured}
-use Rattle.exports.specs.declared.answers.Indexed.{Indexed}
+use Rattle.file_form.specs.Report.{with_header, read_outcome, lists_after}
+use Rattle.prim_form.specs.Network.{network, network_length}
+use Rattle.tree_form.specs.LentNumbers.{lent_numbers, records_in}
+use Rattle.tree_form.specs.declared.order.Order.{Order}
+use Rattle.wagner_form.specs.Build.{wagner_length}
+use Rattle.wagner_form.specs.Matrix.{matrix_after, wagner_in}
+use Rattle.fit_form.specs.Fit.{fitted_total}
+use Rattle.fit_form.specs.Calls.{Which, Low, High, Chosen, states_written}
+use Rattle.fit_form.specs.Handing.{HandedBack}
+use Rattle.fit_form.specs.declared.whole.Fit.{Fit}
+use Rattle.consistency_form.specs.Calls.{floor_answer, index_answer}
+use Rattle.listing_form.specs.Listing.{output}
+use Rattle.listing_form.specs.Call.{ask_output}
+use Rattle.export_form.specs.Orders.{ask_order, ask_fit_order}
+use Rattle.export_form.specs.Answers.{bytes_said, file_read, measured, indexed}
+use Rattle.export_form.specs.declared.answers.FileRead.{FileRead}
+use Rattle.export_form.specs.declared.answers.Measured.{Measured}
+use Rattle.export_form.specs.declared.answers.Indexed.{Indexed}
 
 -- the call for a listing answers how many bytes are printed for the file, or 0 for a refusal; they stand in front of the lent bytes, and
 -- everything behind them is as before; on a refusal all is

@@ -10,14 +10,14 @@ use lib.ListN.{length, drop, length-append}
 use lib.Seq.{length-take-le}
 use Rattle.std.specs.Prelude.{Result, Ok, Err}
 use Rattle.std.specs.Result.{result_unwrap_or}
-use Rattle.matrix.specs.Outcomes.{answered}
-use Rattle.matrix.specs.declared.refusal.Refusal.{Refusal}
-use Rattle.matrix.specs.declared.refusal.Refusal.TheVariants.{ListSize}
-use Rattle.listing.specs.Listing.{output}
-use Rattle.listing.specs.Call.{output_size, ask_output, listed_says, ListDone}
-use Rattle.listing.proofs.OfFiles.{output-some}
-use Rattle.exports.specs.Answers.{bytes_said}
-use Rattle.exports.specs.Calls.{ListExported}
+use Rattle.matrix_form.specs.Outcomes.{answered}
+use Rattle.matrix_form.specs.declared.refusal.Refusal.{Refusal}
+use Rattle.matrix_form.specs.declared.refusal.Refusal.TheVariants.{ListSize}
+use Rattle.listing_form.specs.Listing.{output}
+use Rattle.listing_form.specs.Call.{output_size, ask_output, listed_says, ListDone}
+use Rattle.listing_form.proofs.OfFiles.{output-some}
+use Rattle.export_form.specs.Answers.{bytes_said}
+use Rattle.export_form.specs.Calls.{ListExported}
 
 -- the number of bytes that an answer says, or 0
 pub number_or : (listed : Result ℕ Refusal) → result_unwrap_or listed 0 ≡ bytes_said (listed_says listed)

@@ -1,4 +1,0 @@
--- What the exported calls answer.
-pub mod Orders
-pub mod Answers
-pub mod Calls
