@@ -1,7 +1,36 @@
-//! What the drivers share: rows written into a matrix of the reference, the codes of a generated matrix, weights, and the digest of a
+//! What the drivers share: the steps of cases, rows written into a matrix of the reference, the codes of a generated matrix, weights, and the digest of a
 //! matrix.
 #![allow(dead_code)]
 use wagner_reference::data::{Data, Ends};
+
+/// The steps of the cases on standard input, a line each: the word, and the numbers.
+pub fn steps() -> Vec<(String, Vec<i32>)> {
+    let text = std::io::read_to_string(std::io::stdin()).unwrap();
+    text.lines()
+        .map(|line| {
+            let mut parts = line.split(' ');
+            let word = parts.next().unwrap().to_string();
+            (word, parts.map(|number| number.parse().unwrap()).collect())
+        })
+        .collect()
+}
+
+/// A number of a step as a count, a node or a seed.
+pub fn size(numbers: &[i32], i: usize) -> usize {
+    usize::try_from(numbers[i]).unwrap()
+}
+
+/// Takes a step that writes rows, generated codes or weights, and says whether it is one.
+pub fn change(data: &mut Data, word: &str, numbers: &[i32]) -> bool {
+    match word {
+        "row" => put(data, numbers[0] as usize, &numbers[1..]),
+        "fill" => fill(data, numbers[1..].try_into().unwrap(), numbers[0] as u64),
+        "weights" => weigh(data, numbers),
+        "generated" => weigh_by(data, size(numbers, 0) as u64),
+        _ => return false,
+    }
+    true
+}
 
 /// Writes a row's codes at the front of the row of node v.
 pub fn put(data: &mut Data, v: usize, row: &[i32]) {
@@ -50,4 +79,12 @@ pub fn digest(data: &Data) {
         }
     }
     println!("D\t{}", sum % 2147483648);
+}
+
+/// The first so many codes of a matrix, in whole rows, and so many weights of 1.
+pub fn lent(data: &Data, codes: usize, weights: usize) -> Data {
+    let mut other = data.clone();
+    other.matrix.truncate(codes / 128);
+    other.weights = vec![1; weights];
+    other
 }

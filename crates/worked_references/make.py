@@ -1,19 +1,46 @@
 #!/usr/bin/env python3
-"""Writes stdout of this crate: the cases of src/main.rt as the reference answers them, through driver/main.rs.
+"""Writes data/cases and stdout of this crate: the steps of the cases, and what the reference answers to them, through driver/main.rs.
 
     make.py
 
-The reference is copied into a temporary folder and built there, offline, so that nothing is left in the repository.
+A step is a line: a word, and numbers behind it. What it brings is shown on what earlier steps wrote.
+
+    begin                         codes of 0, weights of 1, row 1 alone in the tree, lists as no call wrote them, all of full size
+    row v codes ..                writes codes at the front of the row of node v
+    weights w1 ..                 weighs the first characters as given, and the others by 1
+    sizes matrix weights chosen   lends so many of the codes, of the weights and of the chosen states
+    place n m b                   a placement of taxon b on the tree, the tree, and the rows of nodes 5 and 6
+    write n m                     the tree written over other branch records
+    write_alone n m               the same of a tree of row 1 alone
+    fit n m                       the fit of the records as last written, and the states of node 5 in the three lists
+    fit_others n m                the fit of the other records, and these states
+    node v                        the states of node v in the three lists
 """
-import os, shutil, subprocess, tempfile
+import os, sys
 HERE = os.path.dirname(os.path.abspath(__file__))
-REFERENCE = os.path.join(HERE, '..', '..', 'reference')
-with tempfile.TemporaryDirectory() as work:
-    shutil.copytree(REFERENCE, os.path.join(work, 'reference'), ignore=shutil.ignore_patterns('target'))
-    os.makedirs(os.path.join(work, 'driver', 'src'))
-    shutil.copy(os.path.join(HERE, 'driver', 'main.rs'), os.path.join(work, 'driver', 'src', 'main.rs'))
-    with open(os.path.join(work, 'driver', 'Cargo.toml'), 'w') as f:
-        f.write('[package]\nname = "driver"\nversion = "0.1.0"\nedition = "2021"\n\n[dependencies]\nwagner-reference = { path = "../reference" }\n')
-    run = subprocess.run(['cargo', 'run', '--offline', '--quiet'], cwd=os.path.join(work, 'driver'), stdout=subprocess.PIPE, check=True)
-with open(os.path.join(HERE, 'stdout'), 'wb') as f:
-    f.write(run.stdout)
+sys.path.insert(0, os.path.join(HERE, '..', 'worked_cases'))
+import by_reference
+
+FULL, COLUMNS = 16128, 128
+EXAMPLE = [('begin',), ('row', 1, 0, 0, 0), ('row', 2, 2, 1, 0), ('row', 3, 2, 3, 1), ('row', 4, -1, 1, 2)]
+
+
+def worked(weights):
+    """The three calls on document 01's example with these weights. The placements are by advancement; between them a taxon that is in the
+    tree, one that does not exist, and too many taxa. The finished tree is written over other records, beside trees and matrices that are
+    refused. The fit is of other records, of the records written with a list of three states, and of the records written."""
+    placements = [('place', n, 3, b) for n, b in [(4, 2), (4, 2), (4, 4), (4, 9), (65, 3), (4, 3)]]
+    records = [('sizes', 3, COLUMNS, FULL), ('write', 4, 3), ('sizes', FULL, COLUMNS, FULL), ('write', 65, 3), ('write_alone', 4, 3),
+               ('write_alone', 1, 3), ('row', 6, 0, 1000, 0), ('write', 4, 3), ('write', 4, 1), ('row', 6, 2, 1, 0), ('write', 4, 3)]
+    fits = [('fit_others', 4, 3), ('sizes', FULL, COLUMNS, 3), ('fit', 4, 3), ('sizes', FULL, COLUMNS, FULL), ('fit', 4, 3), ('node', 4), ('node', 6)]
+    return [*EXAMPLE, ('weights', *weights), *placements, *records, *fits]
+
+
+def asked(setting, m):
+    """What the three calls ask of weights in m characters, before they ask whether tree and records are a branching: a placement, a tree
+    that is none written, and the fit of other records."""
+    return [*EXAMPLE, setting, ('place', 4, m, 2), ('write_alone', 4, m), ('fit_others', 4, m)]
+
+
+by_reference.write(HERE, [*worked([1, 1, 1]), *worked([3, 1, 2]), *worked([1, 9, 4]), *asked(('sizes', FULL, COLUMNS - 1, FULL), 3),
+                          *asked(('weights', 1, 1, 0), 3), *asked(('weights', 1, 10, 1), 3), *asked(('weights', 1, 9, 0), 2)])

@@ -7,19 +7,20 @@
 
 ghost use Rattle.std.specs.Prelude.{◌≤◌};
 
-use branching::lent::record_count;
-use branching::numbers::{LENT_NUMBERS, RECORD};
-use branching::order::Order;
+use file_form::NAME_SIZE;
+use file_form::answer::Refused;
 use file_form::header::{Header, Kind};
-use file_form::{NAME_SIZE, NAMES_SIZE};
 use input::{MOST_CASES, MOST_READ, kept, read_counted};
 use matrix::questions::in_range;
 use matrix::refusal::number;
 use matrix::rows::row;
 use matrix::{COLUMNS, MATRIX_SIZE};
-use matrix_file::answer::Refused;
+use matrix_file::NAMES_SIZE;
 use matrix_file::reading::read;
 use std::{fs, io};
+use tree_form::order::Order;
+use tree_records::lent::record_count;
+use tree_records::numbers::{LENT_NUMBERS, RECORD};
 
 // What the lent lists hold before a read: no code, neither a weight nor a byte of a name, and no number of a branch record.
 const NO_CODE: i32 = 7777;

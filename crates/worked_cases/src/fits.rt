@@ -2,11 +2,11 @@
 // Kept: no plainer, lines or the R line, by a `match` in each program: one function for both arms would take a closure, and as a `pub fn` of worked_cases it would ask in a `requires` that this can be called.
 use crate::digests::print_digest;
 use crate::lines::print_refusal;
-use fitting::characters::States;
+use fit_form::characters::States;
+use fit_form::whole::{BranchFit, Fit};
 use fitting::ranges::Ranges;
-use fitting::whole::{BranchFit, Fit};
 use matrix::questions::last_node;
-use matrix::refusal::Refusal;
+use matrix_form::refusal::Refusal;
 use std::io;
 
 // The H line of node v in character j.

@@ -1,7 +1,5 @@
 // The matrix that a test program holds, with the weights of its characters.
-use crate::weights::first_three;
 use matrix::lent::Lent;
-use matrix::rows::write_row;
 use matrix::{COLUMNS, LIGHTEST, MATRIX_SIZE};
 
 // All codes of a matrix, and all weights.
@@ -28,17 +26,5 @@ impl Held {
             n,
             m,
         }
-    }
-
-    // Writes rows of codes, from row 1 on.
-    pub fn put<const M: usize>(&mut self, rows: &[[i32; M]]) {
-        for (i, codes) in rows.iter().enumerate() {
-            write_row(&mut self.codes, i + 1, codes);
-        }
-    }
-
-    // Weighs the first three characters as given, and the others by 1.
-    pub fn weigh(&mut self, first: u8, second: u8, third: u8) {
-        self.weights = first_three(first, second, third);
     }
 }

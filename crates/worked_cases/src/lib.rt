@@ -1,14 +1,13 @@
-// What the test programs share: lines, the matrix that they hold, document 01's example, generated codes, weights, and
-// digests of lists.
+// What the test programs share: cases that are read as steps, the matrix that they hold, generated codes, weights, lines, and digests of
+// lists.
 #![tactic(auto)]
 
+pub mod cases;
 pub mod digests;
-pub mod example;
 pub mod fits;
 pub mod generated;
 pub mod held;
 pub mod lines;
-pub mod shown;
 pub mod trees;
 pub mod weights;
 

@@ -1,6 +1,6 @@
 // Lines on standard output.
 use matrix::refusal;
-use matrix::refusal::Refusal;
+use matrix_form::refusal::Refusal;
 use std::io;
 
 // The R line of a refusal, of a call that reads no file.

@@ -1,10 +1,10 @@
 // Lines of trees and branch records, nodes by number.
 use crate::lines::print_refusal;
-use branching::branch::Branch;
-use branching::placement::Placement;
 use branching::tree::Tree;
-use matrix::refusal::Refusal;
+use matrix_form::refusal::Refusal;
 use std::io;
+use tree_form::branch::Branch;
+use tree_form::placement::Placement;
 
 // The W line of a placement: taxon, lower end, upper end, HTU, length added.
 pub fn print_placement(rt: &impl Print, placement: Placement) -> io::Result<()> {

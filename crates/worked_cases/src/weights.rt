@@ -2,13 +2,6 @@
 use crate::generated::following;
 use matrix::{COLUMNS, LIGHTEST};
 
-// The first three as given, the others 1.
-pub fn first_three(first: u8, second: u8, third: u8) -> [u8; COLUMNS] {
-    let mut weights = [LIGHTEST; COLUMNS];
-    weights[..3].copy_from_slice(&[first, second, third]);
-    weights
-}
-
 // Weights from 1 to 9 by a sequence of pseudo-random numbers.
 pub fn generated(seed: u64) -> [u8; COLUMNS] {
     let mut weights = [LIGHTEST; COLUMNS];

@@ -1,7 +1,10 @@
 // Branch records of given ancestors, and of the same branching with other numbers for its HTUs.
-use branching::branch::{BRANCHES, Branch};
 use matrix::MOST_TAXA;
 use matrix::questions::last_node;
+use std::array;
+use tree_form::branch::Branch;
+use tree_records::branch::BRANCHES;
+use worked_cases::cases::count;
 
 // One branch.
 pub(crate) fn branch(node: usize, ancestor: usize) -> Branch {
@@ -13,16 +16,15 @@ pub(crate) fn branch(node: usize, ancestor: usize) -> Branch {
 }
 
 // The branch records of these immediate ancestors, which stand by node number from 2.
-pub(crate) fn records_of(ancestors: &[usize]) -> [Branch; BRANCHES] {
-    let mut records = [Branch::default(); BRANCHES];
-    for (record, (node, ancestor)) in records.iter_mut().zip((2..BRANCHES + 2).zip(ancestors)) {
-        *record = branch(node, *ancestor);
-    }
-    records
+pub(crate) fn records_of(ancestors: &[i32]) -> [Branch; BRANCHES] {
+    array::from_fn(|i| {
+        let record = |ancestor: &i32| branch(i + 2, count(*ancestor));
+        ancestors.get(i).map_or(Branch::default(), record)
+    })
 }
 
 // Another number for node v of n taxa: the HTUs are numbered from the last to the first.
-#[tactic(auto, unfolding(matrix::specs::Shape::last_node))]
+#[tactic(auto, unfolding(matrix_form::specs::Shape::last_node))]
 fn renumbered(v: usize, n: usize) -> usize {
     if (1..=MOST_TAXA).contains(&n) && (n + 1..=last_node(n)).contains(&v) {
         3 * n - 1 - v

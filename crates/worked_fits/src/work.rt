@@ -1,8 +1,5 @@
-// The matrix and the lists of the cases, and what the calls show of them.
-// Kept: no plainer, lines or the R line, by a `match` in each program: one function for both arms would take a closure, and as a `pub fn` of worked_cases it would ask in a `requires` that this can be called.
-use crate::branchings::shuffled;
-use branching::branch::{BRANCHES, Branch};
-use branching::order::Order;
+// What the program holds, and what each step of the cases changes or shows.
+use crate::branchings::{branch, records_of, shuffled};
 use branching::tree::Tree;
 use fitting::calls::{fit, states, total};
 use fitting::ranges::Ranges;
@@ -10,142 +7,113 @@ use fitting::whole::fit_tree;
 use matrix::lent::Lent;
 use matrix::questions::last_node;
 use std::io;
+use tree_form::branch::Branch;
+use tree_form::order::Order;
+use tree_records::branch::BRANCHES;
 use wagner::build::build;
 use wagner::records::branches;
+use worked_cases::cases::{Steps, counts_of};
 use worked_cases::digests::print_digest;
 use worked_cases::fits::{print_digests, print_fit, print_node, print_states, print_total};
 use worked_cases::held::Held;
 use worked_cases::lines::print_refusal;
 
-// What is lent of a matrix, and branch records for it.
-#[derive(Clone, Copy)]
-pub(crate) struct Case<'a> {
-    pub(crate) lent: Lent<'a>,
-    pub(crate) records: &'a [Branch; BRANCHES],
-}
-
-// The matrix that the program holds, and the lists that its fits write.
+// The matrix, branch records for it, and the lists that its fits write.
 #[derive(Drop)]
 pub(crate) struct Work {
     pub(crate) held: Held,
+    pub(crate) records: [Branch; BRANCHES],
     pub(crate) ranges: Ranges,
 }
 
-// The H lines of the HTUs in characters 1 to m by what three lists hold.
-fn print_held(rt: &impl Print, lent: &Lent, ranges: &Ranges) -> io::Result<()> {
-    for v in (1..=last_node(lent.n)).skip(lent.n) {
-        print_node(rt, ranges, v, lent.m)?;
+// Writes a branch record: the node that stands there by number, and the node and the ancestor that it gets.
+fn write_record(records: &mut [Branch; BRANCHES], counts: [usize; 7]) {
+    let [v, node, ancestor, ..] = counts;
+    if (2..BRANCHES + 2).contains(&v) {
+        records[v - 2] = branch(node, ancestor);
     }
-    Ok(())
 }
 
-// A tree of a lent matrix: its fit by its branch records, by the tree itself, and with other numbers for its HTUs.
-fn show_tree(rt: &impl Print, lent: Lent, tree: &Tree, ranges: &mut Ranges) -> io::Result<()> {
-    let records = branches(&lent, *tree, [Branch::default(); BRANCHES]);
-    let other = shuffled(&records, lent.n);
-    let case = Case {
-        lent,
-        records: &records,
-    };
-    case.show(rt, ranges)?;
-    let whole = fit_tree(
-        &lent,
-        tree,
-        &mut ranges.low,
-        &mut ranges.high,
-        &mut ranges.chosen,
-    );
-    print_total(rt, Ok(whole.total))?;
-    print_digests(rt, ranges)?;
-    let case = Case {
-        lent,
-        records: &other,
-    };
-    case.show(rt, ranges)
+// The H line of node v in character j by the call for one node, or its R line.
+pub(crate) fn show_node(
+    rt: &impl Print,
+    lent: &Lent,
+    records: &[Branch; BRANCHES],
+    v: usize,
+    j: usize,
+) -> io::Result<()> {
+    match states(lent, records, v, j) {
+        Ok(states) => print_states(rt, v, j, states),
+        Err(why) => print_refusal(rt, why),
+    }
 }
 
-impl<'a> Case<'a> {
-    // Branch records for n taxa and m characters of a matrix.
-    pub(crate) fn of(
-        held: &'a Held,
-        n: usize,
-        m: usize,
-        records: &'a [Branch; BRANCHES],
-    ) -> Case<'a> {
-        Case {
-            lent: held.lent(n, m),
-            records,
+impl Work {
+    // Codes of 0, weights of 1, no branch, and lists that no fit has written.
+    pub(crate) fn new() -> Work {
+        Work {
+            held: Held::alike(0),
+            records: [Branch::default(); BRANCHES],
+            ranges: Ranges::alike(-1, -2, -3),
         }
     }
 
-    // The H line of node v in character j by the call for one node, or its R line.
-    pub(crate) fn show_node(&self, rt: &impl Print, v: usize, j: usize) -> io::Result<()> {
-        match states(&self.lent, self.records, v, j) {
-            Ok(states) => print_states(rt, v, j, states),
-            Err(why) => print_refusal(rt, why),
-        }
+    // The fit, the total by the call for the total, and the digests of the three lists, which keep what they then hold.
+    fn show_fit(&mut self, rt: &impl Print, n: usize, m: usize) -> io::Result<()> {
+        let lent = self.held.lent(n, m);
+        let found = fit(
+            &lent,
+            &self.records,
+            &mut self.ranges.low,
+            &mut self.ranges.high,
+            &mut self.ranges.chosen,
+        );
+        print_fit(rt, found, n)?;
+        print_total(rt, total(&lent, &self.records))?;
+        print_digests(rt, &self.ranges)
     }
 
     // The H lines of all nodes in characters 1 to m by the call for one node.
-    fn show_nodes(&self, rt: &impl Print) -> io::Result<()> {
-        for v in 1..=last_node(self.lent.n) {
-            for j in 1..=self.lent.m {
-                self.show_node(rt, v, j)?;
+    fn show_nodes(&self, rt: &impl Print, n: usize, m: usize) -> io::Result<()> {
+        let lent = self.held.lent(n, m);
+        for v in 1..=last_node(n) {
+            for j in 1..=m {
+                show_node(rt, &lent, &self.records, v, j)?;
             }
         }
         Ok(())
     }
 
-    // The fit, the total by the call for the total, and the digests of the three lists, which keep what they then hold.
-    fn show(&self, rt: &impl Print, ranges: &mut Ranges) -> io::Result<()> {
-        let found = fit(
-            &self.lent,
-            self.records,
-            &mut ranges.low,
-            &mut ranges.high,
-            &mut ranges.chosen,
+    // The fit and all states: of every node by the call for one node, of every HTU by the three lists.
+    fn show_all(&mut self, rt: &impl Print, n: usize, m: usize) -> io::Result<()> {
+        self.show_fit(rt, n, m)?;
+        self.show_nodes(rt, n, m)?;
+        for v in (1..=last_node(n)).skip(n) {
+            print_node(rt, &self.ranges, v, m)?;
+        }
+        Ok(())
+    }
+
+    // A tree: its fit by its branch records, by the tree itself, and with other numbers for its HTUs.
+    fn show_tree(&mut self, rt: &impl Print, n: usize, m: usize, tree: &Tree) -> io::Result<()> {
+        let lent = self.held.lent(n, m);
+        self.records = branches(&lent, *tree, [Branch::default(); BRANCHES]);
+        self.show_fit(rt, n, m)?;
+        let whole = fit_tree(
+            &self.held.lent(n, m),
+            tree,
+            &mut self.ranges.low,
+            &mut self.ranges.high,
+            &mut self.ranges.chosen,
         );
-        print_fit(rt, found, self.lent.n)?;
-        print_total(rt, total(&self.lent, self.records))?;
-        print_digests(rt, ranges)
-    }
-
-    // The same, and all states: of every node by the call for one node, of every HTU by the three lists.
-    fn show_all(&self, rt: &impl Print, ranges: &mut Ranges) -> io::Result<()> {
-        self.show(rt, ranges)?;
-        self.show_nodes(rt)?;
-        print_held(rt, &self.lent, ranges)
-    }
-}
-
-impl Work {
-    // The fit of a case, as `Case::show` shows it.
-    // Kept: no plainer, each of the cases gives its own n and m: what is lent is made here, since the lists beside the matrix are written.
-    pub(crate) fn show(
-        &mut self,
-        rt: &impl Print,
-        n: usize,
-        m: usize,
-        records: &[Branch; BRANCHES],
-    ) -> io::Result<()> {
-        Case::of(&self.held, n, m, records).show(rt, &mut self.ranges)
-    }
-
-    // The fit of a case and all states, as `Case::show_all` shows them.
-    // Kept: no plainer, as `show`.
-    pub(crate) fn show_all(
-        &mut self,
-        rt: &impl Print,
-        n: usize,
-        m: usize,
-        records: &[Branch; BRANCHES],
-    ) -> io::Result<()> {
-        Case::of(&self.held, n, m, records).show_all(rt, &mut self.ranges)
+        print_total(rt, Ok(whole.total))?;
+        print_digests(rt, &self.ranges)?;
+        self.records = shuffled(&self.records, n);
+        self.show_fit(rt, n, m)
     }
 
     // Our own tree, as `show_tree` shows it, and the digest of the matrix, or its R line.
-    // Kept: no plainer, as `show`.
-    pub(crate) fn show_own(&mut self, rt: &impl Print, n: usize, m: usize) -> io::Result<()> {
+    fn show_own(&mut self, rt: &impl Print, n: usize, m: usize) -> io::Result<()> {
         match build(
             &mut self.held.codes,
             &self.held.weights,
@@ -154,10 +122,45 @@ impl Work {
             Order::Advance,
         ) {
             Ok(built) => {
-                show_tree(rt, self.held.lent(n, m), &built.tree, &mut self.ranges)?;
+                self.show_tree(rt, n, m, &built.tree)?;
                 print_digest(rt, &self.held.codes)
             }
             Err(why) => print_refusal(rt, why),
+        }
+    }
+
+    // The digests of the lists of the lowest and the highest states.
+    fn show_ends(&self, rt: &impl Print) -> io::Result<()> {
+        print_digest(rt, &self.ranges.low)?;
+        print_digest(rt, &self.ranges.high)
+    }
+}
+
+impl Steps for Work {
+    fn held(&mut self) -> &mut Held {
+        &mut self.held
+    }
+
+    fn write(&mut self, word: &str, numbers: &[i32]) {
+        match word {
+            "ancestors" => self.records = records_of(numbers),
+            "record" => write_record(&mut self.records, counts_of(numbers)),
+            _ => {}
+        }
+    }
+
+    fn show(&mut self, rt: &impl Print, word: &str, numbers: &[i32]) -> io::Result<()> {
+        let counts: [usize; 7] = counts_of(numbers);
+        let [n, m, v, j, ..] = counts;
+        match word {
+            "fit" => self.show_fit(rt, n, m),
+            "states" => self.show_all(rt, n, m),
+            "node" => show_node(rt, &self.held.lent(n, m), &self.records, v, j),
+            "own" => self.show_own(rt, n, m),
+            "ends" => self.show_ends(rt),
+            "fit_of_sizes" => self.show_fit_of(rt, counts),
+            "others_of_sizes" => self.show_others_of(rt, counts),
+            _ => Ok(()),
         }
     }
 }

@@ -1,0 +1,101 @@
+// The cases of a test program, read from the file `cases`: a step a line, a word and the numbers behind it, each behind a space.
+use crate::generated::fill;
+use crate::held::Held;
+use crate::weights;
+use filled::Filled;
+use matrix::rows::write_row;
+use matrix::{COLUMNS, LIGHTEST};
+use std::rt::Files;
+use std::{fs, io};
+
+// A step has at most so many numbers: a node, and the codes of its row.
+const MOST_NUMBERS: usize = COLUMNS + 1;
+
+// A number as a count; 0 where it is none.
+pub fn count(number: i32) -> usize {
+    usize::try_from(number).unwrap_or(0)
+}
+
+// The numbers of a text, each behind a space but the first; what is no number is left out.
+fn numbers_of(text: &str) -> Filled<i32, MOST_NUMBERS> {
+    let mut numbers = Filled::none(0);
+    for number in text.split(' ').filter_map(|word| word.parse().ok()) {
+        numbers.push(number);
+    }
+    numbers
+}
+
+// The first numbers as counts; 0 where there are no more.
+pub fn counts_of<const N: usize>(numbers: &[i32]) -> [usize; N] {
+    let mut counts = [0; N];
+    for (place, number) in counts.iter_mut().zip(numbers) {
+        *place = count(*number);
+    }
+    counts
+}
+
+// The weights of the first characters, those of the others 1.
+fn weights_of(numbers: &[i32]) -> [u8; COLUMNS] {
+    let mut weights = [LIGHTEST; COLUMNS];
+    for (weight, number) in weights.iter_mut().zip(numbers) {
+        *weight = u8::try_from(*number).unwrap_or(0);
+    }
+    weights
+}
+
+// Writes what a step says of the matrix: `row`, a node and codes; `fill`, a seed and eight codes; `weights`, those of the first characters;
+// `generated`, the seed of weights.
+fn change(held: &mut Held, word: &str, numbers: &[i32]) {
+    match (word, numbers) {
+        ("row", [v, codes @ ..]) => write_row(&mut held.codes, count(*v), codes),
+        ("fill", [seed, a, b, c, d, e, f, g, h]) => fill(
+            &mut held.codes,
+            [*a, *b, *c, *d, *e, *f, *g, *h],
+            count(*seed) as u64,
+        ),
+        ("weights", first) => held.weights = weights_of(first),
+        ("generated", [seed]) => held.weights = weights::generated(count(*seed) as u64),
+        _ => {}
+    }
+}
+
+// The first items of a list, so many of them as it has.
+pub fn first<T>(list: &[T], size: usize) -> &[T] {
+    list.get(..size).unwrap_or(list)
+}
+
+// The first items of a list to be written, so many of them as it has.
+pub fn first_mut<T>(list: &mut [T], size: usize) -> &mut [T] {
+    let size = size.min(list.len());
+    &mut list[..size]
+}
+
+// A test program that takes its cases step by step.
+pub trait Steps {
+    // The matrix that it holds.
+    fn held(&mut self) -> &mut Held;
+
+    // What a step writes beside this matrix, if it is one that writes something.
+    fn write(&mut self, word: &str, numbers: &[i32]);
+
+    // What a step shows, if it is one that shows something.
+    fn show(&mut self, rt: &impl Print, word: &str, numbers: &[i32]) -> io::Result<()>;
+}
+
+// Takes a line of the cases.
+fn take(rt: &impl Print, program: &mut impl Steps, line: &str) -> io::Result<()> {
+    let (word, rest) = line.split_once(' ').unwrap_or((line, ""));
+    let numbers = numbers_of(rest);
+    change(program.held(), word, numbers.as_slice());
+    program.write(word, numbers.as_slice());
+    program.show(rt, word, numbers.as_slice())
+}
+
+// Takes the steps of the file of cases, one after another.
+pub fn run(rt: &(impl Print + Files + Alloc), program: &mut impl Steps) -> io::Result<()> {
+    let text = fs::read_to_string(rt, "cases")?;
+    for line in text.lines() {
+        take(rt, program, line)?;
+    }
+    Ok(())
+}
