@@ -1,16 +1,14 @@
 -- No public contract cites this file. What a walk over the rows or the `C` lines of a file answers.
-use mathlib.Core.List.{List, [], ◌∷◌, map, reverse}
-use denote.Ref.{Bor}
-use Rattle.std.specs.Prelude.{◌≡◌, true, ℕ, suc, ◌+◌, take, drop, Result, Ok, Err, List}
+use mathlib.Core.List.{List, [], map}
+use Rattle.std.specs.Prelude.{◌≡◌, ℕ, ◌+◌, take, drop, Result, Ok, Err, List}
 use Rattle.matrix_form.specs.Outcomes.{Outcome, value, refused}
 use Rattle.matrix_form.specs.Refusals.{refusal_number}
-use Rattle.matrix_form.specs.declared.refusal.Refusal.{Refusal}
 use Rattle.file_form.specs.declared.header.Header.{Header}
 use Rattle.file_form.specs.declared.answer.Refused.{Refused}
 use Rattle.file_form.specs.Job.{Job}
-use Rattle.file_form.specs.Lines.{lines_of, fields_of}
+use Rattle.file_form.specs.Lines.{lines_of}
 use Rattle.file_form.specs.Rows.{name_in, ask_rows}
-use Rattle.file_form.specs.Branches.{branch_count, branch_form, ancestor_in, ask_branches}
+use Rattle.file_form.specs.Branches.{branch_count, ancestor_in, ask_branches}
 use Rattle.file_form.specs.Header.{header_of}
 use Rattle.file_form.specs.Reading.{ask_after}
 use Rattle.file_form.specs.Formed.{BranchesFormed}
@@ -21,19 +19,10 @@ use Rattle.file_form.specs.Report.{with_header}
 abbrev pub padded_in : List ℕ → List ℕ
 padded_in line = padded (name_in line)
 
--- the names of earlier rows, the last one first
-abbrev pub names_passed : List (Bor (List ℕ)) → List (List ℕ)
-names_passed names = reverse (map (λ name. name.now) names)
-
 -- what an answer with no value says in document 01's terms, of a file with this header
 abbrev pub passed_says : Header → Result (Unit {0}) Refused → Outcome Header
 passed_says header (Ok _) = value header
 passed_says header (Err r) = refused (refusal_number r.refusal) r.line
-
--- what a walk leaves of a text, or its refusal
-abbrev pub left_of : {E : Type 0} → Result (Bor (List ℕ)) E → Result (List ℕ) E
-left_of (Ok rest) = Ok rest.now
-left_of (Err e) = Err e
 
 -- what lines of a text bring, as a walk answers that leaves this rest: what follows them, or the refusal
 abbrev pub lines_say : Result (List ℕ) Refused → ℕ → (ℕ → List (List ℕ) → Outcome Job) → Outcome Job
@@ -51,20 +40,6 @@ pub record RowsAsked (rows : List ℕ) (header : Header) (first : ℕ) (r : Resu
       → lines_say r (first + header.n) follow
       ≡ ask_rows header [] first header.n (lines_of rows) follow
   pub ends : (rest : List ℕ) → r ≡ Ok rest → lines_of rest ≡ drop header.n (lines_of rows)
-
--- what the question put to a line brings, where another line follows: what follows it, or the refusal
-abbrev pub line_says : Result (List ℕ) Refusal → ℕ → (List ℕ → Outcome Job) → Outcome Job
-line_says (Ok rest) line follow = follow rest
-line_says (Err refusal) line follow = refused (refusal_number refusal) line
-
--- the question put to the `C` line of node v, with which a text begins, is answered, whatever the line's number and what follows; it is the
--- first of the lines that are left, and has the form
-pub record BranchAsked (text : List ℕ) (v : ℕ) (r : Result (List ℕ) Refusal) : Type 0 where
-  pub says :
-      (line left : ℕ) (follow : ℕ → List (List ℕ) → Outcome Job)
-      → ask_branches line v (suc left) (lines_of text) follow
-      ≡ line_says r line (λ rest. ask_branches (suc line) (suc v) left (lines_of rest) follow)
-  pub ends : (rest : List ℕ) → r ≡ Ok rest → (line : List ℕ) × (lines_of text ≡ line ∷ lines_of rest) × (branch_form v (fields_of line) ≡ true)
 
 -- a walk over `C` lines answers their questions, whatever follows them, and ends behind them
 pub record BranchesAsked (text : List ℕ) (count first : ℕ) (r : Result (List ℕ) Refused) : Type 0 where

@@ -10,27 +10,23 @@ ghost use Rattle.tree_form.specs.Asking.{branches_size};
 ghost use Rattle.tree_form.specs.LentNumbers.{record_size, record_numbers};
 ghost use Rattle.file_form.specs.Decimal.{number_form, number_of};
 ghost use Rattle.file_form.specs.Lines.{lines_of, fields_of};
-ghost use Rattle.file_form.specs.Branches.{branch_count, branch_form, ancestor_in, ask_tree};
+ghost use Rattle.file_form.specs.Branches.{branch_count, ancestor_in, ask_tree};
 ghost use Rattle.file_form.specs.Formed.{BranchesFormed, record_in};
-ghost use Rattle.matrix_file.specs.Walk.{behind_rows_most, left_of, BranchAsked, BranchesAsked};
+ghost use Rattle.file_lines.specs.Asked.{left_of};
+ghost use Rattle.matrix_file.specs.Walk.{behind_rows_most, BranchesAsked};
 
 use branching::tree::Tree;
+use file_form::LINE_FEED;
 use file_form::answer::Refused;
 use file_form::header::Kind;
-use file_form::{LINE_FEED, TAB};
 use file_header::answer::on_line;
-use file_text::bytes::{field, first_line, separators};
+use file_lines::branch::{ANCESTOR, NODE, ask_branch};
+use file_text::bytes::field;
 use file_text::numbers::number;
 use matrix_form::refusal::Refusal;
 use tree_form::tree::PLACES;
 use tree_records::lent::record_count;
 use tree_records::numbers::RECORD;
-
-// The field of a `C` line that says its node.
-const NODE: usize = 1;
-
-// The one that says the node's immediate ancestor.
-const ANCESTOR: usize = 2;
 
 // How many `C` lines a file has: one for each node but node 1 if it brings its own branching, else none.
 // Kept: no plainer, `file_form` holds definitions and no function, so that a wrong one is refused in seconds; a method of `Kind` would be its first.
@@ -42,36 +38,6 @@ pub(crate) fn branch_count(kind: Kind, n: usize) -> usize
         Kind::Wagner => 0,
         Kind::Own => record_count(n),
     }
-}
-
-// Whether a line is the `C` line of node v: three fields, `C`, the number of the node, and a number.
-fn branch_form(line: &[u8], v: usize) -> bool
-    ensures { result ≡ branch_form v (fields_of line.now) }
-{
-    if separators(line, TAB) != ANCESTOR {
-        return false;
-    }
-    let b"C" = field(line, 0) else {
-        return false;
-    };
-    if number(field(line, ANCESTOR)).is_none() {
-        return false;
-    }
-    number(field(line, NODE)) == Some(v)
-}
-
-// The question put to the line of node v, with which a text begins: is there one, ended by a line feed, and is it the node's? What stands
-// behind it.
-fn ask_branch(text: &[u8], v: usize) -> Result<&[u8], Refusal>
-    ensures { BranchAsked text.now v (left_of result) }
-{
-    let Some((line, behind)) = first_line(text) else {
-        return Err(Refusal::BranchForm);
-    };
-    if !branch_form(line, v) {
-        return Err(Refusal::BranchForm);
-    }
-    Ok(behind)
 }
 
 // For each node in turn, from node 2, its question. The first line stands in line `first`. What stands behind the last.

@@ -1,89 +1,28 @@
 // The questions put to a file, in order.
 // Kept: no plainer, five functions of the crate ask for at most 64 taxa: as a ghost field of `Header` the definition `header_in`, which makes one of any lines, would owe it.
 // Kept: no plainer, a rest of the text goes on from call to call, and the number of its first line is wanted by those that refuse a line.
-ghost use Rattle.std.specs.Prelude.{◌≡◌, ◌≤◌, ◌<◌, length, [], ◌∷◌, not, drop};
+ghost use Rattle.std.specs.Prelude.{◌≡◌, ◌≤◌, ◌<◌, length, []};
 ghost use Rattle.matrix_form.specs.Shape.{most_taxa};
 ghost use Rattle.matrix_form.specs.Outcomes.{ask};
-ghost use Rattle.file_form.specs.Job.{name_form, differs_from_all};
-ghost use Rattle.file_form.specs.Lines.{lines_of, fields_of};
+ghost use Rattle.file_form.specs.Lines.{lines_of};
 ghost use Rattle.file_form.specs.Header.{header_lines};
-ghost use Rattle.file_form.specs.Rows.{ask_codes, ask_row};
 ghost use Rattle.file_form.specs.Reading.{nothing_more, ask_length, ask_behind, read_answer};
 ghost use Rattle.file_form.specs.Report.{read_says, with_header};
-ghost use Rattle.matrix_file.specs.Walk.{behind_rows_most, names_passed, passed_says, left_of, RowsAsked, RestAsked};
+ghost use Rattle.file_lines.specs.Asked.{left_of};
+ghost use Rattle.matrix_file.specs.Walk.{behind_rows_most, passed_says, RowsAsked, RestAsked};
 
 use crate::behind::behind_lines;
 use crate::branches::{ask_branches, ask_tree, branch_count};
 use file_form::answer::Refused;
 use file_form::header::Header;
-use file_form::{MOST_BYTES, NAME_SIZE, TAB};
+use file_form::{MOST_BYTES, TAB};
 use file_header::answer::on_line;
 use file_header::header::{ask_header, header_lines};
-use file_text::bytes::{first_line, first_part, in_name, separators};
-use file_text::numbers::code;
+use file_lines::rows::ask_row;
+use file_text::bytes::{first_line, first_part};
 use filled::Filled;
 use matrix::MOST_TAXA;
-use matrix::questions::in_range;
 use matrix_form::refusal::Refusal;
-
-// Whether a name is well formed.
-fn name_form(name: &[u8]) -> bool
-    ensures { result ≡ name_form name.now }
-{
-    let [first, others @ ..] = name else {
-        return false;
-    };
-    name.len() <= NAME_SIZE
-        && (first.is_ascii_alphabetic() && others.iter().all(|byte| in_name(*byte)))
-}
-
-// The questions put to a code: is its form right? Is it from -999 to 999?
-fn ask_code(field: &[u8]) -> Result<(), Refusal>
-    ensures { result ≡ ask_codes (field.now ∷ []) }
-{
-    let Some(code) = code(field) else {
-        return Err(Refusal::CodeForm);
-    };
-    if !in_range(code) {
-        return Err(Refusal::CodeRange);
-    }
-    Ok(())
-}
-
-// For each code of a row's line from the left, behind its name, the questions put to it.
-fn ask_codes(line: &[u8]) -> Result<(), Refusal>
-    ensures { result ≡ ask_codes (drop 1 (fields_of line.now)) }
-{
-    for field in line.split(|byte| *byte == TAB).skip(1) {
-        ask_code(field)?;
-    }
-    Ok(())
-}
-
-// Whether a name is one of those of earlier rows.
-#[tactic(auto, using(crate::proofs::Rows::RowWalk::differs_passed))]
-fn is_taken(name: &[u8], earlier: &[&[u8]]) -> bool
-    ensures { differs_from_all name.now (names_passed earlier.now) ≡ not result }
-{
-    earlier.contains(&name)
-}
-
-// The questions put to a row's line: its number of fields, its name, which no earlier row has, and its codes.
-fn ask_row(line: &[u8], header: Header, earlier: &[&[u8]]) -> Result<(), Refusal>
-    ensures { result ≡ ask_row header (names_passed earlier.now) line.now }
-{
-    if separators(line, TAB) != header.m {
-        return Err(Refusal::FieldCount);
-    }
-    let name = first_part(line, TAB);
-    if !name_form(name) {
-        return Err(Refusal::NameForm);
-    }
-    if is_taken(name, earlier) {
-        return Err(Refusal::NameTaken);
-    }
-    ask_codes(line)
-}
 
 // For each row in turn: is there another line, ended by a line feed? Its own questions. Row 1 stands in line `first`. What stands behind
 // the last row.

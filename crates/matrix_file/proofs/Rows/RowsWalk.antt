@@ -19,10 +19,11 @@ use Rattle.file_form.specs.Lines.{lines_of}
 use Rattle.file_form.specs.Rows.{name_in, ask_row, ask_rows}
 use Rattle.file_form.proofs.Text.Fields.{name_first}
 use Rattle.file_form.specs.declared.answer.Refused.{Refused}
-use Rattle.matrix_file.specs.Walk.{names_passed, RowsAsked}
+use Rattle.file_lines.specs.Asked.{names_passed}
+use Rattle.matrix_file.specs.Walk.{RowsAsked}
 use Rattle.file_header.specs.Answered.{at_line}
 use Rattle.file_header.proofs.Answering.{asked_refused, asked_passed}
-use Rattle.matrix_file.proofs.BranchLines.Walk.{lines_some}
+use Rattle.file_lines.proofs.BranchLine.{lines_some}
 use Rattle.matrix_file.proofs.Lists.LinesBehind.{rest-next}
 
 -- the names of the rows passed

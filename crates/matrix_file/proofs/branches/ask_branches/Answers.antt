@@ -1,7 +1,7 @@
 -- What the check leaves of `matrix_file::branches::ask_branches`.
 use mathlib.Core.Path.{sym, ap, ◌∙◌}
 use Rattle.std.proofs.lemmas.Result.{err_from_is_err_and}
-use Rattle.matrix_file.specs.Walk.{left_of}
+use Rattle.file_lines.specs.Asked.{left_of}
 use Rattle.file_header.proofs.Answering.{line_ok}
 use Rattle.matrix_file.proofs.BranchLines.Walk.{at_left, branches-start, walk-refused, walk_passed, branches-ended}
 use Rattle.matrix_file.proofs.branches.ask_branches.Goals as goal

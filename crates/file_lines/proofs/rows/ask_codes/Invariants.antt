@@ -1,9 +1,9 @@
--- `matrix_file::judging::ask_codes` meets its contract. The loop's invariant: the codes that are left decide.
+-- `file_lines::rows::ask_codes` meets its contract. The loop's invariant: the codes that are left decide.
 use mathlib.Core.Path.{◌≡◌}
 use lib.ListN.{length, drop}
 use Rattle.file_form.specs.Lines.{fields_of}
 use Rattle.file_form.specs.Rows.{ask_codes}
-use Rattle.matrix_file.proofs.judging.ask_codes.Given as goal
+use Rattle.file_lines.proofs.rows.ask_codes.Given as goal
 
 abbrev pub invariant-loop-field : goal.invariant-loop-field
 invariant-loop-field l =

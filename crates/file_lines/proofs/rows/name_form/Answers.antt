@@ -1,4 +1,4 @@
--- `matrix_file::judging::name_form` meets its contract: each answer follows from the tests that led to it.
+-- `file_lines::rows::name_form` meets its contract: each answer follows from the tests that led to it.
 use Rattle.std.proofs.Common.{rules, tests}
 use Rattle.std.proofs.lemmas.Iterator.{YieldsList-from_slice}
 use Rattle.std.proofs.lemmas.Iterator.Search.{all_from_yields_List}
@@ -7,8 +7,8 @@ use Rattle.std.specs.List.{list_all}
 use Rattle.file_form.proofs.Text.FirstPart.{part_to_end}
 use borrow.Author.Tests.{lt-leb}
 use Rattle.file_form.specs.Job.{in_name}
-use Rattle.matrix_file.proofs.Rows.NameForm.{empty, long, no_letter, others_decide}
-use Rattle.matrix_file.proofs.judging.name_form.Goals as goal
+use Rattle.file_lines.proofs.NameForm.{empty, long, no_letter, others_decide}
+use Rattle.file_lines.proofs.rows.name_form.Goals as goal
 
 pub returns-in_default : goal.returns-in_default
 returns-in_default c = empty _ c.in_default.len_below

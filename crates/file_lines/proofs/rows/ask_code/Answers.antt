@@ -1,11 +1,11 @@
--- `matrix_file::judging::ask_code` meets its contract: the form decides, and then the range.
+-- `file_lines::rows::ask_code` meets its contract: the form decides, and then the range.
 use mathlib.Core.Path.{ap, ◌∙◌}
 use mir.Facts.{to_z-of_z}
 use mir.Syntax.{w32}
 use Rattle.std.proofs.Common.{rules}
 use Rattle.matrix_form.specs.Shape.{in_range}
-use Rattle.matrix_file.proofs.Rows.CodesWalk.{bad_form, out_of_range, in_range_lem}
-use Rattle.matrix_file.proofs.judging.ask_code.Goals as goal
+use Rattle.file_lines.proofs.CodesWalk.{bad_form, out_of_range, in_range_lem}
+use Rattle.file_lines.proofs.rows.ask_code.Goals as goal
 
 pub returns-in_default : goal.returns-in_default
 returns-in_default c = bad_form _ c.in_default.ensures

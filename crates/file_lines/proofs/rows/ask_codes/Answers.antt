@@ -1,4 +1,4 @@
--- What the check leaves of `matrix_file::judging::ask_codes`.
+-- What the check leaves of `file_lines::rows::ask_codes`.
 use mathlib.Core.Path.{refl, sym, ap, ◌∙◌}
 use mathlib.Core.List.{[], ◌∷◌}
 use lib.ListN.{drop, length-append}
@@ -8,8 +8,8 @@ use Rattle.std.proofs.lemmas.Iterator.Consumers.{YieldsList-at, YieldsList-turn,
 use Rattle.file_form.specs.Lines.{fields_of}
 use Rattle.file_form.specs.Rows.{ask_codes}
 use Rattle.file_text.proofs.LinesSplit.{fields_yielded}
-use Rattle.matrix_file.proofs.Rows.CodesWalk.{walk-refused, walk_passed, walk_ended}
-use Rattle.matrix_file.proofs.judging.ask_codes.Goals as goal
+use Rattle.file_lines.proofs.CodesWalk.{walk-refused, walk_passed, walk_ended}
+use Rattle.file_lines.proofs.rows.ask_codes.Goals as goal
 
 pub loop-field-init : goal.loop-field-init
 loop-field-init c = (search (rules, of_calls), search (rules, of_calls), refl)

@@ -1,4 +1,4 @@
--- `matrix_file::branches::branch_form` meets its contract: each answer follows from the tests that led to it.
+-- `file_lines::branch::branch_form` meets its contract: each answer follows from the tests that led to it.
 use mathlib.Core.Path.{sym, ap, ◌∙◌}
 use native.Mathlib.Omega.{arith}
 use Rattle.lists.specs.Tests.{same_numbers as same_text}
@@ -10,8 +10,8 @@ use Rattle.std.proofs.Common.{rules}
 use Rattle.std.proofs.lemmas.Slice.Eq.{text_from_reads}
 use Rattle.file_header.proofs.Words.{other_text, text_is, bytes_read}
 use Rattle.file_text.proofs.ReadAs.{read_none, read_some}
-use Rattle.matrix_file.proofs.BranchLines.Walk.{node_told}
-use Rattle.matrix_file.proofs.branches.branch_form.Goals as goal
+use Rattle.file_lines.proofs.BranchLine.{node_told}
+use Rattle.file_lines.proofs.branch.branch_form.Goals as goal
 
 pub returns-then-separators-ne-ANCESTOR : goal.returns-then-separators-ne-ANCESTOR
 returns-then-separators-ne-ANCESTOR c =

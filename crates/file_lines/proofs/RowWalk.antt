@@ -21,7 +21,7 @@ use Rattle.file_form.specs.Job.{name_form, differs_from_all}
 use Rattle.matrix_form.specs.declared.refusal.Refusal.TheVariants.{FieldCount, NameForm, NameTaken}
 use Rattle.matrix_form.specs.Outcomes.{Asked, ask}
 use Rattle.file_form.specs.declared.header.Header.{Header}
-use Rattle.matrix_file.specs.Walk.{names_passed}
+use Rattle.file_lines.specs.Asked.{names_passed}
 
 -- a name differs from those of two lists if it differs from those of each
 differs_append : (name : List ℕ) (xs ys : List (List ℕ))

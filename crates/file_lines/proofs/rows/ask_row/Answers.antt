@@ -1,7 +1,7 @@
--- `matrix_file::judging::ask_row` meets its contract: each answer follows from the questions that led to it.
+-- `file_lines::rows::ask_row` meets its contract: each answer follows from the questions that led to it.
 use Rattle.file_form.proofs.File.FirstForm.{fields_count}
-use Rattle.matrix_file.proofs.Rows.RowWalk.{bad_count, bad_name, name_taken, codes_decide}
-use Rattle.matrix_file.proofs.judging.ask_row.Goals as goal
+use Rattle.file_lines.proofs.RowWalk.{bad_count, bad_name, name_taken, codes_decide}
+use Rattle.file_lines.proofs.rows.ask_row.Goals as goal
 
 pub returns-then-separators-header : goal.returns-then-separators-header
 returns-then-separators-header c =

@@ -1,7 +1,7 @@
--- `matrix_file::branches::ask_branch` meets its contract: there is a line, and it has the form.
+-- `file_lines::branch::ask_branch` meets its contract: there is a line, and it has the form.
 use mathlib.Core.Path.{sym, ◌∙◌}
-use Rattle.matrix_file.proofs.BranchLines.Walk.{branch_missing, branch_refused, branch_passed}
-use Rattle.matrix_file.proofs.branches.ask_branch.Goals as goal
+use Rattle.file_lines.proofs.BranchLine.{branch_missing, branch_refused, branch_passed}
+use Rattle.file_lines.proofs.branch.ask_branch.Goals as goal
 
 pub returns-in_default : goal.returns-in_default
 returns-in_default c = branch_missing _ _ c.in_default.ensures

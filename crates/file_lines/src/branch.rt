@@ -1,0 +1,46 @@
+// The question put to the `C` line of a node.
+ghost use Rattle.std.specs.Prelude.{◌≡◌};
+ghost use Rattle.file_form.specs.Lines.{fields_of};
+ghost use Rattle.file_form.specs.Branches.{branch_form};
+ghost use Rattle.file_lines.specs.Asked.{left_of, BranchAsked};
+
+use file_form::TAB;
+use file_text::bytes::{field, first_line, separators};
+use file_text::numbers::number;
+use matrix_form::refusal::Refusal;
+
+// The field of a `C` line that says its node.
+pub const NODE: usize = 1;
+
+// The one that says the node's immediate ancestor.
+pub const ANCESTOR: usize = 2;
+
+// Whether a line is the `C` line of node v: three fields, `C`, the number of the node, and a number.
+fn branch_form(line: &[u8], v: usize) -> bool
+    ensures { result ≡ branch_form v (fields_of line.now) }
+{
+    if separators(line, TAB) != ANCESTOR {
+        return false;
+    }
+    let b"C" = field(line, 0) else {
+        return false;
+    };
+    if number(field(line, ANCESTOR)).is_none() {
+        return false;
+    }
+    number(field(line, NODE)) == Some(v)
+}
+
+// The question put to the line of node v, with which a text begins: is there one, ended by a line feed, and is it the node's? What stands
+// behind it.
+pub fn ask_branch(text: &[u8], v: usize) -> Result<&[u8], Refusal>
+    ensures { BranchAsked text.now v (left_of result) }
+{
+    let Some((line, behind)) = first_line(text) else {
+        return Err(Refusal::BranchForm);
+    };
+    if !branch_form(line, v) {
+        return Err(Refusal::BranchForm);
+    }
+    Ok(behind)
+}
