@@ -63,6 +63,8 @@ REFUSED = [
     (", for tabs in a row", rows("W 2 2", "A,0,0"), "8 2", 'row 1 has 0 codes, and line 1 says 2 characters: "A,0,0"', "parted by ,"),
     ("one blank for a tab", rows("W 2 3", "A 0~1 2"), "8 2",
      'row 1 (A) has 2 codes, and line 1 says 3 characters: "A<TAB>0 1<TAB>2"', 'where a tab is wanted: "0 1"'),
+    ("a blank in the name alone", rows("W 2 2", "Viola~odorata 0"), "8 2",
+     'row 1 (Viola odorata) has 1 code, and line 1 says 2 characters: "Viola odorata<TAB>0"', ""),
     ("an empty line", rows("W 2 2", "A 0 0", "", "B 1 1"), "8 3", "row 2 is an empty line", "Take the line out"),
     ("a code too many in all rows", rows("W 2 2", "A 0 0 0", "B 1 1 1"), "8 2",
      'row 1 (A) has 3 codes, and line 1 says 2 characters: "A<TAB>0<TAB>0<TAB>0"', "should say 3?"),

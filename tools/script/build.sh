@@ -58,7 +58,7 @@ build() {
     fi
     wait_for_others
     if is_built; then return 0; fi
-    say "$state: proving and building it, once. From a fresh clone this takes about five minutes on four cores."
+    say "$state: proving and building it, once. From a fresh clone this takes some minutes."
     below=$(sed -n 's/^wagner_list *://p' "$root/crates.txt")
     count=$(($(echo "$below" | wc -w) + 1))
     start=$(date +%s)

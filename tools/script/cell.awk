@@ -154,7 +154,7 @@ function of_row(k,    i, l) {
 }
 
 # 8: a row of too few fields or too many
-function of_field_count(l,    i, same) {
+function of_field_count(l,    i, same, rows) {
     place = row_at(l) " has " counted(fields[l] - 1, "code") ", and line 1 says " counted(m, "character") ": " quoted_line(l)
     if (is_empty(l)) {
         place = "row " (l - first_row + 1) " is an empty line"
@@ -166,9 +166,11 @@ function of_field_count(l,    i, same) {
     for (i = 1; i <= fields[l]; i++)
         if (text[l, i] ~ /[0-9] +-?[0-9]/ || (i == 1 && text[l, i] ~ / -?[0-9]+$/))
             advice = "A blank stands where a tab is wanted: " quoted(text[l, i]) "."
-    same = 1
-    for (i = first_row; i < first_row + n && i <= lines; i++) same = same && fields[i] == fields[l]
-    if (advice == "" && same && n > 1) advice = "All rows have so many: is it line 1 that should say " (fields[l] - 1) "?"
+    for (i = first_row; i < first_row + n && i <= lines; i++) {
+        rows++
+        same += fields[i] == fields[l]
+    }
+    if (advice == "" && rows > 1 && same == rows) advice = "All rows have so many: is it line 1 that should say " (fields[l] - 1) "?"
 }
 
 # 17: the C line of node v
