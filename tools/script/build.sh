@@ -31,13 +31,15 @@ wait_for_others() {
     child=
 }
 
-# says which crate the build is at, when that has changed: the first one below the program that has no library yet
+# says which crate the build is at, when that has changed: the first one below the program that has no library, or the program itself once
+# rt has said so, since between two libraries that are made anew all may be there
 progress() {
     place=1
     for crate in $below wagner_list; do
         [ -e "$root/crates/$crate/out/rlib/stamp" ] || break
         place=$((place + 1))
     done
+    if [ "$crate" = wagner_list ] && ! grep -q ' for wagner_list$' "$log"; then return; fi
     if [ "$crate" != "$shown" ]; then
         say "crate $place of $count ($crate), $(($(date +%s) - start)) s."
         shown=$crate
