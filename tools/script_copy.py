@@ -56,11 +56,15 @@ class Copy:
             shutil.copy2(f"{TOP}/{PROGRAM}", f"{self.top}/{PROGRAM}")
         self.put(f"top/{BUILT}", "")
 
+    def around(self, path=None):
+        """The environment of a call."""
+        path = path or f"{self.commands}:/usr/local/bin:/usr/bin:/bin"
+        return {"PATH": path, "TMPDIR": self.temporary, "HOME": self.temporary}
+
     def start(self, *words, file=b"", before="", behind="", as_nobody=False, path=None, **how):
         """Starts the script with a file on standard input; `before` and `behind` are put around the call in the language of the shell."""
-        path = path or f"{self.commands}:/usr/local/bin:/usr/bin:/bin"
         how = {"stdin": subprocess.PIPE, "stdout": subprocess.PIPE, "stderr": subprocess.PIPE, "cwd": self.room, **how}
-        how["env"] = {"PATH": path, "TMPDIR": self.temporary, "HOME": self.temporary}
+        how["env"] = self.around(path)
         if as_nobody and os.geteuid() == 0:
             how["preexec_fn"] = be_nobody
         call = ["/bin/sh", "-c", f'{before} exec "$@" {behind}', "sh", f"{self.top}/wagner-list", *words]
