@@ -1,5 +1,6 @@
 -- Laws of tree structs and of the private functions.
-pub mod Places
+pub mod Entries
+pub mod InMatrix
 pub mod Searching
 pub mod Unasked
 pub mod Handing

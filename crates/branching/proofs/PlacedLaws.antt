@@ -7,40 +7,40 @@ use Prim.Native.Nat.{ℕ, suc, ◌+◌, ◌-◌, ◌≤◌, ◌<◌}
 use native.Mathlib.Omega.{arith}
 use lib.IntN.{ℤ, pos}
 use lib.ListN.{length, get_or}
-use Rattle.matrix_form.specs.Shape.{row, row_start}
-use Rattle.matrix_form.specs.NodeRows.{rows_of}
+use Rattle.matrix_form.specs.Shape.{row, row_start, MatrixLists, with_codes}
 use Rattle.std.specs.Prelude.{Result, Ok}
 use Rattle.branching.specs.declared.placement.Placed.{Placed}
 use Rattle.branching.specs.declared.placement.NotPlaced.{NotPlaced}
 use Rattle.tree_form.specs.Ancestors.{ancestor}
 use Rattle.branching.specs.Views.{ancestors}
-use Rattle.tree_form.specs.Nodes.{taxa_placed, Unplaced}
+use Rattle.tree_form.specs.Nodes.{taxa_placed, Unplaced, last_row}
 use Rattle.tree_form.specs.Growing.{row_one_alone}
 use Rattle.tree_form.specs.Facts.{Grown, GrowingTree, alone, several}
 use Rattle.tree_form.specs.Hanging.{next_htu}
 use Rattle.tree_form.specs.Asking.{ask_placement}
 use Rattle.tree_form.specs.Placing.{median_row}
-use Rattle.branching.specs.Placed.{last_row, place_in, matrix_placed, placement_says, tree_back, PlacementDone}
+use Rattle.branching.specs.Calls.{place_in, matrix_placed, placement_says, tree_back, PlacementDone}
 use Rattle.tree_form.proofs.Test.{alone_iff}
 use Rattle.tree_form.proofs.Passed.{placement_asked}
-use Rattle.branching.proofs.Unasked.{written_first}
+use Rattle.branching.proofs.InMatrix.{written_first}
 use Rattle.branching.proofs.Standing.{Standing, asked_standing, standing_passes}
 use Rattle.branching.proofs.Standing.{placed-size, placed-else, placed_standing, placed-medians}
 
--- a placement that passed its questions, on a tree with 127 places
-module _ (codes : List ℤ) (weights : List ℕ) (n m : ℕ) (tree : List ℕ) (b : ℕ) (pass : ask_placement codes weights n m tree b ≡ Ok tt) (places : length tree ≡ 127)
+-- a placement that passed its questions, on a tree with 127 entries
+module _ (lists : MatrixLists) (n m : ℕ) (tree : List ℕ) (b : ℕ) (pass : ask_placement lists n m tree b ≡ Ok tt) (sized : length tree
+    ≡ 127)
   where
     -- it stands in the matrix
-    stands : Standing codes weights n m (taxa_placed n tree) tree
-    stands = asked_standing codes weights n m tree b (placement_asked codes weights n m tree b pass) places
+    stands : Standing lists n m (taxa_placed n tree) tree
+    stands = asked_standing lists n m tree b (placement_asked lists n m tree b pass) sized
 
     -- the taxon is not in it
     unplaced : Unplaced n tree b
-    unplaced = (placement_asked codes weights n m tree b pass).unplaced
+    unplaced = (placement_asked lists n m tree b pass).unplaced
 
     -- on row 1 alone nothing is written
-    pub alone_writes_nothing : row_one_alone tree ≡ true → matrix_placed codes weights n m tree b ≡ codes
-    alone_writes_nothing e = written_first codes weights n m tree b ((alone_iff tree).0 e)
+    pub alone_writes_nothing : row_one_alone tree ≡ true → matrix_placed lists n m tree b ≡ lists.codes
+    alone_writes_nothing e = written_first lists n m tree b ((alone_iff tree).0 e)
 
     -- on a tree of several taxa the new HTU's row is the one behind the others
     pub htu-next : row_one_alone tree ≡ false → next_htu n tree ≡ suc (last_row n tree)
@@ -52,12 +52,12 @@ module _ (codes : List ℤ) (weights : List ℕ) (n m : ℕ) (tree : List ℕ) (
         go (several g) = omega (arith, g.placed, g.at_least_two)
 
     -- and its codes for characters 1 to m are the medians of the taxon and of the two ends of its interval
-    pub htu-medians : row_one_alone tree ≡ false → row (matrix_placed codes weights n m tree b) m (next_htu n tree)
-        ≡ median_row (rows_of codes m (last_row n tree)) b (place_in codes weights n m tree b).placement.lower
-        (ancestor tree (place_in codes weights n m tree b).placement.lower)
+    pub htu-medians : row_one_alone tree ≡ false → row (matrix_placed lists n m tree b) m (next_htu n tree)
+        ≡ median_row (row lists.codes m) b (place_in lists n m tree b).placement.lower
+        (ancestor tree (place_in lists n m tree b).placement.lower)
     htu-medians several-taxa =
-        ap (row (matrix_placed codes weights n m tree b) m) (htu-next several-taxa)
-        ∙ go stands.growing (placed-medians codes weights n m (taxa_placed n tree) tree stands b unplaced)
+        ap (row (matrix_placed lists n m tree b) m) (htu-next several-taxa)
+        ∙ go stands.growing (placed-medians lists n m (taxa_placed n tree) tree stands b unplaced)
       where
         go : {k : ℕ} {A : Type 0} → GrowingTree n tree k → (Grown n k tree → A) → A
         go (alone none) f = absurd (false≢true (sym several-taxa ∙ (alone_iff tree).1 none))
@@ -65,26 +65,26 @@ module _ (codes : List ℤ) (weights : List ℕ) (n m : ℕ) (tree : List ℕ) (
 
     -- no code is changed but those of characters 1 to m of the new HTU: not a column past m, and no other row
     pub placement-else : (j : ℕ) → (row_start (suc (last_row n tree)) ≤ j → j < row_start (suc (last_row n tree)) + m → ⊥)
-        → get_or (matrix_placed codes weights n m tree b) j (pos 0) ≡ get_or codes j (pos 0)
-    placement-else = placed-else codes weights n m (taxa_placed n tree) tree stands b unplaced
+        → get_or (matrix_placed lists n m tree b) j (pos 0) ≡ get_or lists.codes j (pos 0)
+    placement-else = placed-else lists n m (taxa_placed n tree) tree stands b unplaced
 
     -- the matrix keeps its size
-    pub placement-size : length (matrix_placed codes weights n m tree b) ≡ length codes
-    placement-size = placed-size codes weights n m (taxa_placed n tree) tree stands b unplaced
+    pub placement-size : length (matrix_placed lists n m tree b) ≡ length lists.codes
+    placement-size = placed-size lists n m (taxa_placed n tree) tree stands b unplaced
 
     -- nothing that is handed back is refused: every taxon that is still unplaced passes the questions of the next placement
-    pub placement-again : (v : ℕ) → Unplaced n (place_in codes weights n m tree b).tree v
-        → ask_placement (matrix_placed codes weights n m tree b) weights n m (place_in codes weights n m tree b).tree v ≡ Ok tt
+    pub placement-again : (v : ℕ) → Unplaced n (place_in lists n m tree b).tree v
+        → ask_placement (with_codes lists (matrix_placed lists n m tree b)) n m (place_in lists n m tree b).tree v ≡ Ok tt
     placement-again v u =
-        standing_passes (matrix_placed codes weights n m tree b) weights n m (suc (taxa_placed n tree)) (place_in codes weights n m tree b).tree
-        (placed_standing codes weights n m (taxa_placed n tree) tree stands b unplaced) v u
+        standing_passes (with_codes lists (matrix_placed lists n m tree b)) n m (suc (taxa_placed n tree)) (place_in lists n m tree b).tree
+        (placed_standing lists n m (taxa_placed n tree) tree stands b unplaced) v u
 
 -- the same of what the call handed back: tree and matrix pass the questions again
-pub handed-again : (codes new : List ℤ) (weights : List ℕ) (n m : ℕ) (tree : List ℕ) (b : ℕ) (r : Result Placed NotPlaced) → length tree ≡ 127
-    → PlacementDone codes new weights n m tree b r → ask_placement codes weights n m tree b ≡ Ok tt
-    → (v : ℕ) → Unplaced n (ancestors (tree_back r)) v → ask_placement new weights n m (ancestors (tree_back r)) v ≡ Ok tt
+pub handed-again : (lists : MatrixLists) (new : List ℤ) (n m : ℕ) (tree : List ℕ) (b : ℕ) (r : Result Placed NotPlaced) → length tree ≡ 127
+    → PlacementDone lists new n m tree b r → ask_placement lists n m tree b ≡ Ok tt
+    → (v : ℕ) → Unplaced n (ancestors (tree_back r)) v → ask_placement (with_codes lists new) n m (ancestors (tree_back r)) v ≡ Ok tt
 unfolding placement_says
-handed-again codes new weights n m tree b r places done pass v u =
+handed-again lists new n m tree b r sized done pass v u =
     let grown = rw pass at done.tree in
     let written = rw pass at done.matrix in
-    rw (written, grown) (placement-again codes weights n m tree b pass places v (rw grown at u))
+    rw (written, grown) (placement-again lists n m tree b pass sized v (rw grown at u))

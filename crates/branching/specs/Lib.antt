@@ -3,8 +3,7 @@
 -- What a reader has to believe of trees stands in `tree_form`, and speaks of lists.
 pub mod Views
 pub mod Testing
-pub mod Places
+pub mod Index
+pub mod Calls
 pub mod Unasked
-pub mod Placed
 pub mod Nearest
-pub mod Finished

@@ -1,13 +1,13 @@
-// The test whether a tree is a growing tree, place by place.
+// The test whether a tree is a growing tree, entry by entry.
 ghost use Rattle.std.specs.Prelude.{◌≡◌, ◌≤◌, length};
 ghost use Rattle.matrix_form.specs.Shape.{most_taxa};
 ghost use Rattle.branching.specs.Views.{ancestors};
 ghost use Rattle.tree_form.specs.Nodes.{taxa_placed};
 ghost use Rattle.tree_form.specs.Growing.{descendant_count, descendants_wanted, grown};
-ghost use Rattle.branching.specs.Testing.{node_right, place_right};
+ghost use Rattle.branching.specs.Testing.{node_right, entry_right};
 
-use crate::tree::{Tree, last_node};
-use tree_form::tree::PLACES;
+use crate::tree::{Tree, last_index};
+use tree_form::tree::TREE_SIZE;
 
 // A tree that may be a growing tree of n taxa, and how many of them it has placed.
 #[derive(Clone, Copy)]
@@ -16,7 +16,7 @@ pub(crate) struct Candidate<'a> {
     pub n: usize,
     pub placed: usize,
     ghost most: { n ≤ most_taxa },
-    ghost places: { length (ancestors tree.now) ≡ 127 },
+    ghost sized: { length (ancestors tree.now) ≡ 127 },
     ghost counted: { placed ≡ taxa_placed n (ancestors tree.now) },
 }
 
@@ -25,7 +25,7 @@ impl<'a> Candidate<'a> {
     fn descendant_count(&self, v: usize) -> usize
         ensures { result ≡ descendant_count self.now.n (ancestors self.now.tree.now) v }
     {
-        let end = last_node(self.n) + 1;
+        let end = last_index(self.n) + 1;
         (2..end).filter(|u| self.tree.ancestor(*u) == v).count()
     }
 
@@ -38,14 +38,14 @@ impl<'a> Candidate<'a> {
             return false;
         }
         self.descendant_count(v) == descendants_wanted(self.n, v)
-            && self.tree.climbs(last_node(self.n), v)
+            && self.tree.climbs(last_index(self.n), v)
     }
 
-    // Whether place v is right.
-    // Kept: no plainer, a place of a tree holds 0 for no ancestor, and what is right of it goes by that: an Option would be made of the 0 for this test.
-    #[tactic(auto, using(matrix_form::proofs::Between::nat_between, tree_form::proofs::Nodes::taxa_placed_le), unfolding(crate::specs::Testing::place_right, tree_form::specs::Nodes::has_ancestor))]
-    fn place_right(&self, v: usize) -> bool
-        ensures { result ≡ place_right self.now.n self.now.placed (ancestors self.now.tree.now) v }
+    // Whether entry v is right.
+    // Kept: no plainer, an entry of a tree holds 0 for no ancestor, and what is right of it goes by that: an Option would be made of the 0 for this test.
+    #[tactic(auto, using(matrix_form::proofs::Between::nat_between, tree_form::proofs::Nodes::taxa_placed_le), unfolding(crate::specs::Testing::entry_right, tree_form::specs::Nodes::has_ancestor))]
+    fn entry_right(&self, v: usize) -> bool
+        ensures { result ≡ entry_right self.now.n self.now.placed (ancestors self.now.tree.now) v }
     {
         let last = (self.n + self.placed).saturating_sub(2);
         if self.tree.ancestor(v) == 0 {
@@ -61,7 +61,7 @@ impl<'a> Candidate<'a> {
         if self.placed < 2 {
             return false;
         }
-        self.descendant_count(1) == 1 && (0..PLACES).all(|v| self.place_right(v))
+        self.descendant_count(1) == 1 && (0..TREE_SIZE).all(|v| self.entry_right(v))
     }
 }
 

@@ -1,14 +1,18 @@
 // One placement: a taxon goes onto a growing tree, which comes out one taxon larger.
 ghost use Rattle.std.specs.Prelude.{◌≡◌, ◌≤◌};
-ghost use Rattle.matrix_form.specs.Shape.{most_taxa, most_characters};
+ghost use Rattle.matrix_form.specs.Shape.{most_taxa, most_characters, row, matrix_of};
 ghost use Rattle.matrix_form.specs.NodeRows.{with_row};
 ghost use Rattle.branching.specs.Views.{ancestors};
-ghost use Rattle.branching.specs.Unasked.{medians_at, interval_at, linked_at, hung_at, UnaskedDone};
+ghost use Rattle.difference_form.specs.Rows.{difference};
+ghost use Rattle.tree_form.specs.Hanging.{next_htu};
+ghost use Rattle.tree_form.specs.Placing.{median_row, from_interval, link_first, hang};
+ghost use Rattle.branching.specs.Unasked.{UnaskedDone};
 ghost use Rattle.branching.specs.Nearest.{NearestOf, Leaves};
-ghost use Rattle.branching.specs.Placed.{PlacementDone};
+ghost use Rattle.branching.specs.Calls.{PlacementDone};
+ghost use Rattle.matrix.specs.Lent.{lent_lists};
 
 use crate::questions::ask_placement;
-use crate::tree::{Tree, last_node};
+use crate::tree::{Tree, last_index};
 use difference::nodes::Nodes;
 use difference::rows::write_medians;
 use matrix::lent::Lent;
@@ -32,9 +36,9 @@ pub struct NotPlaced {
 }
 
 // The interval difference of taxon b from the interval between c and its immediate ancestor.
-#[tactic(auto, unfolding(crate::specs::Unasked::interval_at))]
+#[tactic(auto, unfolding(tree_form::specs::Placing::from_interval))]
 fn from_interval(nodes: &Nodes, tree: &Tree, b: usize, c: usize) -> u64
-    ensures { result ≡ interval_at nodes.now.lent.matrix.now nodes.now.lent.weights.now nodes.now.lent.m (ancestors tree.now) b c }
+    ensures { result ≡ from_interval (difference nodes.now.lent.weights.now) (row nodes.now.lent.matrix.now nodes.now.lent.m) (ancestors tree.now) b c }
 {
     nodes.interval_difference(b, c, tree.ancestor(c))
 }
@@ -42,9 +46,9 @@ fn from_interval(nodes: &Nodes, tree: &Tree, b: usize, c: usize) -> u64
 // Kept: no plainer, a struct of the three would be made in `place_unasked` for one search, and `link_first` takes the tree by value, to hand it on.
 // The lower end of the interval of least interval difference, the least node number among equals.
 fn nearest_interval(nodes: &Nodes, tree: &Tree, b: usize) -> Option<usize>
-    ensures { NearestOf nodes.now.lent.matrix.now nodes.now.lent.weights.now nodes.now.lent.n nodes.now.lent.m (ancestors tree.now) b result }
+    ensures { NearestOf (lent_lists nodes.now.lent) nodes.now.lent.n nodes.now.lent.m (ancestors tree.now) b result }
 {
-    let end = last_node(nodes.lent.n) + 1;
+    let end = last_index(nodes.lent.n) + 1;
     (2..end)
         .filter(|c| tree.in_tree(*c))
         .min_by_key(|c| from_interval(nodes, tree, b, *c))
@@ -53,7 +57,7 @@ fn nearest_interval(nodes: &Nodes, tree: &Tree, b: usize) -> Option<usize>
 // Writes the median codes of nodes b, c and e into the row of node y.
 fn write_htu(matrix: &mut [i32], m: usize, b: usize, c: usize, e: usize, y: usize)
     requires { m ≤ most_characters }
-    ensures { matrix.new ≡ with_row matrix.old y (medians_at matrix.old m b c e) }
+    ensures { matrix.new ≡ with_row matrix.old y (median_row (row matrix.old m) b c e) }
 {
     let b_row = row(matrix, m, b);
     let c_row = row(matrix, m, c);
@@ -66,9 +70,10 @@ fn write_htu(matrix: &mut [i32], m: usize, b: usize, c: usize, e: usize, y: usiz
 
 impl Tree {
     // Taxon b linked to row 1.
-    #[tactic(auto, unfolding(crate::specs::Unasked::linked_at, difference_form::specs::Rows::node_difference))]
+    #[tactic(auto, using(crate::proofs::InMatrix::no_row), unfolding(tree_form::specs::Placing::link_first, difference_form::specs::Rows::node_difference))]
     fn link_first(self, nodes: &Nodes, b: usize) -> Placed
-        ensures { Leaves (linked_at nodes.now.lent.matrix.now nodes.now.lent.weights.now nodes.now.lent.m (ancestors self) b) nodes.now.lent.matrix.now result }
+        ensures { Leaves (link_first (difference nodes.now.lent.weights.now) (row nodes.now.lent.matrix.now nodes.now.lent.m) (ancestors self) b)
+            (next_htu nodes.now.lent.n (ancestors self)) nodes.now.lent.matrix.now nodes.now.lent.matrix.now result }
     {
         Placed {
             tree: self.link(b),
@@ -94,7 +99,7 @@ impl Tree {
         c: usize,
     ) -> Placed
         requires { (n ≤ most_taxa) × (m ≤ most_characters) }
-        ensures { Leaves (hung_at matrix.old weights.now m n (ancestors self) b c) matrix.new result }
+        ensures { Leaves (hang (difference weights.now) (row matrix.old m) n (ancestors self) b c) (next_htu n (ancestors self)) matrix.old matrix.new result }
     {
         let upper = self.ancestor(c);
         let htu = self.next_htu(n);
@@ -129,7 +134,7 @@ impl Tree {
         m: usize,
         b: usize,
     ) -> Placed
-        ensures { UnaskedDone matrix.old matrix.new weights.now n m (ancestors self) b result }
+        ensures { UnaskedDone (matrix_of matrix.old weights.now) matrix.new n m (ancestors self) b result }
     {
         if MOST_TAXA < n || MOST_CHARACTERS < m {
             return Placed {
@@ -161,7 +166,7 @@ impl Tree {
         m: usize,
         b: usize,
     ) -> Result<Placed, NotPlaced>
-        ensures { PlacementDone matrix.old matrix.new weights.now n m (ancestors self) b result }
+        ensures { PlacementDone (matrix_of matrix.old weights.now) matrix.new n m (ancestors self) b result }
     {
         let lent = Lent {
             matrix,

@@ -2,30 +2,30 @@
 // Kept: no plainer, what is lent stays, and a tree goes on by value: a struct of both would be made anew for each tree; so in the crates above.
 ghost use Rattle.std.specs.Prelude.{◌≡◌, ◌≤◌};
 ghost use Rattle.matrix_form.specs.Shape.{most_taxa};
-ghost use Rattle.matrix_form.specs.Questions.{htus_in_range};
-ghost use Rattle.branching.specs.Finished.{ask_finished};
+ghost use Rattle.matrix_form.specs.Questions.{ask_rows_of};
 ghost use Rattle.branching.specs.Views.{ancestors};
-ghost use Rattle.tree_form.specs.Asking.{htus_of, ask_placement};
+ghost use Rattle.tree_form.specs.Asking.{htus_of, ask_placement, ask_finished};
+ghost use Rattle.matrix.specs.Lent.{lent_lists};
 
 use crate::tree::Tree;
 use matrix::lent::Lent;
 use matrix::questions::one_to;
 use matrix_form::refusal::Refusal;
 
-// Whether the rows of the HTUs of a growing tree of n taxa have codes from -999 to 999.
-fn htus_right(lent: &Lent, tree: &Tree) -> bool
+// The questions put to the rows of the HTUs of a growing tree of n taxa.
+fn ask_htus(lent: &Lent, tree: &Tree) -> Result<(), Refusal>
     requires { lent.now.n ≤ most_taxa }
-    ensures { result ≡ htus_in_range lent.now.matrix.now lent.now.n lent.now.m (htus_of lent.now.n (ancestors tree.now)) }
+    ensures { result ≡ ask_rows_of (lent_lists lent.now) lent.now.m (htus_of lent.now.n (ancestors tree.now)) }
 {
     let end = lent.n + tree.taxa_placed(lent.n).max(2) - 1;
-    (lent.n + 1..end).all(|v| lent.htu_in_range(v))
+    lent.ask_rows(lent.n + 1, end)
 }
 
 // The questions of a placement of taxon b on a tree handed in: those on the matrix, whether the taxon exists, whether the tree is a growing
 // tree, whether the taxon is not yet in it, and the rows of its HTUs.
 #[tactic(auto, using(tree_form::proofs::Passed::growing_passed, matrix_form::proofs::Passing::matrix_passed), unfolding(tree_form::specs::Asking::ask_placement))]
 pub fn ask_placement(lent: &Lent, tree: &Tree, b: usize) -> Result<(), Refusal>
-    ensures { result ≡ ask_placement lent.now.matrix.now lent.now.weights.now lent.now.n lent.now.m (ancestors tree.now) b }
+    ensures { result ≡ ask_placement (lent_lists lent.now) lent.now.n lent.now.m (ancestors tree.now) b }
 {
     lent.ask()?;
     if !one_to(lent.n, b) {
@@ -37,23 +37,17 @@ pub fn ask_placement(lent: &Lent, tree: &Tree, b: usize) -> Result<(), Refusal>
     if tree.in_tree(b) {
         return Err(Refusal::NotThere);
     }
-    if !htus_right(lent, tree) {
-        return Err(Refusal::CodeRange);
-    }
-    Ok(())
+    ask_htus(lent, tree)
 }
 
 // The questions of a finished tree: those on the matrix, whether the tree is a branching of n taxa, and the rows of its HTUs.
-#[tactic(auto, using(tree_form::proofs::Passed::branching_passed, matrix_form::proofs::Passing::matrix_passed), unfolding(crate::specs::Finished::ask_finished))]
+#[tactic(auto, using(tree_form::proofs::Passed::branching_passed, matrix_form::proofs::Passing::matrix_passed), unfolding(tree_form::specs::Asking::ask_finished))]
 pub fn ask_finished(lent: &Lent, tree: &Tree) -> Result<(), Refusal>
-    ensures { result ≡ ask_finished lent.now.matrix.now lent.now.weights.now lent.now.n lent.now.m (ancestors tree.now) }
+    ensures { result ≡ ask_finished (lent_lists lent.now) lent.now.n lent.now.m (ancestors tree.now) }
 {
     lent.ask()?;
     if !tree.is_branching(lent.n) {
         return Err(Refusal::NotBranching);
     }
-    if !htus_right(lent, tree) {
-        return Err(Refusal::CodeRange);
-    }
-    Ok(())
+    ask_htus(lent, tree)
 }

@@ -9,19 +9,18 @@ use Rattle.lists.specs.Numbers.{numbers}
 use Rattle.lists.proofs.Numbers.{numbers-within, length-numbers}
 use Rattle.lists.proofs.Maps.{map_same}
 use Rattle.lists.proofs.Sums.{sum_same, sum_most}
-use Rattle.matrix_form.specs.Shape.{in_range, weight_of}
+use Rattle.matrix_form.specs.Shape.{in_range, weight_of, state_at, MatrixLists}
 use Rattle.matrix_form.specs.NodeRows.{rows_of}
 use Rattle.matrix_form.specs.Questions.{LentMatrix, LentWeights}
 use Rattle.std.specs.List.{range_with_len, fold}
-use Rattle.difference_form.specs.Rows.{part, lower, higher}
-use Rattle.difference_form.proofs.Laws.Places.{place, everywhere, lower-place, higher-place}
+use Rattle.difference_form.specs.Rows.{part, most_part, lower, higher}
+use Rattle.difference_form.proofs.Laws.Points.{point, everywhere, lower-point, higher-point}
 use Rattle.difference_form.proofs.Laws.Weights.{part-in_range, weight_of_weight}
 use Rattle.fit_form.specs.Sets.{only}
-use Rattle.fit_form.specs.declared.spans.Span.{Span}
-use Rattle.fit_form.specs.Handing.{state_at}
+use Rattle.matrix_form.specs.declared.spans.Span.{Span}
 use Rattle.fit_form.specs.Assignments.{character}
 use Rattle.fitting.proofs.Columns.{character-code, character-known}
-use Rattle.consistency_form.specs.Floor.{lowest, highest, codes_of, character_floor, floor}
+use Rattle.consistency_form.specs.Floor.{left_by, lowest, highest, codes_of, character_floor, floor}
 use Rattle.consistency_form.specs.Calls.{lent_floor}
 use Rattle.consistency.specs.Steps.{most_floor}
 use Rattle.consistency.specs.Steps.{column, widened, ends_of, column_floors}
@@ -29,22 +28,22 @@ use Rattle.consistency_form.proofs.NeverPasses.{ends-keep}
 
 -- the ends of the code of one row are this code
 pub ends-one : (matrix : List ℤ) (j v : ℕ) → ends_of (column matrix j v 1) ≡ only (state_at matrix v j)
-unfolding column numbers lowest highest only
+unfolding column numbers left_by lowest highest only
 ends-one matrix j v = refl
 
 -- the ends of the codes of two rows or more, from those of the rows behind the first
 ends_behind : (matrix : List ℤ) (j v count : ℕ)
     → ends_of (column matrix j v (suc (suc count))) ≡ widened (state_at matrix v j) (ends_of (column matrix j (suc v) (suc count)))
-unfolding column numbers lowest highest
+unfolding column numbers left_by lowest highest
 ends_behind matrix j v count = refl
 
 -- in whichever order two codes come, the ends are the same
 widened_swap : (x y : ℤ) (ends : Span) → widened x (widened y ends) ≡ widened y (widened x ends)
 widened_swap x y ends =
     ap₂ (λ (l h : ℤ). record { low = l; high = h })
-    (everywhere (λ z. lower (z 0) (lower (z 1) (z 2)) ≡ lower (z 1) (lower (z 0) (z 2))) (λ K n. simp lower-place (ap (place K) (omega arith)))
+    (everywhere (λ z. lower (z 0) (lower (z 1) (z 2)) ≡ lower (z 1) (lower (z 0) (z 2))) (λ K n. simp lower-point (ap (point K) (omega arith)))
     (x ∷ y ∷ ends.low ∷ []))
-    (everywhere (λ z. higher (z 0) (higher (z 1) (z 2)) ≡ higher (z 1) (higher (z 0) (z 2))) (λ K n. simp higher-place (ap (place K) (omega arith)))
+    (everywhere (λ z. higher (z 0) (higher (z 1) (z 2)) ≡ higher (z 1) (higher (z 0) (z 2))) (λ K n. simp higher-point (ap (point K) (omega arith)))
     (x ∷ y ∷ ends.high ∷ []))
 
 module _ (matrix : List ℤ) (j : ℕ) where
@@ -71,50 +70,52 @@ module _ (matrix : List ℤ) (j : ℕ) where
       ∙ ap (λ u. widened (state_at matrix v j) (ends_of (column matrix j u (suc k)))) next
       ∙ sym (ends_behind matrix j v k)
 
-module _ (codes : List ℤ) (weights : List ℕ) (n m : ℕ) (lent : LentMatrix codes n m) where
+module _ (lists : MatrixLists) (n m : ℕ) (lent : LentMatrix lists.codes n m) where
   -- the rows of the taxa
   abbrev rows : List (List ℤ)
-  rows = rows_of codes m n
+  rows = rows_of lists.codes m n
 
   -- a column has the codes of the taxa in its character
-  column-codes : (j : ℕ) → 1 ≤ j → j ≤ m → column codes j 1 n ≡ codes_of rows n j
+  column-codes : (j : ℕ) → 1 ≤ j → j ≤ m → column lists.codes j 1 n ≡ codes_of rows n j
   unfolding column codes_of
   column-codes j first last =
-      map_same (λ v. state_at codes v j) (character rows j) (numbers 1 n)
+      map_same (λ v. state_at lists.codes v j) (character rows j) (numbers 1 n)
       (λ v i.
       let within = numbers-within 1 n v i in
-      sym (character-code codes n m lent v j within.0 (omega (arith, within.1)) first last))
+      sym (character-code lists.codes n m lent v j within.0 (omega (arith, within.1)) first last))
 
   -- so the sum of the columns' floors is the floor of the matrix
-  pub columns-floor : column_floors codes weights n m ≡ lent_floor codes weights n m
+  pub columns-floor : column_floors lists n m ≡ lent_floor lists n m
   unfolding column_floors floor
   columns-floor =
-      sum_same (λ j. character_floor (part (weight_of weights j)) (column codes j 1 n))
-      (λ j. character_floor (part (weight_of weights j)) (codes_of rows n j)) (numbers 1 m)
+      sum_same (λ j. character_floor (part (weight_of lists.weights j)) (column lists.codes j 1 n))
+      (λ j. character_floor (part (weight_of lists.weights j)) (codes_of rows n j)) (numbers 1 m)
       (λ j i.
       let within = numbers-within 1 m j i in
-      ap (character_floor (part (weight_of weights j))) (column-codes j within.0 (omega (arith, within.1))))
+      ap (character_floor (part (weight_of lists.weights j))) (column-codes j within.0 (omega (arith, within.1))))
 
   -- the floor of a character is at most 9 times 1998
-  character-most : LentWeights weights m → (j : ℕ) → Memᴰ j (numbers 1 m)
-      → character_floor (part (weight_of weights j)) (codes_of rows n j) ≤ 17982
+  character-most : LentWeights lists.weights m → (j : ℕ) → Memᴰ j (numbers 1 m)
+      → character_floor (part (weight_of lists.weights j)) (codes_of rows n j) ≤ most_part
   unfolding character_floor
   character-most weighed j i =
       let within = numbers-within 1 m j i in
       let last : j ≤ m = omega (arith, within.1) in
       let known : (v : ℕ) → 1 ≤ v → v ≤ n → in_range (character rows j v) ≡ true =
-      λ v p q. character-known codes n m lent v j p q within.0 last in
-      ends-keep (λ high low. part (weight_of weights j) high low ≤ 17982) rows n j lent.taxon (λ u v p q r s.
-      part-in_range (weight_of weights j) (character rows j u) (character rows j v) (weight_of_weight weights m weighed.known j within.0 last)
+      λ v p q. character-known lists.codes n m lent v j p q within.0 last in
+      ends-keep (λ high low. part (weight_of lists.weights j) high low ≤ most_part) rows n j lent.taxon (λ u v p q r s.
+      part-in_range (weight_of lists.weights j) (character rows j u) (character rows j v)
+      (weight_of_weight lists.weights m weighed.known j within.0 last)
       (known u p q) (known v r s))
 
   -- so that of a matrix is at most 128 times as much
-  pub floor-most : LentWeights weights m → lent_floor codes weights n m ≤ most_floor
+  pub floor-most : LentWeights lists.weights m → lent_floor lists n m ≤ most_floor
   unfolding floor
   floor-most weighed =
       let many = lent.characters in
       omega (
         arith,
         length-numbers 1 m,
-        sum_most (λ j. character_floor (part (weight_of weights j)) (codes_of rows n j)) 17982 (numbers 1 m) (character-most weighed),
+        sum_most (λ j. character_floor (part (weight_of lists.weights j)) (codes_of rows n j)) most_part (numbers 1 m)
+            (character-most weighed),
       )

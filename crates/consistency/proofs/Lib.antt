@@ -1,4 +1,3 @@
 -- Laws for the proofs of the functions.
 pub mod Columns
 pub mod Answered
-pub mod Limits

@@ -3,10 +3,9 @@
 use Rattle.std.specs.Prelude.{◌≡◌, List, map, ℕ, ◌^◌, ◌≤◌, ℤ, Option, None, ◌<◌}
 use Rattle.lists.specs.Numbers.{numbers}
 use Rattle.lists.specs.Sums.{sum_over}
-use Rattle.matrix_form.specs.Shape.{weight_of}
+use Rattle.matrix_form.specs.Shape.{weight_of, state_at, MatrixLists}
 use Rattle.difference_form.specs.Rows.{lower, higher, part, most_difference}
-use Rattle.fit_form.specs.Handing.{state_at}
-use Rattle.fit_form.specs.declared.spans.Span.{Span}
+use Rattle.matrix_form.specs.declared.spans.Span.{Span}
 use Rattle.consistency_form.specs.Floor.{lowest, highest, character_floor, floor}
 use Rattle.consistency_form.specs.Index.{index}
 use Rattle.consistency_form.specs.declared.index.Index.{Index}
@@ -35,8 +34,8 @@ pub record FloorIn (weight : ℕ) (matrix : List ℤ) (n j r : ℕ) : Type 0 whe
   pub most : r ≤ 2 ^ 40
 
 -- the sum of the floors of the codes of n taxa in columns 1 to m
-unfoldable pub column_floors : List ℤ → List ℕ → ℕ → ℕ → ℕ
-column_floors matrix weights n m = sum_over (λ j. character_floor (part (weight_of weights j)) (column matrix j 1 n)) (numbers 1 m)
+unfoldable pub column_floors : MatrixLists → ℕ → ℕ → ℕ
+column_floors lists n m = sum_over (λ j. character_floor (part (weight_of lists.weights j)) (column lists.codes j 1 n)) (numbers 1 m)
 
 -- the highest floor that a matrix can have: as much as two rows can differ
 abbrev pub most_floor : ℕ
@@ -48,5 +47,5 @@ pub record IndexOf (floor total : ℕ) (r : Option Index) : Type 0 where
   pub above : most_floor < floor → r ≡ None
 
 -- r is the floor of a lent matrix
-pub record FloorOf (codes : List ℤ) (weights : List ℕ) (n m r : ℕ) : Type 0 where
-  pub is : LentMatrix codes n m → r ≡ lent_floor codes weights n m
+pub record FloorOf (lists : MatrixLists) (n m r : ℕ) : Type 0 where
+  pub is : LentMatrix lists.codes n m → r ≡ lent_floor lists n m

@@ -3,6 +3,7 @@
 ghost use Rattle.std.specs.Prelude.{◌≡◌};
 ghost use Rattle.matrix_form.specs.Outcomes.{result_says};
 ghost use Rattle.consistency_form.specs.Calls.{floor_answer, index_answer};
+ghost use Rattle.matrix.specs.Lent.{lent_lists};
 
 use crate::floor::floor_of;
 use crate::index::index_of;
@@ -17,7 +18,7 @@ use tree_records::questions::ask_branching;
 
 // The floor of a lent matrix. It writes nothing.
 pub fn floor(lent: &Lent) -> Result<u64, Refusal>
-    ensures { result_says result ≡ floor_answer lent.now.matrix.now lent.now.weights.now lent.now.n lent.now.m }
+    ensures { result_says result ≡ floor_answer (lent_lists lent.now) lent.now.n lent.now.m }
 {
     lent.ask()?;
     Ok(floor_of(lent))
@@ -25,7 +26,7 @@ pub fn floor(lent: &Lent) -> Result<u64, Refusal>
 
 // The consistency index of a lent branching, by the floor of its matrix and its fitted total: none with a total of 0. It writes nothing.
 pub fn index(lent: &Lent, records: &[Branch; BRANCHES]) -> Result<Option<Index>, Refusal>
-    ensures { result_says result ≡ index_answer lent.now.matrix.now lent.now.weights.now lent.now.n lent.now.m records.now }
+    ensures { result_says result ≡ index_answer (lent_lists lent.now) lent.now.n lent.now.m records.now }
 {
     ask_branching(lent, records)?;
     let tree = tree_of(records, lent.n);

@@ -2,15 +2,16 @@
 ghost use Rattle.std.specs.Prelude.{◌≡◌, ◌≤◌};
 ghost use Rattle.consistency.specs.Steps.{FloorOf};
 ghost use Rattle.consistency.specs.Steps.{widened, EndsOf, FloorIn, column_floors};
+ghost use Rattle.matrix.specs.Lent.{lent_lists};
 
 use difference::codes::{higher, lower, part};
 use difference::nodes::Nodes;
-use fit_form::spans::Span;
-use fit_passes::characters::code_at;
 use fit_sets::spans::only;
+use matrix::codes::code_at;
 use matrix::lent::Lent;
 use matrix::questions::within_limits;
 use matrix::weights::weight_at;
+use matrix_form::spans::Span;
 
 // The ends of some codes, lowest and highest, with one code more.
 fn widened(code: i32, ends: Span) -> Span
@@ -50,7 +51,7 @@ impl<'a> Taxa<'a> {
 
     // The sum of the floors of all characters.
     fn sum_floors(&self) -> u64
-        ensures { result ≡ column_floors self.now.nodes.lent.matrix.now self.now.nodes.lent.weights.now self.now.nodes.lent.n self.now.nodes.lent.m }
+        ensures { result ≡ column_floors (lent_lists self.now.nodes.lent) self.now.nodes.lent.n self.now.nodes.lent.m }
     {
         let lent = self.nodes.lent;
         (1..lent.m + 1)
@@ -62,7 +63,7 @@ impl<'a> Taxa<'a> {
 // The floor of a lent matrix that no question refuses. It writes nothing.
 // Kept: interface, a call that could not fail still cannot: where nothing was asked it answers 0.
 pub fn floor_of(lent: &Lent) -> u64
-    ensures { FloorOf lent.now.matrix.now lent.now.weights.now lent.now.n lent.now.m result }
+    ensures { FloorOf (lent_lists lent.now) lent.now.n lent.now.m result }
 {
     if !within_limits(lent.n, lent.m) {
         return 0;

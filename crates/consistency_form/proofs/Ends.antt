@@ -15,27 +15,43 @@ use Rattle.matrix_form.specs.Shape.{weight_of}
 use Rattle.difference_form.specs.Rows.{apart, part, lower, higher, weighing}
 use Rattle.difference_form.proofs.Laws.Order.{lower-keeps, higher-keeps}
 use Rattle.difference_form.proofs.Laws.Codes.{≤ℤ-trans, lower-least, higher-most, between_ends, sub-first}
-use Rattle.consistency_form.specs.Floor.{lowest, highest, codes_of, character_floor, floor}
+use Rattle.consistency_form.specs.Floor.{left_by, lowest, highest, codes_of, character_floor, floor}
 
--- what holds of every code of a list holds of its lowest and of its highest
-module _ (P : ℤ → Type 0) where
-  -- of the lowest
-  pub lowest-keeps : (codes : List ℤ) → 1 ≤ length codes → ((code : ℤ) → Memᴰ code codes → P code) → P (lowest codes)
-  unfolding lowest
-  lowest-keeps [] some h = absurd (omega arith)
-  lowest-keeps (code ∷ []) some h = h code (Memᴰ.head refl)
-  lowest-keeps (code ∷ next ∷ codes) some h =
-      lower-keeps P code (lowest (next ∷ codes)) (h code (Memᴰ.head refl))
-      (lowest-keeps (next ∷ codes) (omega arith) (λ c i. h c (Memᴰ.tail i)))
+module _ (choose : ℤ → ℤ → ℤ) where
+  -- what holds of every code of a list holds of the one left, if of two codes of which it holds it holds of the one chosen
+  left-keeps : (P : ℤ → Type 0) → ((a b : ℤ) → P a → P b → P (choose a b)) → (codes : List ℤ) → 1 ≤ length codes
+      → ((code : ℤ) → Memᴰ code codes → P code) → P (left_by choose codes)
+  unfolding left_by
+  left-keeps P keeps [] some h = absurd (omega arith)
+  left-keeps P keeps (code ∷ []) some h = h code (Memᴰ.head refl)
+  left-keeps P keeps (code ∷ next ∷ codes) some h =
+      keeps code (left_by choose (next ∷ codes)) (h code (Memᴰ.head refl))
+      (left-keeps P keeps (next ∷ codes) (omega arith) (λ c i. h c (Memᴰ.tail i)))
 
-  -- of the highest
-  pub highest-keeps : (codes : List ℤ) → 1 ≤ length codes → ((code : ℤ) → Memᴰ code codes → P code) → P (highest codes)
-  unfolding highest
-  highest-keeps [] some h = absurd (omega arith)
-  highest-keeps (code ∷ []) some h = h code (Memᴰ.head refl)
-  highest-keeps (code ∷ next ∷ codes) some h =
-      higher-keeps P code (highest (next ∷ codes)) (h code (Memᴰ.head refl))
-      (highest-keeps (next ∷ codes) (omega arith) (λ c i. h c (Memᴰ.tail i)))
+  -- the one left is at one side of each code of the list, if the one chosen of two is at that side of both
+  left-outside : (Side : ℤ → ℤ → Type 0) → ((a : ℤ) → Side a a) → ((a b c : ℤ) → Side a b → Side b c → Side a c)
+      → ((a b : ℤ) → Side (choose a b) a × Side (choose a b) b)
+      → (codes : List ℤ) (code : ℤ) → Memᴰ code codes → Side (left_by choose codes) code
+  unfolding left_by
+  left-outside Side self over both [] code i = absurd (Memᴰ.not-nil i)
+  left-outside Side self over both (c ∷ []) code i =
+      ⊎_elim (λ e. subst (λ x. Side c x) (sym e) (self c)) (λ j. absurd (Memᴰ.not-nil j)) (Memᴰ.cases_cons i)
+  left-outside Side self over both (c ∷ next ∷ codes) code i =
+      let left = left_by choose (next ∷ codes) in
+      ⊎_elim
+      (λ e. subst (λ x. Side (choose c left) x) (sym e) (both c left).0)
+      (λ j. over (choose c left) left code (both c left).1 (left-outside Side self over both (next ∷ codes) code j))
+      (Memᴰ.cases_cons i)
+
+-- what holds of every code of a list holds of its lowest
+pub lowest-keeps : (P : ℤ → Type 0) (codes : List ℤ) → 1 ≤ length codes → ((code : ℤ) → Memᴰ code codes → P code) → P (lowest codes)
+unfolding lowest
+lowest-keeps P = left-keeps lower P (lower-keeps P)
+
+-- and of its highest
+pub highest-keeps : (P : ℤ → Type 0) (codes : List ℤ) → 1 ≤ length codes → ((code : ℤ) → Memᴰ code codes → P code) → P (highest codes)
+unfolding highest
+highest-keeps P = left-keeps higher P (higher-keeps P)
 
 -- the lowest of some codes is one of them
 pub lowest-mem : (codes : List ℤ) → 1 ≤ length codes → Memᴰ (lowest codes) codes
@@ -48,26 +64,12 @@ highest-mem codes some = highest-keeps (λ c. Memᴰ c codes) codes some (λ c i
 -- no code of a list is below its lowest
 pub lowest-least : (codes : List ℤ) (code : ℤ) → Memᴰ code codes → lowest codes ≤ℤ code
 unfolding lowest
-lowest-least [] code i = absurd (Memᴰ.not-nil i)
-lowest-least (c ∷ []) code i = ⊎_elim (λ e. subst (λ x. c ≤ℤ x) (sym e) (≤ℤ_refl c)) (λ j. absurd (Memᴰ.not-nil j)) (Memᴰ.cases_cons i)
-lowest-least (c ∷ next ∷ codes) code i =
-    let low = lower-least c (lowest (next ∷ codes)) in
-    ⊎_elim
-    (λ e. subst (λ x. lower c (lowest (next ∷ codes)) ≤ℤ x) (sym e) low.0)
-    (λ j. ≤ℤ-trans low.1 (lowest-least (next ∷ codes) code j))
-    (Memᴰ.cases_cons i)
+lowest-least = left-outside lower (λ a b. a ≤ℤ b) ≤ℤ_refl (λ a b c h k. ≤ℤ-trans h k) lower-least
 
 -- and none is above its highest
 pub highest-most : (codes : List ℤ) (code : ℤ) → Memᴰ code codes → code ≤ℤ highest codes
 unfolding highest
-highest-most [] code i = absurd (Memᴰ.not-nil i)
-highest-most (c ∷ []) code i = ⊎_elim (λ e. subst (λ x. x ≤ℤ c) (sym e) (≤ℤ_refl c)) (λ j. absurd (Memᴰ.not-nil j)) (Memᴰ.cases_cons i)
-highest-most (c ∷ next ∷ codes) code i =
-    let high = higher-most c (highest (next ∷ codes)) in
-    ⊎_elim
-    (λ e. subst (λ x. x ≤ℤ higher c (highest (next ∷ codes))) (sym e) high.0)
-    (λ j. ≤ℤ-trans (highest-most (next ∷ codes) code j) high.1)
-    (Memᴰ.cases_cons i)
+highest-most = left-outside higher (λ a b. b ≤ℤ a) ≤ℤ_refl (λ a b c h k. ≤ℤ-trans k h) higher-most
 
 -- the floor of a character is the greatest part between two taxa: none of two codes is greater
 pub widest : (w : ℕ) (codes : List ℤ) (a b : ℤ) → Memᴰ a codes → Memᴰ b codes → part w a b ≤ character_floor (part w) codes

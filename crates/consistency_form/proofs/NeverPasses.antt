@@ -2,7 +2,8 @@
 use mathlib.Core.Path.{◌≡◌, sym, subst}
 use mathlib.Core.Bool.{true}
 use mathlib.Core.Logic.{by_cases}
-use mathlib.Core.List.{List, Memᴰ}
+use mathlib.Core.List.Memᴰ
+use mathlib.Core.List.{List, map, Memᴰ}
 use Prim.Native.Nat.{ℕ, ◌≤◌}
 use native.Mathlib.Omega.{arith}
 use native.Mathlib.Decide.{dec_le}
@@ -10,16 +11,15 @@ use lib.IntN.{ℤ}
 use lib.ListN.{length}
 use Rattle.lists.specs.Numbers.{numbers}
 use Rattle.lists.proofs.Numbers.{numbers-within, length_map_numbers}
-use Rattle.lists.proofs.Maps.{map-mem}
 use Rattle.lists.proofs.Sums.{sum_le, sum_none}
 use Rattle.matrix_form.specs.Shape.{weight_of}
 use Rattle.matrix_form.specs.Questions.{are_weights}
 use Rattle.difference_form.specs.Rows.{weighing}
-use Rattle.difference_form.proofs.Laws.Weights.{part-sym, part_self, part_triangle}
+use Rattle.difference_form.proofs.Laws.Weights.{part_distance}
 use Rattle.tree_form.specs.Growing.{branching}
 use Rattle.tree_form.proofs.Test.{branching_iff}
 use Rattle.tree_form.proofs.Whole.{branching-grown}
-use Rattle.clades.proofs.Sets.Laws.{Distance}
+use Rattle.difference_form.proofs.Laws.Distance.{Distance}
 use Rattle.clades.proofs.OneCharacter.CharacterFit.{Node}
 use Rattle.clades.proofs.OneCharacter.Reach.{reach}
 use Rattle.fit_form.specs.Assignments.{character, total, IsAssignment}
@@ -28,7 +28,7 @@ use Rattle.fit_form.proofs.Clades.Built.{CladeOf, clade_of_lem}
 use Rattle.fit_form.proofs.Clades.Taxa.{node_of}
 use Rattle.fit_form.proofs.Matrix.Totals.{cost_of, total-cost}
 use Rattle.fit_form.proofs.Matrix.ThirdRival.{third_rival}
-use Rattle.consistency_form.specs.Floor.{lowest, highest, codes_of, character_floor, floor, FloorNeverPasses}
+use Rattle.consistency_form.specs.Floor.{left_by, lowest, highest, codes_of, character_floor, floor, FloorNeverPasses}
 use Rattle.consistency_form.proofs.Ends.{lowest-keeps, highest-keeps}
 
 -- the codes of the taxa in a character are as many as the taxa
@@ -45,7 +45,8 @@ ends-keep P rows n j taxon h =
     let some : 1 ≤ length codes = omega (arith, length-codes_of rows n j) in
     let at : (Q : ℤ → Type 0) → ((u : ℕ) → 1 ≤ u → u ≤ n → Q (character rows j u)) → (code : ℤ) → Memᴰ code codes → Q code =
     λ Q g code i.
-    let place = map-mem (character rows j) (numbers 1 n) code (unfold codes_of in i) in
+    let made : Memᴰ code (map (character rows j) (numbers 1 n)) = unfold codes_of in i in
+    let place = Memᴰ.of_map (character rows j) (numbers 1 n) made in
     let within = numbers-within 1 n place.0 place.1 in
     subst Q place.2 (g place.0 within.0 (omega (arith, within.1))) in
     highest-keeps (λ high. P high (lowest codes)) codes some
@@ -88,7 +89,7 @@ module _ (step : ℕ → ℤ → ℤ → ℕ) (distances : Distances step) (n m 
 
 -- the floor of row 1 alone is 0
 alone-floor : (step : ℕ → ℤ → ℤ → ℕ) → Distances step → (m : ℕ) (rows : List (List ℤ)) → floor step rows 1 m ≡ 0
-unfolding floor character_floor codes_of numbers highest lowest
+unfolding floor character_floor codes_of numbers highest lowest left_by
 alone-floor step distances m rows =
     sum_none (λ j. step j (character rows j 1) (character rows j 1)) (numbers 1 m) (λ j i. (distances j).self (character rows j 1))
 
@@ -107,11 +108,7 @@ floor-least step distances n m rows taxon = record {
 -- by any weights
 pub floor_never_passes : (weights : List ℕ) (n m : ℕ) (rows : List (List ℤ)) → 1 ≤ n → FloorNeverPasses (weighing weights).step rows n m
 floor_never_passes weights n m rows taxon =
-    floor-least (weighing weights).step (λ j. record {
-      self = part_self (weight_of weights j);
-      turned = part-sym (weight_of weights j);
-      triangle = part_triangle (weight_of weights j);
-    }) n m rows taxon
+    floor-least (weighing weights).step (λ j. part_distance (weight_of weights j)) n m rows taxon
 
 -- so it never passes the fitted total
 pub floor-fitted : (weights : List ℕ) (n m : ℕ) (tree : List ℕ) (rows : List (List ℤ)) → 1 ≤ n → are_weights weights m ≡ true

@@ -7,17 +7,19 @@ use Rattle.difference_form.specs.Rows.{lower, higher}
 use Rattle.tree_form.specs.Growing.{branching}
 use Rattle.fit_form.specs.Assignments.{character, total, IsAssignment}
 
--- the lowest of some codes; of none, 0
-unfoldable pub lowest : List ℤ → ℤ
-lowest [] = pos 0
-lowest (code ∷ []) = code
-lowest (code ∷ next ∷ codes) = lower code (lowest (next ∷ codes))
+-- what is left of some codes if of each and what is left of those behind it one is chosen; of none, 0
+unfoldable pub left_by : (ℤ → ℤ → ℤ) → List ℤ → ℤ
+left_by choose [] = pos 0
+left_by choose (code ∷ []) = code
+left_by choose (code ∷ next ∷ codes) = choose code (left_by choose (next ∷ codes))
 
--- the highest of some codes; of none, 0
+-- the lowest of some codes
+unfoldable pub lowest : List ℤ → ℤ
+lowest codes = left_by lower codes
+
+-- the highest of some codes
 unfoldable pub highest : List ℤ → ℤ
-highest [] = pos 0
-highest (code ∷ []) = code
-highest (code ∷ next ∷ codes) = higher code (highest (next ∷ codes))
+highest codes = left_by higher codes
 
 -- the codes of the n taxa in character j, row 1's first
 unfoldable pub codes_of : List (List ℤ) → ℕ → ℕ → List ℤ

@@ -2,6 +2,7 @@
 ghost use Rattle.std.specs.Prelude.{◌≡◌};
 ghost use Rattle.matrix_form.specs.Outcomes.{result_says};
 ghost use Rattle.difference_form.specs.Calls.{difference_answer, interval_answer, MediansAnswer};
+ghost use Rattle.matrix.specs.Lent.{lent_lists};
 
 use crate::nodes::Nodes;
 use crate::rows::write_medians;
@@ -12,7 +13,7 @@ use matrix_form::refusal::Refusal;
 // The difference of nodes a and b.
 #[tactic(auto, using(matrix_form::proofs::Passing::nodes_passed), unfolding(difference_form::specs::Calls::difference_answer, difference_form::specs::Rows::node_difference))]
 pub fn difference(lent: &Lent, a: usize, b: usize) -> Result<u64, Refusal>
-    ensures { result_says result ≡ difference_answer lent.now.matrix.now lent.now.weights.now lent.now.n lent.now.m a b }
+    ensures { result_says result ≡ difference_answer (lent_lists lent.now) lent.now.n lent.now.m a b }
 {
     lent.ask_nodes(&[a, b])?;
     Ok(Nodes { lent: *lent }.difference(a, b))
@@ -21,7 +22,7 @@ pub fn difference(lent: &Lent, a: usize, b: usize) -> Result<u64, Refusal>
 // The interval difference of node b from the interval between nodes c and d.
 #[tactic(auto, using(matrix_form::proofs::Passing::nodes_passed), unfolding(difference_form::specs::Calls::interval_answer))]
 pub fn interval_difference(lent: &Lent, b: usize, c: usize, d: usize) -> Result<u64, Refusal>
-    ensures { result_says result ≡ interval_answer lent.now.matrix.now lent.now.weights.now lent.now.n lent.now.m b c d }
+    ensures { result_says result ≡ interval_answer (lent_lists lent.now) lent.now.n lent.now.m b c d }
 {
     lent.ask_nodes(&[b, c, d])?;
     Ok(Nodes { lent: *lent }.interval_difference(b, c, d))
@@ -30,7 +31,7 @@ pub fn interval_difference(lent: &Lent, b: usize, c: usize, d: usize) -> Result<
 // Writes the medians of nodes a, b and c over the first m codes of a lent row of 128.
 #[tactic(auto, using(matrix_form::proofs::Passing::nodes_passed), unfolding(difference_form::specs::Calls::ask_medians))]
 pub fn medians(lent: &Lent, a: usize, b: usize, c: usize, out: &mut [i32]) -> Result<(), Refusal>
-    ensures { MediansAnswer lent.now.matrix.now lent.now.weights.now lent.now.n lent.now.m a b c out.old out.new result }
+    ensures { MediansAnswer (lent_lists lent.now) lent.now.n lent.now.m a b c out.old out.new result }
 {
     if out.len() != COLUMNS {
         return Err(Refusal::ListSize);

@@ -1,7 +1,7 @@
 // Difference, medians and interval difference of rows of any length.
 ghost use Rattle.std.specs.Prelude.{◌≡◌, ◌≤◌, ◌*◌, ◌^◌, length, take};
 ghost use Rattle.matrix_form.specs.Shape.{most_characters};
-ghost use Rattle.difference.specs.Nodes.{DifferenceOf};
+ghost use Rattle.difference.specs.Steps.{DifferenceOf};
 ghost use Rattle.lists.specs.Over.{over};
 ghost use Rattle.difference_form.specs.Rows.{difference, unweighted, medians, interval_difference};
 

@@ -1,7 +1,8 @@
 -- The laws of the definitions in specs/Rows.
 -- Crates above use these laws and never the definitions' text.
 pub mod Order
-pub mod Places
+pub mod Points
+pub mod Distance
 pub mod Codes
 pub mod Weights
 pub mod Rows

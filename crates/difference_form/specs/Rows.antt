@@ -2,7 +2,7 @@
 -- (document 02, M-101). A row is a list of whole-number codes, one for each character.
 use Rattle.std.specs.Prelude.{List, [], ◌∷◌, cond, ℕ, ◌+◌, ◌-◌, ◌*◌, ◌/◌, ℤ, ◌-ℤ◌, nat_abs, drop}
 use Rattle.std.specs.Int.Signed.{le_z}
-use Rattle.matrix_form.specs.Shape.{weight_at, weight_of}
+use Rattle.matrix_form.specs.Shape.{most_characters, highest_code, heaviest, weight_at, weight_of}
 
 -- the absolute difference of two codes
 unfoldable pub apart : ℤ → ℤ → ℕ
@@ -30,9 +30,17 @@ difference weights [] ys = 0
 difference weights (x ∷ xs) [] = 0
 difference weights (x ∷ xs) (y ∷ ys) = part (weight_at weights 0) x y + difference (drop 1 weights) xs ys
 
--- two rows that pass the questions differ by at most 128 times 9 times 1998
+-- two codes in range are at most 1998 apart
+abbrev pub most_apart : ℕ
+most_apart = 2 * highest_code
+
+-- so the part of one character is at most 9 times 1998
+abbrev pub most_part : ℕ
+most_part = heaviest * most_apart
+
+-- and two rows that pass the questions differ by at most 128 times as much
 abbrev pub most_difference : ℕ
-most_difference = 2301696
+most_difference = most_characters * most_part
 
 -- document 01's difference, without weights: the sum over characters of the absolute difference of two rows' codes
 unfoldable pub unweighted : List ℤ → List ℤ → ℕ
@@ -42,7 +50,7 @@ unweighted (x ∷ xs) (y ∷ ys) = apart x y + unweighted xs ys
 
 -- without weights two rows that pass the questions differ by at most 128 times 1998
 abbrev pub most_unweighted : ℕ
-most_unweighted = 255744
+most_unweighted = most_characters * most_apart
 
 -- how change is measured: the difference of two rows, and what one step between two states costs in character j
 pub record Measure : Type 0 where

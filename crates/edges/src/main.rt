@@ -1,14 +1,14 @@
 // Lists the files of data/cases one after another through the exported call and prints what it writes; where that is long, how many bytes
 // and their checksum. Behind each file stands how many of the lent bytes are as they were lent.
 // Before them stand calls that are lent bytes of another number than the full size.
-// A case is the length of the file and the number of bytes that are kept of it, each in three bytes, the highest first, and then these
+// A case is the length of the file and the number of bytes that are unchanged of it, each in three bytes, the highest first, and then these
 // bytes; the file goes on with `x` up to its length.
 #![tactic(auto)]
 
 ghost use Rattle.std.specs.Prelude.{◌≡◌, ◌≤◌, length, IfSome};
 
 use exports::calls::wagner_list;
-use input::{MOST_CASES, MOST_READ, kept, read_counted, read_number};
+use input::{MOST_CASES, MOST_READ, read_counted, read_number, unchanged};
 use listing::call::{OUTPUT_SIZE, list};
 use matrix::refusal::number;
 use std::io::Read;
@@ -22,8 +22,8 @@ const LENT: u8 = 255;
 const MOST_PRINTED: usize = 1500;
 
 // Prints how many of the lent bytes are as they were lent.
-fn print_kept(rt: &impl Print, lent: &[u8]) -> io::Result<()> {
-    println!(rt; "k\t{}", kept(lent, &LENT))
+fn print_unchanged(rt: &impl Print, lent: &[u8]) -> io::Result<()> {
+    println!(rt; "k\t{}", unchanged(lent, &LENT))
 }
 
 // The number below which the sums of the checksum Adler-32 stay.
@@ -52,7 +52,7 @@ fn print_text(rt: &impl Print, text: &[u8]) -> io::Result<()> {
 fn print_file(rt: &impl Print, file: &[u8], out: &mut [u8]) -> io::Result<()> {
     let length = wagner_list(file, out);
     print_text(rt, &out[..length])?;
-    print_kept(rt, out)?;
+    print_unchanged(rt, out)?;
     out.fill(LENT);
     Ok(())
 }
@@ -62,7 +62,7 @@ fn print_refused(rt: &impl Print, out: &mut [u8]) -> io::Result<()> {
     let file = b"W\t1\t1\nA\t0\n";
     let refused = list(file, out).err().map_or(0, number);
     println!(rt; "R\t{refused}\t{}", wagner_list(file, out))?;
-    print_kept(rt, out)
+    print_unchanged(rt, out)
 }
 
 // Lends few bytes, one byte less than the full size, and one more.

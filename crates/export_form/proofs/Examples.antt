@@ -14,6 +14,7 @@ use Rattle.fit_form.specs.Calls.{lists_full}
 use Rattle.export_form.specs.Orders.{is_number, order_numbered, ask_order, ask_fit_order}
 use Rattle.export_form.specs.Answers.{bytes_said, file_read, measured, indexed}
 use Rattle.export_form.specs.Calls.{ask_build}
+use Rattle.matrix_form.specs.Shape.{matrix_of}
 
 -- what comes back
 pub record Examples : Type 0 where
@@ -65,7 +66,8 @@ pub record OrderExamples : Type 0 where
       ∷ []
       ≡ Err UnknownOrder ∷ Err ListSize ∷ Err ListSize ∷ Err ListSize ∷ []
   -- the number is asked before n and m: no taxa, and an order that is not known
-  pub before_limits : ask_build (replicate 16128 (pos 0)) (replicate 128 1) 0 1 3 ∷ ask_build (replicate 16128 (pos 0)) (replicate 128 1) 0 1 2 ∷ []
+  pub before_limits : ask_build (matrix_of (replicate 16128 (pos 0)) (replicate 128 1)) 0 1 3 ∷ ask_build
+      (matrix_of (replicate 16128 (pos 0)) (replicate 128 1)) 0 1 2 ∷ []
       ≡ Err UnknownOrder ∷ Err BeyondLimits ∷ []
 
 -- they are as said

@@ -14,7 +14,7 @@ use Rattle.matrix_form.specs.Outcomes.{answered}
 use Rattle.matrix_form.specs.declared.refusal.Refusal.{Refusal}
 use Rattle.matrix_form.specs.declared.refusal.Refusal.TheVariants.{ListSize}
 use Rattle.listing_form.specs.Listing.{output}
-use Rattle.listing_form.specs.Call.{output_size, ask_output, listed_says, ListDone}
+use Rattle.listing_form.specs.Calls.{output_size, ask_output, listed_says, ListDone}
 use Rattle.listing_form.proofs.OfFiles.{output-some}
 use Rattle.export_form.specs.Answers.{bytes_said}
 use Rattle.export_form.specs.Calls.{ListExported}

@@ -13,7 +13,7 @@ use Rattle.matrix_form.specs.declared.refusal.Refusal.TheVariants.{NameForm, Nam
 use Rattle.matrix_form.specs.declared.refusal.Refusal.TheVariants.{ListSize, NotThere, NotBranching, UnknownOrder, WeightForm, BranchForm}
 use Rattle.file_form.specs.Job.{Job}
 use Rattle.file_form.specs.Reading.{read_answer}
-use Rattle.file_form.specs.Report.{ask_size, read_outcome, with_header}
+use Rattle.file_form.specs.Calls.{ask_size, read_outcome, with_header}
 use Rattle.file_form.specs.Written.{LentLists}
 use Rattle.file_form.proofs.File.Numbered.{refused_bounds}
 use Rattle.consistency_form.specs.declared.index.Index.{Index}

@@ -1,13 +1,13 @@
 -- What each exported call answers, for all inputs and refusals, and what the lent lists then hold.
 use Rattle.std.specs.Prelude.{◌≡◌, ◌↔◌, List, ◌++◌, ℕ, ◌≤◌, eqb, ℤ, length, take, drop, Ok, Err}
-use Rattle.matrix_form.specs.Shape.{row}
+use Rattle.matrix_form.specs.Shape.{row, MatrixLists}
 use Rattle.matrix_form.specs.NodeRows.{rows_of}
 use Rattle.matrix_form.specs.Outcomes.{Asked, ask, and_then, on_line, answered, asked_says, afterwards}
 use Rattle.matrix_form.specs.Questions.{ask_matrix}
 use Rattle.matrix_form.specs.declared.refusal.Refusal.TheVariants.{ListSize}
 use Rattle.difference_form.specs.Rows.{difference, node_difference, weighing}
 use Rattle.file_form.specs.Written.{LentLists}
-use Rattle.file_form.specs.Report.{with_header, read_outcome, lists_after}
+use Rattle.file_form.specs.Calls.{with_header, read_outcome, lists_after}
 use Rattle.prim_form.specs.Network.{network, network_length}
 use Rattle.tree_form.specs.LentNumbers.{lent_numbers, records_in}
 use Rattle.tree_form.specs.declared.order.Order.{Order}
@@ -19,7 +19,7 @@ use Rattle.fit_form.specs.Handing.{HandedBack}
 use Rattle.fit_form.specs.declared.whole.Fit.{Fit}
 use Rattle.consistency_form.specs.Calls.{floor_answer, index_answer}
 use Rattle.listing_form.specs.Listing.{output}
-use Rattle.listing_form.specs.Call.{ask_output}
+use Rattle.listing_form.specs.Calls.{ask_output}
 use Rattle.export_form.specs.Orders.{ask_order, ask_fit_order}
 use Rattle.export_form.specs.Answers.{bytes_said, file_read, measured, indexed}
 use Rattle.export_form.specs.declared.answers.FileRead.{FileRead}
@@ -42,50 +42,50 @@ pub record ReadExported (file : List ℕ) (old new : LentLists) (r : FileRead) :
   pub lists : new ≡ lists_after file old
 
 -- the length of the Prim Network by the weighted difference, or the refusal
-unfoldable pub network_exported : List ℤ → List ℕ → ℕ → ℕ → Measured
-network_exported codes weights n m =
+unfoldable pub network_exported : MatrixLists → ℕ → ℕ → Measured
+network_exported lists n m =
     measured
-    (answered (ask_matrix codes weights n m) (network_length (network (node_difference (difference weights) (row codes m)) n)))
+    (answered (ask_matrix lists n m) (network_length (network (node_difference (difference lists.weights) (row lists.codes m)) n)))
 
 -- the floor of a lent matrix, or the refusal
-unfoldable pub floor_exported : List ℤ → List ℕ → ℕ → ℕ → Measured
-floor_exported codes weights n m = measured (floor_answer codes weights n m)
+unfoldable pub floor_exported : MatrixLists → ℕ → ℕ → Measured
+floor_exported lists n m = measured (floor_answer lists n m)
 
 -- the consistency index of a branching that is lent as a list of numbers, or the refusal: the size of that list, then the questions on the
 -- branching
-unfoldable pub index_exported : List ℤ → List ℕ → ℕ → ℕ → List ℕ → Indexed
-index_exported codes weights n m lent =
-    indexed (on_line 0 (ask (eqb (length lent) lent_numbers) ListSize (Ok tt)) (index_answer codes weights n m (records_in lent)))
+unfoldable pub index_exported : MatrixLists → ℕ → ℕ → List ℕ → Indexed
+index_exported lists n m lent =
+    indexed (on_line 0 (ask (eqb (length lent) lent_numbers) ListSize (Ok tt)) (index_answer lists n m (records_in lent)))
 
 -- the questions of a build in an order with a number: the sizes of the matrix and of the weights, the number, then n and m, the weights
 -- and the codes
-unfoldable pub ask_build : List ℤ → List ℕ → ℕ → ℕ → ℕ → Asked
-ask_build codes weights n m number = and_then (ask_order (length codes) (length weights) number) (ask_matrix codes weights n m)
+unfoldable pub ask_build : MatrixLists → ℕ → ℕ → ℕ → Asked
+ask_build lists n m number = and_then (ask_order (length lists.codes) (length lists.weights) number) (ask_matrix lists n m)
 
 -- after questions: the length of the Wagner tree under the median codes, or the refusal; the matrix then has the rows of the HTUs, or is as
 -- before
 pub record BuildExported
     (order : Order)
     (asked : Asked)
-    (codes new : List ℤ)
-    (weights : List ℕ)
+    (lists : MatrixLists) (new : List ℤ)
     (n m : ℕ)
     (r : Measured) : Type 0 where
-  pub answers : r ≡ measured (answered asked (wagner_length (difference weights) n (wagner_in order codes weights n m)))
-  pub matrix : new ≡ afterwards (asked_says asked) (matrix_after codes n (wagner_in order codes weights n m)) codes
+  pub answers : r ≡ measured (answered asked (wagner_length (difference lists.weights) n (wagner_in order lists n m)))
+  pub matrix : new ≡ afterwards (asked_says asked) (matrix_after lists.codes n (wagner_in order lists n m)) lists.codes
 
 -- the questions of a fit of the Wagner tree: the sizes of the three lists, then those of the build
-unfoldable pub ask_wagner_fit : List ℤ → List ℕ → ℕ → ℕ → ℕ → List ℤ → List ℤ → List ℤ → Asked
-ask_wagner_fit codes weights n m number low high chosen =
-    and_then (ask_fit_order (length low) (length high) (length chosen) (length codes) (length weights) number) (ask_matrix codes weights n m)
+unfoldable pub ask_wagner_fit : MatrixLists → ℕ → ℕ → ℕ → List ℤ → List ℤ → List ℤ → Asked
+ask_wagner_fit lists n m number low high chosen =
+    and_then (ask_fit_order (length low) (length high) (length chosen) (length lists.codes) (length lists.weights) number)
+    (ask_matrix lists n m)
 
 -- a list of the matrix's shape with one of the states of each HTU of the matrix's own Wagner tree in each of m characters
-abbrev pub states_of_tree : Order → Which → List ℤ → List ℕ → ℕ → ℕ → List ℤ → List ℤ
-states_of_tree order which codes weights n m old = states_written which (wagner_in order codes weights n m).tree (rows_of codes m n) n m old
+abbrev pub states_of_tree : Order → Which → MatrixLists → ℕ → ℕ → List ℤ → List ℤ
+states_of_tree order which lists n m old = states_written which (wagner_in order lists n m).tree (rows_of lists.codes m n) n m old
 
 -- the fitted total of the matrix's own Wagner tree
-abbrev pub total_of_tree : Order → List ℤ → List ℕ → ℕ → ℕ → ℕ
-total_of_tree order codes weights n m = fitted_total (weighing weights).step (wagner_in order codes weights n m).tree (rows_of codes m n) n m
+abbrev pub total_of_tree : Order → MatrixLists → ℕ → ℕ → ℕ
+total_of_tree order lists n m = fitted_total (weighing lists.weights).step (wagner_in order lists n m).tree (rows_of lists.codes m n) n m
 
 -- after questions: the fitted total of the matrix's own Wagner tree, or the refusal; the matrix then has the rows of the HTUs, and the
 -- lists hold, in the HTUs' rows and the m columns, lowest, highest and chosen states; all else, and all on a refusal, is as before. The
@@ -93,17 +93,16 @@ total_of_tree order codes weights n m = fitted_total (weighing weights).step (wa
 pub record FitExported
     (order : Order)
     (asked : Asked)
-    (codes new : List ℤ)
-    (weights : List ℕ)
+    (lists : MatrixLists) (new : List ℤ)
     (n m : ℕ)
     (low low' high high' chosen chosen' : List ℤ)
     (r : Measured) : Type 0 where
-  pub answers : r ≡ measured (answered asked (total_of_tree order codes weights n m))
-  pub matrix : new ≡ afterwards (asked_says asked) (matrix_after codes n (wagner_in order codes weights n m)) codes
-  pub is_low : low' ≡ afterwards (asked_says asked) (states_of_tree order Low codes weights n m low) low
-  pub is_high : high' ≡ afterwards (asked_says asked) (states_of_tree order High codes weights n m high) high
-  pub is_chosen : chosen' ≡ afterwards (asked_says asked) (states_of_tree order Chosen codes weights n m chosen) chosen
+  pub answers : r ≡ measured (answered asked (total_of_tree order lists n m))
+  pub matrix : new ≡ afterwards (asked_says asked) (matrix_after lists.codes n (wagner_in order lists n m)) lists.codes
+  pub is_low : low' ≡ afterwards (asked_says asked) (states_of_tree order Low lists n m low) low
+  pub is_high : high' ≡ afterwards (asked_says asked) (states_of_tree order High lists n m high) high
+  pub is_chosen : chosen' ≡ afterwards (asked_says asked) (states_of_tree order Chosen lists n m chosen) chosen
   pub handed : asked ≡ Ok tt
       → (fit : Fit)
       × (fit.total ≡ r.length)
-      × HandedBack (weighing weights).step (wagner_in order codes weights n m).tree (rows_of codes m n) n m low' high' chosen' fit
+      × HandedBack (weighing lists.weights).step (wagner_in order lists n m).tree (rows_of lists.codes m n) n m low' high' chosen' fit

@@ -10,7 +10,7 @@ use Rattle.matrix_form.specs.Questions.{ask_matrix}
 use Rattle.matrix_form.proofs.Passing.{matrix_passes}
 use Rattle.file_form.specs.Job.{Job}
 use Rattle.file_form.specs.Reading.{read_answer}
-use Rattle.file_form.specs.Report.{ReadDone}
+use Rattle.file_form.specs.Calls.{ReadDone}
 use Rattle.file_form.specs.Written.{LentLists, job_written}
 use Rattle.file_form.specs.declared.header.Header.{Header}
 use Rattle.file_form.specs.declared.header.Kind.TheVariants.{Own}
@@ -30,6 +30,7 @@ use Rattle.rivals.proofs.Reading.{read_rows}
 use Rattle.export_form.specs.Answers.{indexed}
 use Rattle.export_form.specs.Calls.{index_exported}
 use Rattle.export_form.specs.declared.answers.Indexed.{Indexed}
+use Rattle.matrix_form.specs.Shape.{matrix_of}
 
 -- the index of a job's rows on its own branching, by lent weights
 abbrev own_index : List ℕ → Job → Indexed
@@ -44,7 +45,7 @@ pub own-indexed : (file : List ℕ) (old new : LentLists) (r : Result Header Ref
     → header.kind ≡ Own
     → (job : Job)
     × (read_answer file ≡ value job)
-    × (index_exported new.matrix new.weights header.n header.m new.branches ≡ own_index new.weights job)
+    × (index_exported (matrix_of new.matrix new.weights) header.n header.m new.branches ≡ own_index new.weights job)
 unfolding index_exported index_answer ask_branching
 own-indexed file old new r header done e own =
     let told = read_accepting file old new r header done e in
@@ -53,18 +54,18 @@ own-indexed file old new r header done e own =
     let written = job_written job old in
     let lent =
     own-lent job told.within (ap (λ (said : Header). said.kind) told.says ∙ own) old.branches sizes.3 in
-    let asked : ask_matrix written.matrix written.weights job.n job.m ≡ Ok tt =
-    (matrix_passes _ _ _ _).1
+    let asked : ask_matrix (matrix_of written.matrix written.weights) job.n job.m ≡ Ok tt =
+    (matrix_passes _ _ _).1
     (job_lent job told.within old.matrix sizes.0, job_weighed job told.within old.weights sizes.1) in
     let full = eq-eqb (length written.branches) lent_numbers (length-records_written job.ancestors old.branches ∙ sizes.3) in
-    let found : index_exported written.matrix written.weights job.n job.m written.branches ≡ own_index written.weights job =
+    let found : index_exported (matrix_of written.matrix written.weights) job.n job.m written.branches ≡ own_index written.weights job =
     rw (full, length-records_in written.branches, asked, lent.0, lent.1, read_rows job told.within old.matrix sizes.0) in (
       job,
       told.read,
-      subst (λ (said : Header). index_exported new.matrix new.weights said.n said.m new.branches ≡ own_index new.weights job)
+      subst (λ (said : Header). index_exported (matrix_of new.matrix new.weights) said.n said.m new.branches ≡ own_index new.weights job)
           told.says
           (subst
           (λ (lists : LentLists).
-          index_exported lists.matrix lists.weights job.n job.m lists.branches ≡ own_index lists.weights job)
+          index_exported (matrix_of lists.matrix lists.weights) job.n job.m lists.branches ≡ own_index lists.weights job)
           (sym told.written) found),
     )

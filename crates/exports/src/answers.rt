@@ -1,7 +1,7 @@
 // What the exported calls hand back: the number of the refusal, or 0, and what was asked for.
 ghost use Rattle.std.specs.Prelude.{◌≡◌};
 ghost use Rattle.matrix_form.specs.Outcomes.{result_says};
-ghost use Rattle.file_form.specs.Report.{read_says};
+ghost use Rattle.file_form.specs.Calls.{read_says};
 ghost use Rattle.export_form.specs.Answers.{file_read, indexed, kind_number, measured};
 
 use crate::orders::order_number;

@@ -7,6 +7,8 @@ ghost use Rattle.export_form.specs.Orders.{order_numbered};
 ghost use Rattle.export_form.specs.Answers.{measured, indexed};
 ghost use Rattle.export_form.specs.Calls.{ListExported, ReadExported, network_exported, ask_build, BuildExported};
 ghost use Rattle.export_form.specs.Calls.{ask_wagner_fit, FitExported, floor_exported, index_exported};
+ghost use Rattle.matrix_form.specs.Shape.{matrix_of};
+ghost use Rattle.matrix.specs.Lent.{lent_lists};
 
 use crate::answers::{file_read, indexed, measured};
 use crate::orders::order_asked;
@@ -49,7 +51,7 @@ pub fn wagner_read(
 // The length of the Prim Network of a lent matrix, by the weights of its characters.
 #[tactic(auto, unfolding(export_form::specs::Calls::network_exported))]
 pub fn wagner_network(matrix: &[i32], weights: &[u8], n: usize, m: usize) -> Measured
-    ensures { result ≡ network_exported matrix.now weights.now n m }
+    ensures { result ≡ network_exported (matrix_of matrix.now weights.now) n m }
 {
     let lent = Lent {
         matrix,
@@ -70,8 +72,8 @@ fn built_length(
     m: usize,
     number: u64,
 ) -> Result<u64, Refusal>
-    ensures { BuildExported (order_numbered number) (ask_build matrix.old weights.now n m number)
-        matrix.old matrix.new weights.now n m (measured (result_says result)) }
+    ensures { BuildExported (order_numbered number) (ask_build (matrix_of matrix.old weights.now) n m number)
+        (matrix_of matrix.old weights.now) matrix.new n m (measured (result_says result)) }
 {
     let order = order_asked(matrix, weights, number)?;
     let built = build(matrix, weights, n, m, order)?;
@@ -81,8 +83,8 @@ fn built_length(
 // Builds the Wagner tree of a lent matrix by the weights of its characters, in the order of placing with a number, 1 by advancement or 2
 // the closest first: the codes of the HTUs are written into their rows, and the length of the tree comes back.
 pub fn wagner_build(matrix: &mut [i32], weights: &[u8], n: usize, m: usize, order: u64) -> Measured
-    ensures { BuildExported (order_numbered order) (ask_build matrix.old weights.now n m order)
-        matrix.old matrix.new weights.now n m result }
+    ensures { BuildExported (order_numbered order) (ask_build (matrix_of matrix.old weights.now) n m order)
+        (matrix_of matrix.old weights.now) matrix.new n m result }
 {
     measured(built_length(matrix, weights, n, m, order))
 }
@@ -102,8 +104,8 @@ fn fitted_total(
     chosen: &mut [i32],
 ) -> Result<u64, Refusal>
     ensures { FitExported (order_numbered number)
-        (ask_wagner_fit matrix.old weights.now n m number low.old high.old chosen.old)
-        matrix.old matrix.new weights.now n m
+        (ask_wagner_fit (matrix_of matrix.old weights.now) n m number low.old high.old chosen.old)
+        (matrix_of matrix.old weights.now) matrix.new n m
         low.old low.new high.old high.new chosen.old chosen.new (measured (result_says result)) }
 {
     if !lists_full(low.len(), high.len(), chosen.len()) {
@@ -135,8 +137,8 @@ pub fn wagner_fit(
     chosen: &mut [i32],
 ) -> Measured
     ensures { FitExported (order_numbered order)
-        (ask_wagner_fit matrix.old weights.now n m order low.old high.old chosen.old)
-        matrix.old matrix.new weights.now n m
+        (ask_wagner_fit (matrix_of matrix.old weights.now) n m order low.old high.old chosen.old)
+        (matrix_of matrix.old weights.now) matrix.new n m
         low.old low.new high.old high.new chosen.old chosen.new result }
 {
     measured(fitted_total(matrix, weights, n, m, order, low, high, chosen))
@@ -145,7 +147,7 @@ pub fn wagner_fit(
 // The floor of a lent matrix, by the weights of its characters.
 #[tactic(auto, unfolding(export_form::specs::Calls::floor_exported))]
 pub fn wagner_floor(matrix: &[i32], weights: &[u8], n: usize, m: usize) -> Measured
-    ensures { result ≡ floor_exported matrix.now weights.now n m }
+    ensures { result ≡ floor_exported (matrix_of matrix.now weights.now) n m }
 {
     let lent = Lent {
         matrix,
@@ -159,7 +161,7 @@ pub fn wagner_floor(matrix: &[i32], weights: &[u8], n: usize, m: usize) -> Measu
 // The index of a branching that is lent as 375 numbers.
 #[tactic(auto, unfolding(export_form::specs::Calls::index_exported))]
 fn lent_index(lent: &Lent, branches: &[usize]) -> Result<Option<Index>, Refusal>
-    ensures { indexed (result_says result) ≡ index_exported lent.now.matrix.now lent.now.weights.now lent.now.n lent.now.m branches.now }
+    ensures { indexed (result_says result) ≡ index_exported (lent_lists lent.now) lent.now.n lent.now.m branches.now }
 {
     if branches.len() != LENT_NUMBERS {
         return Err(Refusal::ListSize);
@@ -176,7 +178,7 @@ pub fn wagner_index(
     m: usize,
     branches: &[usize],
 ) -> Indexed
-    ensures { result ≡ index_exported matrix.now weights.now n m branches.now }
+    ensures { result ≡ index_exported (matrix_of matrix.now weights.now) n m branches.now }
 {
     let lent = Lent {
         matrix,

@@ -7,6 +7,7 @@ ghost use Rattle.file_form.specs.Written.{lent};
 ghost use Rattle.export_form.specs.Orders.{order_numbered};
 ghost use Rattle.export_form.specs.Calls.{ListExported, ReadExported, network_exported, ask_build, BuildExported};
 ghost use Rattle.export_form.specs.Calls.{ask_wagner_fit, FitExported, floor_exported, index_exported};
+ghost use Rattle.matrix_form.specs.Shape.{matrix_of};
 
 use export_form::answers::{FileRead, Indexed, Measured};
 use exports::calls;
@@ -40,7 +41,7 @@ pub extern "C" fn wagner_read(
 // The length of the Prim Network of a lent matrix, by the weights of its characters.
 #[unsafe(no_mangle)]
 pub extern "C" fn wagner_network(matrix: &[i32], weights: &[u8], n: usize, m: usize) -> Measured
-    ensures { result ≡ network_exported matrix.now weights.now n m }
+    ensures { result ≡ network_exported (matrix_of matrix.now weights.now) n m }
 {
     calls::wagner_network(matrix, weights, n, m)
 }
@@ -55,8 +56,8 @@ pub extern "C" fn wagner_build(
     m: usize,
     order: u64,
 ) -> Measured
-    ensures { BuildExported (order_numbered order) (ask_build matrix.old weights.now n m order)
-        matrix.old matrix.new weights.now n m result }
+    ensures { BuildExported (order_numbered order) (ask_build (matrix_of matrix.old weights.now) n m order)
+        (matrix_of matrix.old weights.now) matrix.new n m result }
 {
     calls::wagner_build(matrix, weights, n, m, order)
 }
@@ -76,8 +77,8 @@ pub extern "C" fn wagner_fit(
     chosen: &mut [i32],
 ) -> Measured
     ensures { FitExported (order_numbered order)
-        (ask_wagner_fit matrix.old weights.now n m order low.old high.old chosen.old)
-        matrix.old matrix.new weights.now n m
+        (ask_wagner_fit (matrix_of matrix.old weights.now) n m order low.old high.old chosen.old)
+        (matrix_of matrix.old weights.now) matrix.new n m
         low.old low.new high.old high.new chosen.old chosen.new result }
 {
     calls::wagner_fit(matrix, weights, n, m, order, low, high, chosen)
@@ -86,7 +87,7 @@ pub extern "C" fn wagner_fit(
 // The floor of a lent matrix, by the weights of its characters.
 #[unsafe(no_mangle)]
 pub extern "C" fn wagner_floor(matrix: &[i32], weights: &[u8], n: usize, m: usize) -> Measured
-    ensures { result ≡ floor_exported matrix.now weights.now n m }
+    ensures { result ≡ floor_exported (matrix_of matrix.now weights.now) n m }
 {
     calls::wagner_floor(matrix, weights, n, m)
 }
@@ -101,7 +102,7 @@ pub extern "C" fn wagner_index(
     m: usize,
     branches: &[usize],
 ) -> Indexed
-    ensures { result ≡ index_exported matrix.now weights.now n m branches.now }
+    ensures { result ≡ index_exported (matrix_of matrix.now weights.now) n m branches.now }
 {
     calls::wagner_index(matrix, weights, n, m, branches)
 }

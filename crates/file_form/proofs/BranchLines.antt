@@ -2,3 +2,4 @@
 pub mod Form
 pub mod Passed
 pub mod Written
+pub mod Nodes

@@ -8,42 +8,44 @@ use Prim.Native.String.{String}
 use lib.IntN.{ℤ, pos, negsuc}
 use lib.ListN.{replicate}
 use Rattle.matrix_form.specs.Shape.{in_range, last_node}
-use Rattle.matrix_form.specs.Questions.{one_to, within_limits}
+use Rattle.matrix_form.specs.Questions.{one_to, within_limits, ask_code}
 use Rattle.lists.specs.Numbers.{numbers}
 use Rattle.lists.specs.Filters.{keep}
 use Rattle.tree_form.specs.Ancestors.{ancestor, descendants}
 use Rattle.tree_form.specs.Nodes.{has_ancestor, in_tree, nodes_in, other_nodes, taxa_placed}
 use Rattle.tree_form.specs.Growing.{descendant_count, descendants_wanted, climbs, row_one_alone, nodes_only, htus_in, ancestors_in, descendants_right}
 use Rattle.tree_form.specs.Growing.{all_climb, grown, growing_tree, branching}
-use Rattle.matrix_form.specs.Outcomes.{Outcome, value, refused}
+use Rattle.matrix_form.specs.Outcomes.{ask_each, Outcome, value, refused}
 use Rattle.lists.specs.Tests.{every, same_numbers as same_text}
-use Rattle.file_form.specs.Bytes.{word_advance, word_closest, is_digit, is_letter, parts_at, joined_by}
+use Rattle.file_form.specs.Bytes.{word_advance, word_closest, is_digit, is_letter, pieces_at, joined_by, piece_length, first_piece}
 use Rattle.file_form.specs.Decimal.{digits_in, digits_of, decimal, no_leading_zero, number_form, number_from, number_of, code_form, code_of}
 use Rattle.file_form.specs.Job.{Job, in_name, name_form, differs_from_all, first_text, row_text, ended, file_of}
-use Rattle.file_form.specs.Lines.{lines_of, fields_of}
+use Rattle.file_form.specs.Lines.{lines_of, fields_of, ask_lines}
 use Rattle.file_form.specs.Optional.{optional_there, optional_fields, ask_optional, optional_line}
 use Rattle.file_form.specs.Weights.{weight_form, weight_in, weights_form, weights_said}
-use Rattle.file_form.specs.Header.{is_kind, kind_said, order_in, header_in, first_form, first_line_form, is_order, order_known}
-use Rattle.file_form.specs.Header.{ask_first_line, ask_weights, ask_header}
-use Rattle.file_form.specs.Rows.{name_in, codes_in, ask_codes, ask_row, ask_rows}
-use Rattle.file_form.specs.Branches.{branch_form, ancestor_in, branch_text, branch_texts, ask_branches}
+use Rattle.file_form.specs.Kinds.{is_kind, kind_said}
+use Rattle.file_form.specs.Header.{order_in, header_in, first_form, first_line_form, is_order, order_known}
+use Rattle.file_form.specs.Header.{ask_first_line, ask_header}
+use Rattle.file_form.specs.Rows.{name_in, codes_in, ask_field, ask_codes, ask_row}
+use Rattle.file_form.specs.Branches.{branch_form, ancestor_in, branch_text, branch_texts}
 use Rattle.file_form.specs.Reading.{job_of, nothing_more, ask_end, ask_after, ask_behind, ask_file, ask_length, read_answer}
 use Rattle.file_form.specs.declared.header.Kind.TheVariants.{Wagner, Own}
 use Rattle.std.specs.Prelude.{Option, None, Some}
 use Rattle.tree_form.specs.declared.order.Order.{Order}
 use Rattle.tree_form.specs.declared.order.Order.TheVariants.{Advance, Closest}
 use Rattle.file_form.specs.Text.{bytes}
-use Rattle.file_form.specs.Written.{padded, matrix_written, weights_written, names_written}
+use Rattle.file_form.specs.Written.{padded, matrix_written, weights_written, names_written, name_bytes, names_in}
 use Rattle.lists.specs.Over.{over, stripes}
 use Rattle.lists.specs.Filled.{filled}
 
 -- a file of these bytes, read
 unfoldable pub read : List ℕ → Outcome Job
-unfolding in_range last_node within_limits one_to every is_digit is_letter same_text parts_at digits_in digits_of no_leading_zero number_form number_from
+unfolding in_range last_node within_limits one_to every is_digit is_letter same_text pieces_at digits_in digits_of no_leading_zero number_form number_from
     number_of code_form code_of in_name name_form differs_from_all lines_of fields_of order_in header_in name_in codes_in job_of first_form first_line_form
-    is_order order_known ask_first_line optional_there optional_fields ask_optional weight_form weight_in weights_form weights_said ask_weights
-    ask_header ask_codes ask_row ask_rows is_kind kind_said branch_form ancestor_in ask_branches ancestor has_ancestor in_tree nodes_in other_nodes keep
-    numbers taxa_placed descendants descendant_count descendants_wanted climbs row_one_alone nodes_only htus_in ancestors_in descendants_right all_climb
+    is_order order_known ask_first_line optional_there optional_fields ask_optional weight_form weight_in weights_form weights_said
+    ask_header ask_each ask_code ask_field ask_codes ask_row ask_lines is_kind kind_said branch_form ancestor_in ancestor has_ancestor
+    in_tree nodes_in other_nodes keep
+    numbers taxa_placed descendants descendant_count descendants_wanted climbs row_one_alone nodes_only htus_in ancestors_in descendants_right all_climb filled
     grown growing_tree branching nothing_more ask_end ask_after ask_behind ask_file ask_length read_answer
 read file = read_answer file
 
@@ -56,11 +58,7 @@ read_text text = read (bytes text)
 example_job : Option Order → Bool → List ℕ → Job
 example_job order weighed weights =
     record {
-      kind = Wagner;
-      n = 4;
-      m = 3;
-      order = order;
-      weighed = weighed;
+      header = record { kind = Wagner; n = 4; m = 3; order = order; weighed = weighed };
       weights = weights;
       names = (65 ∷ []) ∷ (66 ∷ []) ∷ (67 ∷ []) ∷ (68 ∷ []) ∷ [];
       rows = (pos 0 ∷ pos 0 ∷ pos 0 ∷ []) ∷ (pos 2 ∷ pos 1 ∷ pos 0 ∷ []) ∷ (pos 2 ∷ pos 3 ∷ pos 1 ∷ [])
@@ -108,11 +106,7 @@ one-taxon : List ℕ → ℤ → Bool → ℕ → Outcome Job
 one-taxon name code weighed weight =
     value
     (record {
-      kind = Wagner;
-      n = 1;
-      m = 1;
-      order = None;
-      weighed = weighed;
+      header = record { kind = Wagner; n = 1; m = 1; order = None; weighed = weighed };
       weights = weight ∷ [];
       names = name ∷ [];
       rows = (code ∷ []) ∷ [];
@@ -220,11 +214,7 @@ counted =
 own_job : Job
 own_job =
     record {
-      kind = Own;
-      n = 3;
-      m = 1;
-      order = None;
-      weighed = false;
+      header = record { kind = Own; n = 3; m = 1; order = None; weighed = false };
       weights = 1 ∷ [];
       names = (65 ∷ []) ∷ (66 ∷ []) ∷ (67 ∷ []) ∷ [];
       rows = (pos 0 ∷ []) ∷ (pos 2 ∷ []) ∷ (pos 5 ∷ []) ∷ [];
@@ -236,11 +226,7 @@ own-taxon : Bool → ℕ → Outcome Job
 own-taxon weighed weight =
     value
     (record {
-      kind = Own;
-      n = 1;
-      m = 1;
-      order = None;
-      weighed = weighed;
+      header = record { kind = Own; n = 1; m = 1; order = None; weighed = weighed };
       weights = weight ∷ [];
       names = (65 ∷ []) ∷ [];
       rows = (pos 0 ∷ []) ∷ [];
@@ -355,11 +341,7 @@ alike : ℕ → Job
 unfolding digits_in digits_of numbers
 alike n =
     record {
-      kind = Wagner;
-      n = n;
-      m = 1;
-      order = None;
-      weighed = false;
+      header = record { kind = Wagner; n = n; m = 1; order = None; weighed = false };
       weights = 1 ∷ [];
       names = map (λ k. 116 ∷ digits_of k) (numbers 1 n);
       rows = replicate n (pos 0 ∷ []);
@@ -397,6 +379,11 @@ two_names : names_written ((65 ∷ []) ∷ (66 ∷ 67 ∷ []) ∷ []) (replicate
     ≡ 65 ∷ replicate 15 0 ++ 66 ∷ 67 ∷ replicate 14 0 ++ replicate 2 9
 unfolding over stripes filled
 two_names = refl
+
+-- and read back
+two_names_back : names_in 2 (names_written ((65 ∷ []) ∷ (66 ∷ 67 ∷ []) ∷ []) (replicate 34 9)) ≡ (65 ∷ []) ∷ (66 ∷ 67 ∷ []) ∷ []
+unfolding over stripes filled names_in name_bytes first_piece piece_length numbers
+two_names_back = refl
 
 -- weights written into a list: over its front, and behind them all as before
 three_weights : weights_written (1 ∷ 9 ∷ 3 ∷ []) (replicate 5 7) ≡ 1 ∷ 9 ∷ 3 ∷ 7 ∷ 7 ∷ []

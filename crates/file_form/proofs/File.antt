@@ -1,8 +1,8 @@
 -- A whole file: what passes the questions, and the file of a job.
 pub mod Outcomes
+pub mod InTurn
 pub mod OptionalLine
 pub mod WeightFields
-pub mod FileLength
 pub mod HeaderRead
 pub mod FileOfRead
 pub mod ReadOfFile

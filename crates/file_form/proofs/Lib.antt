@@ -7,3 +7,4 @@ pub mod File
 pub mod Examples
 pub mod Lists
 pub mod ReadExamples
+mod OptionalExamples

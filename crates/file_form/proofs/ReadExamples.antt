@@ -19,7 +19,7 @@ use Rattle.file_form.specs.Text.{bytes}
 use Rattle.file_form.specs.Reading.{job_in}
 use Rattle.file_form.specs.Written.{LentLists, lent}
 use Rattle.file_form.proofs.Examples.{read}
-use Rattle.file_form.specs.Report.{read_says, with_header, full_size, ask_size, read_outcome, lists_after}
+use Rattle.file_form.specs.Calls.{read_says, with_header, full_size, ask_size, read_outcome, lists_after}
 
 -- what an answer says: a header, and a refusal with its line
 accepted_says :
@@ -84,6 +84,6 @@ unfolding after sevens bytes zip_with numbers
 none-handed = refl
 
 -- and a file that is refused by 14 leaves all lists as they were
-kept_by_fourteen : after "F\t2\t1\nA\t0\nB\t1\nC\t2\t2\n" ≡ sevens
+unchanged_by_fourteen : after "F\t2\t1\nA\t0\nB\t1\nC\t2\t2\n" ≡ sevens
 unfolding after sevens bytes
-kept_by_fourteen = refl
+unchanged_by_fourteen = refl

@@ -1,4 +1,4 @@
--- Texts: parts at a separator, the first part, plain bytes, the fields of a line; and all these in std's words on slices.
+-- Texts: pieces at a separator, the first piece, plain bytes, the fields of a line; and all these in std's words on slices.
 pub mod Parts
 pub mod FirstPart
 pub mod Plain

@@ -1,26 +1,24 @@
 -- The branching of a file (document 02, M-103): how many `C` lines there are, how they are written, which form is right, what they say,
 -- and the questions put to them (17 of each line, and 14 of the branching).
 use mathlib.Core.List.{List, [], ◌∷◌, zip_with}
-use Rattle.std.specs.Prelude.{Bool, true, ◌&&◌, ℕ, zero, suc, ◌-◌, ◌*◌, eqb, length, get_or}
+use Rattle.std.specs.Prelude.{Bool, true, ◌&&◌, cond, ℕ, ◌+◌, ◌-◌, ◌*◌, eqb, length, get_or}
 use Rattle.lists.specs.Numbers.{numbers}
 use Rattle.lists.specs.Tests.{same_numbers as same_text}
-use Rattle.matrix_form.specs.Outcomes.{ask, Outcome, refused, on_line}
-use Rattle.matrix_form.specs.Refusals.{refusal_number}
+use Rattle.matrix_form.specs.Outcomes.{ask}
 use Rattle.matrix_form.specs.declared.refusal.Refusal.TheVariants.{NotBranching, BranchForm}
 use Rattle.matrix_form.specs.Outcomes.{Asked}
 use Rattle.std.specs.Prelude.{Ok}
 use Rattle.tree_form.specs.Ancestors.{tree_with}
 use Rattle.tree_form.specs.Growing.{branching}
 use Rattle.file_form.specs.declared.header.Kind.{Kind}
-use Rattle.file_form.specs.declared.header.Kind.TheVariants.{Wagner, Own}
 use Rattle.file_form.specs.Bytes.{tab, word_c, joined_by}
 use Rattle.file_form.specs.Decimal.{digits_of, number_form, number_of}
-use Rattle.file_form.specs.Lines.{fields_of}
+use Rattle.file_form.specs.Kinds.{kind_form}
+use Rattle.file_form.specs.Lines.{fields_of, LineSort}
 
--- how many `C` lines there are: in an `F` file one for each node from 2 to 2n-2, in a `W` file none
+-- how many `C` lines there are: in a file with a branching of its own one for each node from 2 to 2n-2, else none
 abbrev pub branch_count : Kind → ℕ → ℕ
-branch_count Wagner n = 0
-branch_count Own n = 2 * n - 3
+branch_count kind n = cond (kind_form kind).branched (2 * n - 3) 0
 
 -- the `C` line of node v has three fields: `C`, the number v, and a number
 unfoldable pub branch_form : ℕ → List (List ℕ) → Bool
@@ -40,19 +38,17 @@ branch_text v above = joined_by tab (word_c ∷ digits_of v ∷ digits_of above 
 unfoldable pub branch_texts : List ℕ → List (List ℕ)
 branch_texts ancestors = zip_with branch_text (numbers 2 (length ancestors)) ancestors
 
--- for each node in turn, node v in this line of the file: is there another line, ended by a line feed, and is it the node's? when no node
--- is left: what follows, with the number of the next line and the lines left
-unfoldable pub ask_branches : {A : Type 0} → ℕ → ℕ → ℕ → List (List ℕ) → (ℕ → List (List ℕ) → Outcome A) → Outcome A
-ask_branches line v zero lines follow = follow line lines
-ask_branches line v (suc left) [] follow = refused (refusal_number BranchForm) line
-ask_branches line v (suc left) (behind ∷ []) follow = refused (refusal_number BranchForm) line
-ask_branches line v (suc left) (text ∷ next ∷ lines) follow =
-    on_line line (ask (branch_form v (fields_of text)) BranchForm (Ok tt)) (ask_branches (suc line) (suc v) left (next ∷ lines) follow)
+-- the `C` lines of nodes 2, 3, ..: each is that of its node
+abbrev pub branch_sort : LineSort
+branch_sort =
+    record {
+      missing = BranchForm;
+      asks = λ earlier line. ask (branch_form (length earlier + 2) (fields_of line)) BranchForm (Ok tt);
+    }
 
--- the immediate ancestors of nodes 2, 3, .. are a branching of n taxa; a `W` file has none to ask for
+-- the immediate ancestors of nodes 2, 3, .. are a branching of n taxa; where a file brings none there is none to ask for
 abbrev pub branched : Kind → ℕ → List ℕ → Bool
-branched Wagner n ancestors = true
-branched Own n ancestors = branching n (tree_with ancestors)
+branched kind n ancestors = cond (kind_form kind).branched (branching n (tree_with ancestors)) true
 
 -- the question whether they are
 abbrev pub ask_tree : Kind → ℕ → List ℕ → Asked

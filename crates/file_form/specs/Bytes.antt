@@ -45,33 +45,33 @@ is_digit byte = leb 48 byte && leb byte 57
 unfoldable pub is_letter : ℕ → Bool
 is_letter byte = (leb 65 byte && leb byte 90) || (leb 97 byte && leb byte 122)
 
--- a byte put in front of the first part (of a text's parts there is always one)
+-- a byte put in front of the first piece (of a text's pieces there is always one)
 abbrev pub before_first : ℕ → List (List ℕ) → List (List ℕ)
 before_first byte [] = (byte ∷ []) ∷ []
-before_first byte (part ∷ parts) = (byte ∷ part) ∷ parts
+before_first byte (piece ∷ pieces) = (byte ∷ piece) ∷ pieces
 
--- a text parted at each separator: one part more than it has separators
-unfoldable pub parts_at : ℕ → List ℕ → List (List ℕ)
-parts_at separator [] = [] ∷ []
-parts_at separator (byte ∷ bytes) =
-    let rest = parts_at separator bytes in
+-- a text parted at each separator: one piece more than it has separators
+unfoldable pub pieces_at : ℕ → List ℕ → List (List ℕ)
+pieces_at separator [] = [] ∷ []
+pieces_at separator (byte ∷ bytes) =
+    let rest = pieces_at separator bytes in
     elim (eqb byte separator) [ true ↦ [] ∷ rest | false ↦ before_first byte rest ]
 
--- the length of a text's first part: the place of the first separator, or the text's length where there is none
-unfoldable pub part_length : ℕ → List ℕ → ℕ
-part_length separator [] = 0
-part_length separator (byte ∷ bytes) = cond (eqb byte separator) 0 (suc (part_length separator bytes))
+-- the length of a text's first piece: the index of the first separator, or the text's length where there is none
+unfoldable pub piece_length : ℕ → List ℕ → ℕ
+piece_length separator [] = 0
+piece_length separator (byte ∷ bytes) = cond (eqb byte separator) 0 (suc (piece_length separator bytes))
 
--- the first part of a text
-unfoldable pub first_part : ℕ → List ℕ → List ℕ
-first_part separator text = take (part_length separator text) text
+-- the first piece of a text
+unfoldable pub first_piece : ℕ → List ℕ → List ℕ
+first_piece separator text = take (piece_length separator text) text
 
 -- what stands behind the first separator of a text: nothing where there is none
-unfoldable pub behind_part : ℕ → List ℕ → List ℕ
-behind_part separator text = drop (suc (part_length separator text)) text
+unfoldable pub behind_piece : ℕ → List ℕ → List ℕ
+behind_piece separator text = drop (suc (piece_length separator text)) text
 
--- parts put together, with one separator between two of them
+-- pieces put together, with one separator between two of them
 unfoldable pub joined_by : ℕ → List (List ℕ) → List ℕ
 joined_by separator [] = []
-joined_by separator (part ∷ []) = part
-joined_by separator (part ∷ next ∷ parts) = part ++ separator ∷ joined_by separator (next ∷ parts)
+joined_by separator (piece ∷ []) = piece
+joined_by separator (piece ∷ next ∷ pieces) = piece ++ separator ∷ joined_by separator (next ∷ pieces)

@@ -4,33 +4,26 @@ use Rattle.std.specs.Prelude.{List, [], ◌∷◌, Bool, false, ◌&&◌, ◌||�
 use Rattle.lists.specs.Tests.{every, same_numbers as same_text}
 use Rattle.matrix_form.specs.Outcomes.{ask, Outcome, value, on_line}
 use Rattle.matrix_form.specs.Questions.{within_limits}
-use Rattle.matrix_form.specs.declared.refusal.Refusal.TheVariants.{FirstLine, UnknownOrder, BeyondLimits, WeightForm}
+use Rattle.matrix_form.specs.declared.refusal.Refusal.TheVariants.{FirstLine, UnknownOrder, BeyondLimits}
 use Rattle.matrix_form.specs.Outcomes.{Asked}
 use Rattle.std.specs.Prelude.{Ok}
 use Rattle.file_form.specs.declared.header.Header.{Header}
-use Rattle.file_form.specs.declared.header.Kind.{Kind}
-use Rattle.file_form.specs.declared.header.Kind.TheVariants.{Wagner, Own}
 use Rattle.tree_form.specs.declared.order.Order.{Order}
 use Rattle.tree_form.specs.declared.order.Order.TheVariants.{Advance, Closest}
-use Rattle.file_form.specs.Bytes.{word_w, word_f, word_advance, word_closest}
+use Rattle.file_form.specs.Bytes.{word_advance, word_closest}
 use Rattle.file_form.specs.Decimal.{number_form, number_of}
-use Rattle.file_form.specs.Job.{Job}
-use Rattle.file_form.specs.Optional.{optional_there, optional_fields, ask_optional, lines_taken}
-use Rattle.file_form.specs.Weights.{letter_v, weights_form}
+use Rattle.file_form.specs.Kinds.{kind_form, is_kind, kind_said}
+use Rattle.file_form.specs.Optional.{Optional, all_there, all_taken, ask_optionals}
+use Rattle.file_form.specs.Weights.{weight_optional}
 use Rattle.file_form.specs.Lines.{fields_of}
 
--- one of the two words with which line 1 begins
-unfoldable pub is_kind : List ℕ → Bool
-is_kind word = same_text word word_w || same_text word word_f
+-- the optional lines of a header, in their order
+abbrev pub optional_lines : List Optional
+optional_lines = weight_optional ∷ []
 
--- the kind that such a word says
-unfoldable pub kind_said : List ℕ → Kind
-kind_said word = cond (same_text word word_f) Own Wagner
-
--- how many fields line 1 of a kind has at most: a word for the order stands in a `W` file alone
-abbrev pub most_fields : Kind → ℕ
-most_fields Wagner = 4
-most_fields Own = 3
+-- which of them are there, as a header says it
+abbrev pub lines_there : Header → List Bool
+lines_there header = header.weighed ∷ []
 
 -- the word for the order that a field says, if it is one
 abbrev pub order_word : List ℕ → Option Order
@@ -46,7 +39,7 @@ unfoldable pub order_in : List (List ℕ) → Option Order
 order_in fields = order_said (drop 3 fields)
 
 -- what the fields of line 1 say: the first is the word of the kind, n is the second, m the third, and a fourth is the word for the order;
--- and whether the lines behind it begin with a `V` line
+-- and which optional lines stand behind it
 abbrev pub header_from : List (List ℕ) → List (List ℕ) → Header
 header_from fields behind =
     record {
@@ -54,7 +47,7 @@ header_from fields behind =
       n = number_of (get_or fields 1 []);
       m = number_of (get_or fields 2 []);
       order = order_in fields;
-      weighed = optional_there letter_v behind;
+      weighed = get_or (all_there (kind_said (get_or fields 0 [])) optional_lines behind) 0 false;
     }
 
 -- the fields of line 1
@@ -65,13 +58,9 @@ first_fields lines = fields_of (get_or lines 0 [])
 unfoldable pub header_in : List (List ℕ) → Header
 header_in lines = header_from (first_fields lines) (drop 1 lines)
 
--- the header of a job
-abbrev pub header_of : Job → Header
-header_of job = record { kind = job.kind; n = job.n; m = job.m; order = job.order; weighed = job.weighed }
-
--- how many lines a header takes: line 1, and the `V` line if there is one
+-- how many lines a header takes: line 1, and the optional lines that are there
 abbrev pub header_lines : Header → ℕ
-header_lines header = suc (lines_taken header.weighed)
+header_lines header = suc (all_taken (lines_there header))
 
 -- the number of the line of row k, counted from 1
 abbrev pub row_line : Header → ℕ → ℕ
@@ -81,10 +70,10 @@ row_line header k = header_lines header + k
 abbrev pub behind_header : Header → List (List ℕ) → List (List ℕ)
 behind_header header lines = drop (header_lines header) lines
 
--- three fields, and in a `W` file perhaps a fourth: the first is `W` or `F` and the next two are numbers
+-- three fields, and perhaps a fourth where the kind allows it: the first is the word of a kind, and the next two are numbers
 unfoldable pub first_form : List (List ℕ) → Bool
 first_form fields =
-    (leb 3 (length fields) && leb (length fields) (most_fields (kind_said (get_or fields 0 []))))
+    (leb 3 (length fields) && leb (length fields) (kind_form (kind_said (get_or fields 0 []))).most_fields)
     && (is_kind (get_or fields 0 []) && (number_form (get_or fields 1 []) && number_form (get_or fields 2 [])))
 
 -- line 1 is ended by a line feed and has the right form
@@ -108,10 +97,8 @@ ask_first_line lines =
     (ask (order_known (first_fields lines)) UnknownOrder
     (ask (within_limits (header_in lines).n (header_in lines).m) BeyondLimits (Ok tt)))
 
--- the question put to the `V` line, the first of the lines behind line 1: if it is there, is it well formed?
-unfoldable pub ask_weights : Header → List (List ℕ) → Asked
-ask_weights header behind = ask_optional header.weighed (weights_form header.m (optional_fields behind)) WeightForm behind
-
--- the header of a file's lines, if its questions pass
+-- the header of a file's lines, if its questions pass: those put to line 1, and those put to the optional lines from line 2 on
 unfoldable pub ask_header : List (List ℕ) → Outcome Header
-ask_header lines = on_line 1 (ask_first_line lines) (on_line 2 (ask_weights (header_in lines) (drop 1 lines)) (value (header_in lines)))
+ask_header lines =
+    let header = header_in lines in
+    on_line 1 (ask_first_line lines) (ask_optionals header.m optional_lines (lines_there header) 2 (drop 1 lines) (value header))

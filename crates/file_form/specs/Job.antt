@@ -1,29 +1,27 @@
--- A job, what a matrix file says: its kind, n taxa, m characters, the word for the order of placing, the weights, the names, the codes and
--- the branching; its limits; and the one file that says it (document 01, "The matrix file"; document 02, M-100, M-101 and M-103).
-use Rattle.std.specs.Prelude.{◌≡◌, Bool, true, false, ◌&&◌, ◌||◌, not, ℕ, leb, eqb, ℤ, length, replicate, Option, None, Some}
+-- A job, what a matrix file says: its header, the weights, the names, the codes and the branching; its limits; and the one file that says
+-- it (document 01, "The matrix file"; document 02, M-100, M-101 and M-103).
+use Rattle.std.specs.Prelude.{◌≡◌, ◌≤◌, ◌+◌, Bool, true, false, ◌&&◌, ◌||◌, not, ℕ, leb, eqb, ℤ, length, replicate, Option, None, Some}
 use mathlib.Core.List.{List, [], ◌∷◌, ◌++◌, map, zip_with}
 use Rattle.matrix_form.specs.Shape.{is_weight}
 use Rattle.matrix_form.specs.Questions.{within_limits, all_in_range}
 use Rattle.lists.specs.Tests.{every, same_numbers as same_text}
-use Rattle.file_form.specs.Bytes.{tab, line_feed, underscore, word_w, word_f, word_advance, word_closest, is_digit, is_letter, joined_by}
+use Rattle.file_form.specs.Bytes.{tab, line_feed, underscore, word_advance, word_closest, is_digit, is_letter, joined_by}
 use Rattle.file_form.specs.Decimal.{digits_of, decimal}
 use Rattle.file_form.specs.Optional.{optional_line, letter_free}
 use Rattle.file_form.specs.Weights.{letter_v, weight_text}
 use Rattle.file_form.specs.Branches.{branch_count, branch_texts, branched}
-use Rattle.file_form.specs.declared.header.Kind.{Kind}
-use Rattle.file_form.specs.declared.header.Kind.TheVariants.{Wagner, Own}
+use Rattle.file_form.specs.declared.header.Header.{Header}
+use Rattle.file_form.specs.Kinds.{kind_form}
 use Rattle.tree_form.specs.declared.order.Order.{Order}
 use Rattle.tree_form.specs.declared.order.Order.TheVariants.{Advance, Closest}
 
--- the kind of the file; n taxa, m characters; the word that line 1 carries for the order of placing, if any; whether there is a `V` line,
--- and the weights, by character; names and rows of codes stand by row, row 1 first; in an `F` file the immediate ancestors of the other
--- nodes stand by node, node 2 first
+-- the header: the kind of the file, n taxa, m characters, the word that line 1 carries for the order of placing, if any, and whether there
+-- is a `V` line (`job.n` is `job.header.n`, and so on); the weights, by character; names and rows of codes stand by row, row 1 first; in
+-- an `F` file the immediate ancestors of the other nodes stand by node, node 2 first. What can be written in two ways, as weights that are
+-- all 1 with or without a `V` line, a job says: so its file is one
 pub record Job : Type 0 where
-  pub kind : Kind
-  pub n : ℕ
-  pub m : ℕ
-  pub order : Option Order
-  pub weighed : Bool
+  pub header : Header
+  pub open header use *
   pub weights : List ℕ
   pub names : List (List ℕ)
   pub rows : List (List ℤ)
@@ -56,30 +54,6 @@ all_differ (name ∷ names) = differs_from_all name names && all_differ names
 unfoldable pub has_codes : ℕ → List ℤ → Bool
 has_codes m codes = eqb (length codes) m
 
--- a job within the limits: n is 1 to 64 and m is 1 to 128; an `F` file has no word for the order; m weights from 1 to 9, without a `V` line
--- all of them 1; n names, well formed and all different, and without a `V` line row 1 is not named `V`; n rows of m codes, each from -999
--- to 999; in an `F` file an ancestor for each node from 2 to 2n-2, and these are a branching, in a `W` file none
-pub record JobWithinLimits (job : Job) : Type 0 where
-  pub limits : within_limits job.n job.m ≡ true
-  pub order_unsaid : job.kind ≡ Own → job.order ≡ None
-  pub weight_count : length job.weights ≡ job.m
-  pub weights_known : every is_weight job.weights ≡ true
-  pub weights_unsaid : job.weighed ≡ false → job.weights ≡ replicate job.m 1
-  pub name_count : length job.names ≡ job.n
-  pub names_formed : every name_form job.names ≡ true
-  pub names_differ : all_differ job.names ≡ true
-  pub name_free : letter_free job.weighed letter_v job.names ≡ true
-  pub row_count : length job.rows ≡ job.n
-  pub rows_full : every (has_codes job.m) job.rows ≡ true
-  pub codes_in_range : every all_in_range job.rows ≡ true
-  pub branches_counted : length job.ancestors ≡ branch_count job.kind job.n
-  pub branching_said : branched job.kind job.n job.ancestors ≡ true
-
--- the word of a kind
-abbrev pub kind_word : Kind → List ℕ
-kind_word Wagner = word_w
-kind_word Own = word_f
-
 -- the field for the order of placing: none, or its word
 abbrev pub order_fields : Option Order → List (List ℕ)
 order_fields None = []
@@ -88,7 +62,7 @@ order_fields (Some Closest) = word_closest ∷ []
 
 -- line 1: the word of the kind, n, m, and the word for the order, if any
 unfoldable pub first_text : Job → List ℕ
-first_text job = joined_by tab (kind_word job.kind ∷ digits_of job.n ∷ digits_of job.m ∷ order_fields job.order)
+first_text job = joined_by tab ((kind_form job.kind).word ∷ digits_of job.n ∷ digits_of job.m ∷ order_fields job.order)
 
 -- the `V` line, if there is one: the weights
 abbrev pub weight_line : Job → List (List ℕ)
@@ -110,3 +84,28 @@ ended (line ∷ lines) = line ++ line_feed ∷ ended lines
 -- the one file that says a job: line 1, the `V` line, if any, the rows, and the `C` lines of an `F` file
 unfoldable pub file_of : Job → List ℕ
 file_of job = ended (first_text job ∷ weight_line job ++ (row_texts job ++ branch_texts job.ancestors))
+
+-- a file has at most 45,000 bytes
+abbrev pub most_bytes : ℕ
+most_bytes = 45000
+
+-- a job within the limits: n is 1 to 64 and m is 1 to 128; line 1 has no more fields than its kind allows, so that an `F` file has no word
+-- for the order; m weights from 1 to 9, without a `V` line all of them 1; n names, well formed and all different, and without a `V` line
+-- row 1 is not named `V`; n rows of m codes, each from -999 to 999; in an `F` file an ancestor for each node from 2 to 2n-2, and these are
+-- a branching, in a `W` file none; and its file is not too long
+pub record JobWithinLimits (job : Job) : Type 0 where
+  pub limits : within_limits job.n job.m ≡ true
+  pub order_fits : 3 + length (order_fields job.order) ≤ (kind_form job.kind).most_fields
+  pub weight_count : length job.weights ≡ job.m
+  pub weights_known : every is_weight job.weights ≡ true
+  pub weights_unsaid : job.weighed ≡ false → job.weights ≡ replicate job.m 1
+  pub name_count : length job.names ≡ job.n
+  pub names_formed : every name_form job.names ≡ true
+  pub names_differ : all_differ job.names ≡ true
+  pub name_free : letter_free job.weighed letter_v job.names ≡ true
+  pub row_count : length job.rows ≡ job.n
+  pub rows_full : every (has_codes job.m) job.rows ≡ true
+  pub codes_in_range : every all_in_range job.rows ≡ true
+  pub branches_counted : length job.ancestors ≡ branch_count job.kind job.n
+  pub branching_said : branched job.kind job.n job.ancestors ≡ true
+  pub short : length (file_of job) ≤ most_bytes

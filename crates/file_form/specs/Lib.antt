@@ -7,6 +7,7 @@
 pub mod Bytes
 pub mod Decimal
 pub mod Lines
+pub mod Kinds
 pub mod Optional
 pub mod Weights
 pub mod Branches
@@ -17,4 +18,4 @@ pub mod Reading
 pub mod Written
 pub mod Formed
 pub mod Text
-pub mod Report
+pub mod Calls

@@ -1,13 +1,23 @@
--- An optional line of the header, by its letter: when it is there, the question put to it, how many lines it takes, and how it is written.
--- It is looked for once, at its own place: `lines` are those from that place on (document 02, M-101: `V`).
-use Rattle.std.specs.Prelude.{List, [], ◌∷◌, Bool, true, false, ◌&&◌, ◌||◌, not, ℕ, leb, length, get_or, drop}
+-- The optional lines of the header, each known by its letter: which files may have it, when it is there, the question put to it, how many
+-- lines are taken, and how it is written. Each is looked for once, at its own place: `lines` are those from that index on (document 02,
+-- M-101: `V`).
+use Rattle.std.specs.Prelude.{List, [], ◌∷◌, Bool, true, false, ◌&&◌, ◌||◌, not, ℕ, ◌+◌, leb, length, get_or, drop}
 use Rattle.lists.specs.Tests.{same_numbers as same_text}
-use Rattle.matrix_form.specs.Outcomes.{ask}
+use Rattle.matrix_form.specs.Outcomes.{ask, Outcome, on_line}
 use Rattle.matrix_form.specs.declared.refusal.Refusal.{Refusal}
 use Rattle.matrix_form.specs.Outcomes.{Asked}
 use Rattle.std.specs.Prelude.{Ok}
+use Rattle.file_form.specs.declared.header.Kind.{Kind}
 use Rattle.file_form.specs.Bytes.{tab, joined_by}
 use Rattle.file_form.specs.Lines.{fields_of}
+
+-- an optional line: its letter, the kinds of file that may have it, which fields behind the letter are right where there are m characters,
+-- and the refusal of any others
+pub record Optional : Type 0 where
+  pub letter : ℕ
+  pub allowed : Kind → Bool
+  pub form : ℕ → List (List ℕ) → Bool
+  pub refusal : Refusal
 
 -- it is there: the first field of the next line is its letter; without a line feed this field runs to its tab or to the file's end
 unfoldable pub optional_there : ℕ → List (List ℕ) → Bool
@@ -25,6 +35,26 @@ ask_optional there formed refusal lines = ask (not there || (leb 2 (length lines
 abbrev pub lines_taken : Bool → ℕ
 lines_taken true = 1
 lines_taken false = 0
+
+-- which of several are there, in a file of this kind: in their order, each behind those before it that are
+abbrev pub all_there : Kind → List Optional → List (List ℕ) → List Bool
+all_there kind [] lines = []
+all_there kind (optional ∷ optionals) lines =
+    let there = optional.allowed kind && optional_there optional.letter lines in
+    there ∷ all_there kind optionals (drop (lines_taken there) lines)
+
+-- how many lines they take
+abbrev pub all_taken : List Bool → ℕ
+all_taken [] = 0
+all_taken (there ∷ []) = lines_taken there
+all_taken (there ∷ next ∷ others) = lines_taken there + all_taken (next ∷ others)
+
+-- the questions put to them, where there are m characters: the first one's place is this line of the file; what follows them
+abbrev pub ask_optionals : {A : Type 0} → ℕ → List Optional → List Bool → ℕ → List (List ℕ) → Outcome A → Outcome A
+ask_optionals m (optional ∷ optionals) (there ∷ others) line lines rest =
+    on_line line (ask_optional there (optional.form m (optional_fields lines)) optional.refusal lines)
+    (ask_optionals m optionals others (line + lines_taken there) (drop (lines_taken there) lines) rest)
+ask_optionals m optionals others line lines rest = rest
 
 -- the line, if there is one: its letter and its fields
 unfoldable pub optional_line : Bool → ℕ → List (List ℕ) → List (List ℕ)

@@ -5,17 +5,13 @@ use Rattle.matrix_form.specs.declared.refusal.Refusal.TheVariants.{FileTooLong, 
 use Rattle.matrix_form.specs.Outcomes.{Asked}
 use Rattle.std.specs.Prelude.{Ok}
 use Rattle.file_form.specs.declared.header.Header.{Header}
-use Rattle.file_form.specs.Job.{Job}
-use Rattle.file_form.specs.Lines.{lines_of}
+use Rattle.file_form.specs.Job.{Job, most_bytes}
+use Rattle.file_form.specs.Lines.{lines_of, ask_lines}
 use Rattle.file_form.specs.Optional.{optional_fields}
 use Rattle.file_form.specs.Weights.{weights_said}
 use Rattle.file_form.specs.Header.{header_in, row_line, behind_header, ask_header}
-use Rattle.file_form.specs.Rows.{name_in, codes_in, ask_rows}
-use Rattle.file_form.specs.Branches.{branch_count, ancestor_in, ask_branches, ask_tree}
-
--- a file has at most 45,000 bytes
-abbrev pub most_bytes : ℕ
-most_bytes = 45000
+use Rattle.file_form.specs.Rows.{name_in, codes_in, row_sort}
+use Rattle.file_form.specs.Branches.{branch_count, ancestor_in, branch_sort, ask_tree}
 
 -- the lines of the rows of a file with this header
 abbrev pub row_lines : Header → List (List ℕ) → List (List ℕ)
@@ -37,11 +33,7 @@ weights_of header lines = weights_said header.weighed header.m (optional_fields 
 unfoldable pub job_of : Header → List (List ℕ) → Job
 job_of header lines =
     record {
-      kind = header.kind;
-      n = header.n;
-      m = header.m;
-      order = header.order;
-      weighed = header.weighed;
+      header = header;
       weights = weights_of header lines;
       names = map name_in (row_lines header lines);
       rows = map codes_in (row_lines header lines);
@@ -67,13 +59,13 @@ ask_end rest line lines = on_line line (ask (nothing_more lines) FileGoesOn (Ok 
 -- then whether its branching is one
 unfoldable pub ask_after : Job → ℕ → List (List ℕ) → Outcome Job
 ask_after job line lines =
-    ask_branches line 2 (branch_count job.kind job.n) lines
+    ask_lines branch_sort [] line (branch_count job.kind job.n) lines
     (ask_end (on_line 0 (ask_tree job.kind job.n job.ancestors) (value job)))
 
 -- the questions put to what stands behind the header of a file's lines: its rows, and then what stands behind them
 unfoldable pub ask_behind : Header → List (List ℕ) → Outcome Job
 ask_behind header lines =
-    ask_rows header [] (row_line header 1) header.n (behind_header header lines) (ask_after (job_of header lines))
+    ask_lines (row_sort header) [] (row_line header 1) header.n (behind_header header lines) (ask_after (job_of header lines))
 
 -- the questions put to a file's lines: the header, and then what stands behind it
 unfoldable pub ask_file : List (List ℕ) → Outcome Job

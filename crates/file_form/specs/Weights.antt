@@ -2,7 +2,9 @@
 -- without a `V` line.
 use Rattle.std.specs.Prelude.{List, [], ◌∷◌, map, Bool, true, false, ◌&&◌, ℕ, ◌-◌, leb, eqb, length, get_or, replicate}
 use Rattle.lists.specs.Tests.{every}
+use Rattle.matrix_form.specs.declared.refusal.Refusal.TheVariants.{WeightForm}
 use Rattle.file_form.specs.Decimal.{zero_digit, digit_for}
+use Rattle.file_form.specs.Optional.{Optional}
 
 -- `V`
 abbrev pub letter_v : ℕ
@@ -25,6 +27,10 @@ weight_text weight = digit_for weight ∷ []
 -- the fields behind `V` are m weights
 unfoldable pub weights_form : ℕ → List (List ℕ) → Bool
 weights_form m fields = eqb (length fields) m && every weight_form fields
+
+-- the `V` line, which a file of every kind may have
+abbrev pub weight_optional : Optional
+weight_optional = record { letter = letter_v; allowed = λ kind. true; form = weights_form; refusal = WeightForm }
 
 -- the weights of m characters: those of the fields behind `V`, and without the line every weight is 1
 unfoldable pub weights_said : Bool → ℕ → List (List ℕ) → List ℕ

@@ -1,9 +1,11 @@
--- What the lent lists hold after an accepted read.
-use Rattle.std.specs.Prelude.{List, map, ℕ, ℤ}
+-- What the lent lists hold after an accepted read, and the names that lent bytes hold.
+use Rattle.std.specs.Prelude.{List, map, ℕ, ◌*◌, ℤ, take, drop}
+use Rattle.lists.specs.Numbers.{numbers}
 use Rattle.lists.specs.Filled.{filled}
 use Rattle.lists.specs.Over.{over, stripes}
 use Rattle.matrix_form.specs.Shape.{columns}
 use Rattle.tree_form.specs.LentNumbers.{records_written}
+use Rattle.file_form.specs.Bytes.{first_piece}
 use Rattle.file_form.specs.Job.{Job, name_size}
 
 -- the lent list of names: 64 names of 16 bytes each
@@ -13,6 +15,14 @@ names_size = 1024
 -- a name as it stands in the lent list: its bytes, and zeros behind them
 abbrev pub padded : List ℕ → List ℕ
 padded name = filled name_size 0 name
+
+-- the bytes lent for the name at index k, the first at index 0
+unfoldable pub name_bytes : List ℕ → ℕ → List ℕ
+name_bytes lent k = take name_size (drop (k * name_size) lent)
+
+-- the names of n taxa that lent bytes hold: each up to its first zero
+unfoldable pub names_in : ℕ → List ℕ → List (List ℕ)
+names_in n lent = map (λ k. first_piece 0 (name_bytes lent k)) (numbers 0 n)
 
 -- the matrix with rows of codes written over it, row 1 first: each over the front of its 128 codes, and all else as before
 abbrev pub matrix_written : List (List ℤ) → List ℤ → List ℤ

@@ -8,7 +8,7 @@ pub mod header;
 // A file has at most so many bytes.
 pub const MOST_BYTES: usize = 45000;
 
-// What parts the fields of a line.
+// What pieces the fields of a line.
 pub const TAB: u8 = b'\t';
 
 // What ends a line.

@@ -6,7 +6,7 @@ use Rattle.matrix_form.specs.Refusals.{refusal_number}
 use Rattle.matrix_form.specs.declared.refusal.Refusal.{Refusal}
 use Rattle.matrix_form.specs.Outcomes.{Asked, Outcome, refused, on_line}
 use Rattle.file_form.specs.declared.answer.Refused.{Refused}
-use Rattle.file_header.specs.Answered.{with_value, at_line}
+use Rattle.file_header.specs.Steps.{with_value, at_line}
 
 module _ {A : Type 0} (line : ℕ) (asked : Asked) (a : A) where
   -- questions that are refused on a line

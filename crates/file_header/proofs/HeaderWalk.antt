@@ -24,14 +24,15 @@ use Rattle.tree_form.specs.declared.order.Order.TheVariants.{Advance, Closest}
 use Rattle.file_form.specs.Bytes.{line_feed, word_w, word_f, word_advance, word_closest}
 use Rattle.file_form.specs.Decimal.{number_form, number_of}
 use Rattle.file_form.specs.Lines.{lines_of, fields_of}
-use Rattle.file_form.specs.Header.{is_kind, kind_said, order_word, most_fields, first_form, first_line_form, order_known, order_in, header_from, header_in}
+use Rattle.file_form.specs.Kinds.{kind_form, is_kind, kind_said}
+use Rattle.file_form.specs.Header.{order_word, first_form, first_line_form, order_known, order_in, header_from, header_in}
 use Rattle.file_form.specs.Header.{ask_first_line}
 use Rattle.file_form.specs.Optional.{optional_there}
 use Rattle.file_form.specs.Weights.{letter_v}
 use Rattle.file_form.proofs.File.FirstForm.{too_few, too_many, no_kind, no_taxa, no_characters, all_right}
-use Rattle.file_form.proofs.Text.Parts.{parts_some}
-use Rattle.file_header.specs.Answered.{first_said, with_value, order_asked}
-use Rattle.file_text.specs.Text.{read_as}
+use Rattle.file_form.proofs.Text.Parts.{pieces_some}
+use Rattle.file_header.specs.Steps.{first_said, with_value, order_asked}
+use Rattle.file_text.specs.Steps.{read_as}
 use Rattle.file_header.proofs.Words.{other_text}
 use Rattle.file_text.proofs.ReadAs.{read_formed, read_formless, formed_read, formless_read}
 
@@ -50,7 +51,7 @@ module _ (word : List ℕ) where
   -- another word says no kind
   pub no_kind_said : (word ≡ word_f → ⊥) → (word ≡ word_w → ⊥) → None ≡ read_as is_kind kind_said word
   unfolding is_kind
-  no_kind_said f w = read_formless is_kind kind_said word (ap₂ ◌||◌ (other_text word word_w w) (other_text word word_f f))
+  no_kind_said f w = read_formless is_kind kind_said word (rw (other_text word word_w w, other_text word word_f f))
 
   -- `advance`
   pub advance_said : word ≡ word_advance → Some Advance ≡ order_word word
@@ -80,7 +81,7 @@ module _ (fields : List (List ℕ)) (word : List ℕ) (w : word ≡ get_or field
     kind_is = (formed_read is_kind kind_said word kind k).1 ∙ ap kind_said w
 
     -- too few fields, or too many
-    pub no_count : (count most : ℕ) → count + 1 ≡ length fields → most + 1 ≡ most_fields kind → (within : Bool)
+    pub no_count : (count most : ℕ) → count + 1 ≡ length fields → most + 1 ≡ (kind_form kind).most_fields → (within : Bool)
         → within ≡ leb 2 count && leb count most → within ≡ false → None ≡ read_as first_form first_said fields
     no_count count most e m within d h =
         read_formless first_form first_said fields
@@ -88,7 +89,7 @@ module _ (fields : List (List ℕ)) (word : List ℕ) (w : word ≡ get_or field
         (λ some.
         by_cases (dec_le count most)
         (λ low. absurd (false≢true (sym h ∙ d ∙ and_both (le-leb 2 count some) (le-leb count most low))))
-        (λ high. too_many fields (omega (arith, e, m, high, ap most_fields kind_is))))
+        (λ high. too_many fields (omega (arith, e, m, high, ap (λ k. (kind_form k).most_fields) kind_is))))
         (λ few. too_few fields (omega (arith, e, few))))
 
     -- the second is no number
@@ -106,7 +107,7 @@ module _ (fields : List (List ℕ)) (word : List ℕ) (w : word ≡ get_or field
         (no_characters fields (ap number_form (sym f) ∙ formless_read number_form number_of field e))
 
     -- all are right
-    pub all_said : (count most : ℕ) → count + 1 ≡ length fields → most + 1 ≡ most_fields kind → (within : Bool)
+    pub all_said : (count most : ℕ) → count + 1 ≡ length fields → most + 1 ≡ (kind_form kind).most_fields → (within : Bool)
         → within ≡ leb 2 count && leb count most → within ≡ true → (second third : List ℕ) → second ≡ get_or fields 1 [] → third ≡ get_or fields 2 [] → (n m : ℕ)
         → Some n ≡ read_as number_form number_of second → Some m ≡ read_as number_form number_of third
         → Some (kind, n, m) ≡ read_as first_form first_said fields
@@ -116,7 +117,7 @@ module _ (fields : List (List ℕ)) (word : List ℕ) (w : word ≡ get_or field
         let taxa = formed_read number_form number_of second n a in
         let characters = formed_read number_form number_of third m b in
         read_formed first_form first_said fields (kind, n, m)
-        (all_right fields (omega arith) (omega (arith, e, q, ap most_fields kind_is))
+        (all_right fields (omega arith) (omega (arith, e, q, ap (λ k. (kind_form k).most_fields) kind_is))
         (ap is_kind (sym w) ∙ (formed_read is_kind kind_said word kind k).0)
         (ap number_form (sym s) ∙ taxa.0)
         (ap number_form (sym t) ∙ characters.0))
@@ -174,7 +175,7 @@ module _ (file line behind : List ℕ) (l : lines_of file ≡ line ∷ lines_of 
   fields_decide : first_asked (lines_of file) ≡ fields_asked (fields_of line) (lines_of behind)
   unfolding ask_first_line first_line_form header_in lines_of
   fields_decide =
-      let more = parts_some line_feed behind in
+      let more = pieces_some line_feed behind in
       ap first_asked (l ∙ ap (◌∷◌ line) more.2) ∙ ap (fields_asked (fields_of line)) (sym more.2)
 
   -- its form is not right

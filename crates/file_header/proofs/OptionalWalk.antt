@@ -11,31 +11,27 @@ use Rattle.lists.specs.Tests.{same_numbers as same_text}
 use Rattle.matrix_form.specs.Outcomes.{ask}
 use Rattle.matrix_form.specs.declared.refusal.Refusal.TheVariants.{WeightForm}
 use Rattle.file_form.specs.declared.header.Header.{Header}
-use Rattle.file_form.specs.Bytes.{line_feed, first_part}
+use Rattle.file_form.specs.Bytes.{line_feed, first_piece}
 use Rattle.file_form.specs.Lines.{lines_of, fields_of}
 use Rattle.file_form.specs.Optional.{optional_there, optional_fields, ask_optional, lines_taken}
 use Rattle.file_form.specs.Weights.{weights_form}
-use Rattle.file_form.specs.Header.{ask_weights}
-use Rattle.file_form.proofs.Text.Parts.{parts_some}
-use Rattle.file_form.proofs.Text.FirstPart.{first_of_parts}
+use Rattle.file_form.specs.Formed.{ask_weights}
+use Rattle.file_form.proofs.Text.Parts.{pieces_some}
+use Rattle.file_form.proofs.Text.Fields.{lines_some}
+use Rattle.file_form.proofs.Text.FirstPart.{first_of_pieces}
 
--- the first line of a text is its first part at a line feed
-pub first-line : (text line : List ℕ) → line ≡ first_part line_feed text → get_or (lines_of text) 0 [] ≡ line
+-- the first line of a text is its first piece at a line feed
+pub first-line : (text line : List ℕ) → line ≡ first_piece line_feed text → get_or (lines_of text) 0 [] ≡ line
 unfolding lines_of
-first-line text line l = first_of_parts line_feed text ∙ sym l
+first-line text line l = first_of_pieces line_feed text ∙ sym l
 
 -- the fields behind the letter, by the first line of a text
-pub line_fields : (text line : List ℕ) → line ≡ first_part line_feed text → optional_fields (lines_of text) ≡ drop 1 (fields_of line)
+pub line_fields : (text line : List ℕ) → line ≡ first_piece line_feed text → optional_fields (lines_of text) ≡ drop 1 (fields_of line)
 unfolding optional_fields
 line_fields text line l = ap (λ first. drop 1 (fields_of first)) (first-line text line l)
 
--- of a text's lines there is always one
-lines_some : (text : List ℕ) → lines_of text ≡ (parts_some line_feed text).0 ∷ (parts_some line_feed text).1
-unfolding lines_of
-lines_some text = (parts_some line_feed text).2
-
 -- whether the line is there, by the first field of the first line
-pub word_decides : (letter : ℕ) (text line word : List ℕ) → line ≡ first_part line_feed text → word ≡ get_or (fields_of line) 0 []
+pub word_decides : (letter : ℕ) (text line word : List ℕ) → line ≡ first_piece line_feed text → word ≡ get_or (fields_of line) 0 []
     → same_text word (letter ∷ []) ≡ optional_there letter (lines_of text)
 unfolding optional_there
 word_decides letter text line word l w =
@@ -63,7 +59,7 @@ module _ (header : Header) (text : List ℕ) where
       → formed ≡ weights_form header.m (drop 1 (fields_of line)) → ask formed WeightForm (Ok tt) ≡ ask_weights header (lines_of text)
   unfolding ask_weights ask_optional optional_fields
   fields_decide line behind formed e l f =
-      let more : lines_of behind ≡ (parts_some line_feed behind).0 ∷ (parts_some line_feed behind).1 = lines_some behind in
+      let more : lines_of behind ≡ (pieces_some line_feed behind).0 ∷ (pieces_some line_feed behind).1 = lines_some behind in
       let several : 2 ≤ length (line ∷ lines_of behind) = omega (arith, ap length more) in
       ap (λ b. ask b WeightForm (Ok tt)) f
       ∙ sym (ap₂ (λ there lines. ask_optional there (weights_form header.m (optional_fields lines)) WeightForm lines) e l

@@ -8,13 +8,13 @@ use borrow.Author.Tests.{eq-eqb, ne_eqb}
 use lib.Dec.{leb}
 use lib.ListN.{length, get_or, drop, length-drop}
 use Rattle.lists.specs.Tests.{every}
-use Rattle.file_form.specs.Bytes.{tab, parts_at}
+use Rattle.file_form.specs.Bytes.{tab, pieces_at}
 use Rattle.file_form.specs.Lines.{fields_of}
 use Rattle.file_form.specs.Weights.{weight_form, weight_in, weights_form}
 use Rattle.file_form.proofs.File.FirstForm.{fields_count}
 use Rattle.std.specs.Prelude.{None, Some, is_some}
 use Rattle.std.specs.List.{list_all}
-use Rattle.file_text.specs.Text.{read_as}
+use Rattle.file_text.specs.Steps.{read_as}
 
 -- a field of another length than 1 is no weight
 pub not-one : (field : List ℕ) → (length field ≡ 1 → ⊥) → false ≡ weight_form field
@@ -31,7 +31,7 @@ one_byte (digit ∷ []) some few = refl
 one_byte (digit ∷ next ∷ digits) some few = absurd (omega arith)
 
 -- a line with so many tabs
-module _ (line : List ℕ) (count m : ℕ) (e : count + 1 ≡ length (parts_at tab line)) where
+module _ (line : List ℕ) (count m : ℕ) (e : count + 1 ≡ length (pieces_at tab line)) where
   -- behind its first field it has as many
   pub fields_behind : length (drop 1 (fields_of line)) ≡ count
   fields_behind = omega (arith, length-drop 1 (fields_of line), fields_count line count e)

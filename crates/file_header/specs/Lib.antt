@@ -1,2 +1,2 @@
 -- What the functions promise of a header; what a reader has to believe stands in `file_form`.
-pub mod Answered
+pub mod Steps

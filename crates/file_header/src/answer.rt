@@ -1,6 +1,6 @@
 // What a read answers where it refuses.
 ghost use Rattle.std.specs.Prelude.{◌≡◌};
-ghost use Rattle.file_header.specs.Answered.{at_line};
+ghost use Rattle.file_header.specs.Steps.{at_line};
 
 use file_form::answer::Refused;
 use matrix_form::refusal::Refusal;

@@ -1,10 +1,11 @@
 // The header of a file: line 1, and the `V` line.
 ghost use Rattle.std.specs.Prelude.{◌≡◌, true, ◌+◌};
 ghost use Rattle.file_form.specs.Lines.{lines_of, fields_of};
-ghost use Rattle.file_form.specs.Header.{is_kind, kind_said, order_word, most_fields, first_form, header_in, header_lines, ask_first_line, ask_header};
-ghost use Rattle.file_form.specs.Report.{read_says};
-ghost use Rattle.file_text.specs.Text.{read_as};
-ghost use Rattle.file_header.specs.Answered.{first_said, order_asked, with_value};
+ghost use Rattle.file_form.specs.Kinds.{kind_form, is_kind, kind_said};
+ghost use Rattle.file_form.specs.Header.{order_word, first_form, header_in, header_lines, ask_first_line, ask_header};
+ghost use Rattle.file_form.specs.Calls.{read_says};
+ghost use Rattle.file_text.specs.Steps.{read_as};
+ghost use Rattle.file_header.specs.Steps.{first_said, order_asked, with_value};
 
 use crate::answer::on_line;
 use crate::optional::optional_there;
@@ -12,7 +13,7 @@ use crate::weights::{LETTER, ask_weights};
 use file_form::answer::Refused;
 use file_form::header::{Header, Kind};
 use file_form::{LINE_FEED, TAB};
-use file_text::bytes::{behind_part, field, first_line, separators};
+use file_text::bytes::{behind_piece, field, first_line, separators};
 use file_text::numbers::number;
 use matrix::questions::within_limits;
 use matrix_form::refusal::Refusal;
@@ -46,7 +47,7 @@ const LEAST_TABS: usize = 2;
 // How many tabs line 1 of a kind has at most.
 // Kept: no plainer, `file_form` holds definitions and no function, so that a wrong one is refused in seconds; a method of `Kind` would be its first.
 fn most_tabs(kind: Kind) -> usize
-    ensures { result + 1 ≡ most_fields kind }
+    ensures { result + 1 ≡ (kind_form kind).most_fields }
 {
     match kind {
         Kind::Wagner => 3,
@@ -123,6 +124,6 @@ pub fn ask_header(file: &[u8]) -> Result<Header, Refused>
     ensures { read_says result ≡ ask_header (lines_of file.now) }
 {
     let header = on_line(1, ask_first_line(file))?;
-    on_line(2, ask_weights(behind_part(file, LINE_FEED), header))?;
+    on_line(2, ask_weights(behind_piece(file, LINE_FEED), header))?;
     Ok(header)
 }

@@ -4,13 +4,13 @@ ghost use Rattle.file_form.specs.Lines.{lines_of};
 ghost use Rattle.file_form.specs.Optional.{optional_there};
 
 use file_form::LINE_FEED;
-use file_text::bytes::{field, first_part};
+use file_text::bytes::{field, first_piece};
 
 // Whether the line is there: whether the first field of the next line, up to a tab, a line feed or the end, is its letter.
 pub(crate) fn optional_there(text: &[u8], letter: u8) -> bool
     ensures { result ≡ optional_there letter (lines_of text.now) }
 {
-    let [byte] = field(first_part(text, LINE_FEED), 0) else {
+    let [byte] = field(first_piece(text, LINE_FEED), 0) else {
         return false;
     };
     *byte == letter

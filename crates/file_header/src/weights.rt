@@ -2,8 +2,8 @@
 ghost use Rattle.std.specs.Prelude.{◌≡◌, drop};
 ghost use Rattle.file_form.specs.Lines.{lines_of, fields_of};
 ghost use Rattle.file_form.specs.Weights.{weight_form, weight_in, weights_form};
-ghost use Rattle.file_form.specs.Header.{ask_weights};
-ghost use Rattle.file_text.specs.Text.{read_as};
+ghost use Rattle.file_form.specs.Formed.{ask_weights};
+ghost use Rattle.file_text.specs.Steps.{read_as};
 
 use file_form::TAB;
 use file_form::header::Header;

@@ -10,7 +10,7 @@ use lib.ListN.{length, get_or, drop}
 use Rattle.std.specs.Char.{is_ascii_alphabetic}
 use Rattle.std.specs.List.{list_all}
 use Rattle.file_form.specs.Bytes.{is_letter}
-use Rattle.file_form.specs.Job.{name_form, in_name}
+use Rattle.file_form.specs.Job.{name_size, name_form, in_name}
 use Rattle.file_form.proofs.Text.Slices.{every_all}
 
 -- an empty name is not well formed
@@ -21,10 +21,10 @@ empty (byte ∷ bytes) h = absurd (omega arith)
 
 -- any other one is if it is not too long, its first byte is a letter, and the others may stand in a name
 some : (name : List ℕ) → 1 ≤ length name
-    → name_form name ≡ is_ascii_alphabetic (get_or name 0 0) && (list_all in_name (drop 1 name) && leb (length name) 16)
+    → name_form name ≡ is_ascii_alphabetic (get_or name 0 0) && (list_all in_name (drop 1 name) && leb (length name) name_size)
 unfolding name_form is_letter
 some [] h = absurd (omega arith)
-some (byte ∷ bytes) h = ap (λ t. is_letter byte && (t && leb (length (byte ∷ bytes)) 16)) (sym (every_all in_name bytes))
+some (byte ∷ bytes) h = ap (λ t. is_letter byte && (t && leb (length (byte ∷ bytes)) name_size)) (sym (every_all in_name bytes))
 
 -- a test that fails behind two others
 both_false : (a b : Bool) → a && (b && false) ≡ false
@@ -40,17 +40,17 @@ both_true false b = refl
 
 module _ (name : List ℕ) (h : 1 ≤ length name) where
   -- more than 16 bytes
-  pub long : 16 < length name → false ≡ name_form name
+  pub long : name_size < length name → false ≡ name_form name
   long l =
-      sym (some name h ∙ ap (λ t. is_ascii_alphabetic (get_or name 0 0) && (list_all in_name (drop 1 name) && t)) (lt-leb (length name) 16 l)
+      sym (some name h ∙ ap (λ t. is_ascii_alphabetic (get_or name 0 0) && (list_all in_name (drop 1 name) && t)) (lt-leb (length name) name_size l)
       ∙ both_false (is_ascii_alphabetic (get_or name 0 0)) (list_all in_name (drop 1 name)))
 
-  module _ (l : length name ≤ 16) (first : Bool) (f : first ≡ is_ascii_alphabetic (get_or name 0 0)) where
+  module _ (l : length name ≤ name_size) (first : Bool) (f : first ≡ is_ascii_alphabetic (get_or name 0 0)) where
     -- not too long: the bytes decide
     bytes_decide : name_form name ≡ first && list_all in_name (drop 1 name)
     bytes_decide =
         some name h
-        ∙ ap₂ (λ x t. x && (list_all in_name (drop 1 name) && t)) (sym f) (le-leb (length name) 16 l)
+        ∙ ap₂ (λ x t. x && (list_all in_name (drop 1 name) && t)) (sym f) (le-leb (length name) name_size l)
         ∙ both_true first (list_all in_name (drop 1 name))
 
     -- another first byte than a letter

@@ -12,7 +12,7 @@ use Rattle.std.specs.Prelude.{Err}
 use Rattle.std.specs.Cmp.Lexicographic.{pointwise}
 use Rattle.std.specs.List.{list_any}
 use Rattle.lists.specs.Tests.{same_numbers as same_text}
-use Rattle.file_form.specs.Bytes.{tab, first_part}
+use Rattle.file_form.specs.Bytes.{tab, first_piece}
 use Rattle.file_form.specs.Lines.{fields_of}
 use Rattle.file_form.specs.Rows.{ask_codes, ask_row}
 use Rattle.file_form.proofs.Text.Fields.{name_first}
@@ -21,7 +21,7 @@ use Rattle.file_form.specs.Job.{name_form, differs_from_all}
 use Rattle.matrix_form.specs.declared.refusal.Refusal.TheVariants.{FieldCount, NameForm, NameTaken}
 use Rattle.matrix_form.specs.Outcomes.{Asked, ask}
 use Rattle.file_form.specs.declared.header.Header.{Header}
-use Rattle.file_lines.specs.Asked.{names_passed}
+use Rattle.file_lines.specs.Steps.{names_passed}
 
 -- a name differs from those of two lists if it differs from those of each
 differs_append : (name : List ℕ) (xs ys : List (List ℕ))
@@ -66,7 +66,7 @@ module _ (header : Header) (earlier : List (List ℕ)) (line : List ℕ) (count 
   bad_count h = sym (rw (ne_eqb (length (fields_of line)) (suc header.m) (λ same. h (omega arith))))
 
   -- as many, and a name
-  module _ (name : List ℕ) (first : name ≡ first_part tab line) (h : count ≡ header.m) (formed : Bool) (f : formed ≡ name_form name) where
+  module _ (name : List ℕ) (first : name ≡ first_piece tab line) (h : count ≡ header.m) (formed : Bool) (f : formed ≡ name_form name) where
     -- in order: the name's form, whether it is taken, the codes
     in_order : ask_row header earlier line ≡ ask formed NameForm (ask (differs_from_all name earlier) NameTaken codes_asked)
     unfolding ask_row

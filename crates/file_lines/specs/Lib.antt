@@ -1,2 +1,2 @@
 -- What the functions promise of one line; what a reader has to believe stands in `file_form`.
-pub mod Asked
+pub mod Steps

@@ -1,11 +1,11 @@
 // The question put to the `C` line of a node.
 ghost use Rattle.std.specs.Prelude.{◌≡◌};
+ghost use Rattle.matrix_form.specs.Outcomes.{ask};
 ghost use Rattle.file_form.specs.Lines.{fields_of};
 ghost use Rattle.file_form.specs.Branches.{branch_form};
-ghost use Rattle.file_lines.specs.Asked.{left_of, BranchAsked};
 
 use file_form::TAB;
-use file_text::bytes::{field, first_line, separators};
+use file_text::bytes::{field, separators};
 use file_text::numbers::number;
 use matrix_form::refusal::Refusal;
 
@@ -31,16 +31,12 @@ fn branch_form(line: &[u8], v: usize) -> bool
     number(field(line, NODE)) == Some(v)
 }
 
-// The question put to the line of node v, with which a text begins: is there one, ended by a line feed, and is it the node's? What stands
-// behind it.
-pub fn ask_branch(text: &[u8], v: usize) -> Result<&[u8], Refusal>
-    ensures { BranchAsked text.now v (left_of result) }
+// The question put to a line: is it the `C` line of node v?
+pub fn ask_branch(line: &[u8], v: usize) -> Result<(), Refusal>
+    ensures { result ≡ ask (branch_form v (fields_of line.now)) Refusal.BranchForm (Ok tt) }
 {
-    let Some((line, behind)) = first_line(text) else {
-        return Err(Refusal::BranchForm);
-    };
     if !branch_form(line, v) {
         return Err(Refusal::BranchForm);
     }
-    Ok(behind)
+    Ok(())
 }

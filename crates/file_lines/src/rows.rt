@@ -1,15 +1,15 @@
 // The questions put to a row's line.
-ghost use Rattle.std.specs.Prelude.{◌≡◌, [], ◌∷◌, not, drop};
+ghost use Rattle.std.specs.Prelude.{◌≡◌, not, drop};
 ghost use Rattle.file_form.specs.Job.{name_form, differs_from_all};
 ghost use Rattle.file_form.specs.Lines.{fields_of};
-ghost use Rattle.file_form.specs.Rows.{ask_codes, ask_row};
-ghost use Rattle.file_lines.specs.Asked.{names_passed};
+ghost use Rattle.file_form.specs.Rows.{ask_field, ask_codes, ask_row};
+ghost use Rattle.file_lines.specs.Steps.{names_passed};
 
 use file_form::header::Header;
 use file_form::{NAME_SIZE, TAB};
-use file_text::bytes::{first_part, in_name, separators};
+use file_text::bytes::{first_piece, in_name, separators};
 use file_text::numbers::code;
-use matrix::questions::in_range;
+use matrix::questions::ask_code;
 use matrix_form::refusal::Refusal;
 
 // Whether a name is well formed.
@@ -23,17 +23,14 @@ fn name_form(name: &[u8]) -> bool
         && (first.is_ascii_alphabetic() && others.iter().all(|byte| in_name(*byte)))
 }
 
-// The questions put to a code: is its form right? Is it from -999 to 999?
-fn ask_code(field: &[u8]) -> Result<(), Refusal>
-    ensures { result ≡ ask_codes (field.now ∷ []) }
+// The questions put to the field of a code: is its form right? Then those put to the code.
+fn ask_field(field: &[u8]) -> Result<(), Refusal>
+    ensures { result ≡ ask_field field.now }
 {
     let Some(code) = code(field) else {
         return Err(Refusal::CodeForm);
     };
-    if !in_range(code) {
-        return Err(Refusal::CodeRange);
-    }
-    Ok(())
+    ask_code(code)
 }
 
 // For each code of a row's line from the left, behind its name, the questions put to it.
@@ -41,7 +38,7 @@ fn ask_codes(line: &[u8]) -> Result<(), Refusal>
     ensures { result ≡ ask_codes (drop 1 (fields_of line.now)) }
 {
     for field in line.split(|byte| *byte == TAB).skip(1) {
-        ask_code(field)?;
+        ask_field(field)?;
     }
     Ok(())
 }
@@ -61,7 +58,7 @@ pub fn ask_row(line: &[u8], header: Header, earlier: &[&[u8]]) -> Result<(), Ref
     if separators(line, TAB) != header.m {
         return Err(Refusal::FieldCount);
     }
-    let name = first_part(line, TAB);
+    let name = first_piece(line, TAB);
     if !name_form(name) {
         return Err(Refusal::NameForm);
     }

@@ -4,21 +4,21 @@ use mathlib.Core.List.{List, [], ◌∷◌}
 use Prim.Native.Nat.{ℕ, ◌+◌}
 use native.Mathlib.Omega.{arith}
 use lib.ListN.{length, drop}
-use Rattle.file_form.specs.Bytes.{line_feed, parts_at, part_length, first_part}
+use Rattle.file_form.specs.Bytes.{line_feed, pieces_at, piece_length, first_piece}
 use Rattle.file_form.specs.Lines.{lines_of}
-use Rattle.file_form.proofs.Text.FirstPart.{parts_one, parts_more, part-within, first-length}
+use Rattle.file_form.proofs.Text.FirstPart.{pieces_one, pieces_more, piece-within, first-length}
 use Rattle.file_form.proofs.Text.PartWalk.{behind}
 
 -- a text whose first line is the whole of it has no other
-pub only_line : (text line : List ℕ) → line ≡ first_part line_feed text → length line ≡ length text → lines_of text ≡ text ∷ []
+pub only_line : (text line : List ℕ) → line ≡ first_piece line_feed text → length line ≡ length text → lines_of text ≡ text ∷ []
 unfolding lines_of
-only_line text line l e = parts_one line_feed text (sym (ap length l ∙ first-length line_feed text) ∙ e)
+only_line text line l e = pieces_one line_feed text (sym (ap length l ∙ first-length line_feed text) ∙ e)
 
 -- any other text has its first line, and those behind it
-pub ended_line : (text line : List ℕ) → line ≡ first_part line_feed text → (length line ≡ length text → ⊥) → (rest : List ℕ)
+pub ended_line : (text line : List ℕ) → line ≡ first_piece line_feed text → (length line ≡ length text → ⊥) → (rest : List ℕ)
     → rest ≡ drop (length line + 1) text → lines_of text ≡ line ∷ lines_of rest
 unfolding lines_of
 ended_line text line l h rest r =
-    let size : length line ≡ part_length line_feed text = ap length l ∙ first-length line_feed text in
-    parts_more line_feed text (omega (arith, size, h, part-within line_feed text))
-    ∙ ap₂ (λ x xs. x ∷ parts_at line_feed xs) (sym l) (sym (behind line_feed (length line) text rest size r))
+    let size : length line ≡ piece_length line_feed text = ap length l ∙ first-length line_feed text in
+    pieces_more line_feed text (omega (arith, size, h, piece-within line_feed text))
+    ∙ ap₂ (λ x xs. x ∷ pieces_at line_feed xs) (sym l) (sym (behind line_feed (length line) text rest size r))

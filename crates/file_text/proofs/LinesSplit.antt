@@ -22,24 +22,24 @@ use Rattle.std.proofs.lemmas.List.FromFn.{length-enumerate_from, get_or-enumerat
 use Rattle.std.proofs.lemmas.Iterator.Adapters.{YieldsList-from_skip}
 use Rattle.file_form.specs.Bytes.{tab, line_feed}
 use Rattle.file_form.specs.Lines.{lines_of}
-use Rattle.file_form.proofs.Text.Slices.{parts_split}
+use Rattle.file_form.proofs.Text.Slices.{pieces_split}
 
--- what stands at a place of a list does not depend on what stands behind its end
+-- what stands at an index of a list does not depend on what stands behind its end
 get_or_any : {A : Type 0} (xs : List A) (i : ℕ) (d e : A) → i < length xs → get_or xs i d ≡ get_or xs i e
 get_or_any [] i d e h = absurd (omega arith)
 get_or_any (x ∷ xs) zero d e h = refl
 get_or_any (x ∷ xs) (suc i) d e h = get_or_any xs i d e (omega arith)
 
--- a turn of a loop over parts of a text with their places, behind `count` of them: this part and its place
-pub part_turn : (parts : List (List ℕ)) (count : ℕ) (p : ℕ × List ℕ)
-    → (count < length (enumerate_from 0 parts)) × (p ≡ get_or (enumerate_from 0 parts) count p)
-    → (p.0 ≡ count) × (count < length parts) × (p.1 ≡ get_or parts count [])
-part_turn parts count p turn =
-    let below : count < length parts = omega (arith, turn.0, length-enumerate_from 0 parts) in
-    let same : p ≡ (0 + count, get_or parts count p.1) = turn.1 ∙ get_or-enumerate_from 0 parts count p below in (
+-- a turn of a loop over pieces of a text with their indices, behind `count` of them: this piece and its place
+pub piece_turn : (pieces : List (List ℕ)) (count : ℕ) (p : ℕ × List ℕ)
+    → (count < length (enumerate_from 0 pieces)) × (p ≡ get_or (enumerate_from 0 pieces) count p)
+    → (p.0 ≡ count) × (count < length pieces) × (p.1 ≡ get_or pieces count [])
+piece_turn pieces count p turn =
+    let below : count < length pieces = omega (arith, turn.0, length-enumerate_from 0 pieces) in
+    let same : p ≡ (0 + count, get_or pieces count p.1) = turn.1 ∙ get_or-enumerate_from 0 pieces count p below in (
       ap (λ q. q.0) same ∙ zero-add count,
       below,
-      ap (λ q. q.1) same ∙ get_or_any parts count p.1 [] below,
+      ap (λ q. q.1) same ∙ get_or_any pieces count p.1 [] below,
     )
 
 -- the first n lines of a text, as a loop goes over them
@@ -71,14 +71,14 @@ fields_yielded line source one rest done closure tests =
 -- they are its first lines
 lines_are : (text : List ℕ) (n : ℕ) → lines text n ≡ take n (lines_of text)
 unfolding lines_of
-lines_are text n = ap (take n) (sym (parts_split line_feed text))
+lines_are text n = ap (take n) (sym (pieces_split line_feed text))
 
--- a turn of a loop over them with their places, behind `count` of them: this line and its place
+-- a turn of a loop over them with their indices, behind `count` of them: this line and its place
 pub line_turn : (text : List ℕ) (n count : ℕ) (p : ℕ × List ℕ)
     → (count < length (enumerate_from 0 (lines text n))) × (p ≡ get_or (enumerate_from 0 (lines text n)) count p)
     → (p.0 ≡ count) × (count < n) × (p.1 ≡ get_or (lines_of text) count [])
 line_turn text n count p turn =
-    let told = part_turn (lines text n) count p turn in
+    let told = piece_turn (lines text n) count p turn in
     let below : count < n = omega (arith, told.1, ap length (lines_are text n), length-take n (lines_of text)) in
     (told.0, below, told.2 ∙ ap (λ all. get_or all count []) (lines_are text n) ∙ get_or-take n (lines_of text) count [] below)
 

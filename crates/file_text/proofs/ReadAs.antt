@@ -2,7 +2,7 @@
 use mathlib.Core.Path.{◌≡◌, refl, sym, ap, ◌∙◌}
 use mathlib.Core.Bool.{Bool, true, false, not, cond}
 use Rattle.std.specs.Prelude.{Option, None, Some, is_some}
-use Rattle.file_text.specs.Text.{read_as}
+use Rattle.file_text.specs.Steps.{read_as}
 
 -- what a text says that has the form
 pub read_formed : {T A : Type 0} (form : T → Bool) (says : T → A) (text : T) (a : A) → form text ≡ true → a ≡ says text

@@ -1,2 +1,2 @@
 -- What the functions promise of a text; what a reader has to believe stands in `file_form`.
-pub mod Text
+pub mod Steps

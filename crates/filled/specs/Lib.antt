@@ -1,2 +1,2 @@
--- An array of which the first places are filled: none of them, and one more.
+-- An array of which the first entries are filled: none of them, and one more.
 pub mod Filling

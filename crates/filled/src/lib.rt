@@ -1,12 +1,12 @@
-// An array of which the first places are filled, one behind the other. It can be copied, and needs no heap.
+// An array of which the first entries are filled, one behind the other. It can be copied, and needs no heap.
 #![tactic(auto)]
 
 ghost use Rattle.std.specs.Prelude.{◌≤◌};
 
 use std::alloc::AllocError;
 
-// The items, and how many of the first places are filled. What the other places hold is no item.
-// Kept: no plainer, this is the one array with its count: the kit's ArrayVec says nothing of the places behind the count, which `network` and `build` promise to be zeros.
+// The items, and how many of the first entries are filled. What the other entries hold is no item.
+// Kept: no plainer, this is the one array with its count: the kit's ArrayVec says nothing of the entries behind the count, which `network` and `build` promise to be zeros.
 pub struct Filled<T, const N: usize> {
     pub items: [T; N],
     pub count: usize,
@@ -33,7 +33,7 @@ impl<T: Copy, const N: usize> Filled<T, N> {
     ghost use Rattle.std.specs.Prelude.{◌≡◌, take};
     ghost use Rattle.filled.specs.Filling.{NoneFilled, Pushed};
 
-    // No place is filled; each holds this.
+    // no entry is filled; each holds this.
     pub fn none(blank: T) -> Filled<T, N>
         ensures { NoneFilled blank result }
     {

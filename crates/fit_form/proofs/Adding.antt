@@ -15,7 +15,7 @@ added_up {A} f (x ∷ xs) first small =
     ∙ added_up f xs (first + f x) (omega arith)
     ∙ omega arith
 
--- so many items from a place on are those of its numbers
+-- so many items from an index on are those of its numbers
 pub items_from : {A : Type 0} (none : A) (xs : List A) (k a : ℕ) → a + k ≤ length xs
     → take k (drop a xs) ≡ map (λ (i : ℕ). get_or xs i none) (numbers a k)
 unfolding numbers

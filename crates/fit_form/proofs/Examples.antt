@@ -4,6 +4,7 @@ use Rattle.std.proofs.Common.{◌≡◌, ℕ, suc, ◌-◌, Bool, true, false, L
 use mathlib.Core.List.{flat_map}
 use Rattle.lists.specs.Numbers.{numbers}
 use Rattle.matrix_form.specs.Shape.{weight_at, weight_of}
+use Rattle.matrix_form.proofs.Sample.{rows_abcd}
 use Rattle.difference_form.specs.Rows.{apart, part, weighing, lower, higher}
 use Rattle.tree_form.specs.Ancestors.{ancestor, descendants}
 use Rattle.tree_form.specs.Nodes.{other_nodes}
@@ -16,6 +17,8 @@ use Rattle.clades.specs.ByNode.{value_at}
 use Rattle.clades.specs.Character.{up, chosen, ranges, row1_range, state_of, range_of}
 use Rattle.fit_form.specs.Assignments.{character, branch_length, total}
 use Rattle.fit_form.specs.Fit.{chosen_state, range, fitted_length, fitted_total, marked}
+use Rattle.fit_form.specs.Marks.{MarkMeans}
+use Rattle.fit_form.proofs.Marks.{plus_of_length, minus_of_none}
 use Rattle.fit_form.proofs.Sets.Distance.{span}
 
 -- [0,1] with [2,2] gives [1,2]
@@ -58,15 +61,7 @@ printed weights tree rows n m = record {
       (numbers (suc n) (n - 2));
 }
 
--- document 01's example: taxa A, B, C, D are nodes 1 to 4, HTUs #1 and #2 are nodes 5 and 6
-abbrev pub rows_abcd : List (List ℤ)
-rows_abcd =
-    (pos 0 ∷ pos 0 ∷ pos 0 ∷ [])
-    ∷ (pos 2 ∷ pos 1 ∷ pos 0 ∷ [])
-    ∷ (pos 2 ∷ pos 3 ∷ pos 1 ∷ [])
-    ∷ (negsuc 0 ∷ pos 1 ∷ pos 2 ∷ [])
-    ∷ []
-
+-- document 01's example: taxa A, B, C, D are nodes 1 to 4, HTUs #1 and #2 are nodes 5 and 6;
 -- B and C hang from #2, D and #2 from #1, #1 from A
 abbrev pub tree_abcd : List ℕ
 tree_abcd = 0 ∷ 0 ∷ 6 ∷ 6 ∷ 5 ∷ 1 ∷ 5 ∷ []
@@ -185,8 +180,15 @@ pub fit_2 : printed [] (0 ∷ 0 ∷ 1 ∷ []) ((pos 7 ∷ pos 0 ∷ []) ∷ (neg
 unfolding printed
 fit_2 = refl
 
--- three taxa: the one HTU has the median of their codes; a branch of length 0 is not marked
-pub fit_3 : printed [] (0 ∷ 0 ∷ 4 ∷ 4 ∷ 1 ∷ []) ((negsuc 0 ∷ []) ∷ (pos 2 ∷ []) ∷ (pos 0 ∷ []) ∷ []) 3 1 ≡ record {
+-- three taxa of one character, and their tree
+abbrev pub rows_3 : List (List ℤ)
+rows_3 = (negsuc 0 ∷ []) ∷ (pos 2 ∷ []) ∷ (pos 0 ∷ []) ∷ []
+
+abbrev pub tree_3 : List ℕ
+tree_3 = 0 ∷ 0 ∷ 4 ∷ 4 ∷ 1 ∷ []
+
+-- the one HTU has the median of their codes; a branch of length 0 is not marked
+pub fit_3 : printed [] tree_3 rows_3 3 1 ≡ record {
   lengths = 2 ∷ 0 ∷ 1 ∷ [];
   marks = true ∷ false ∷ true ∷ [];
   sum_of_lengths = 3;
@@ -194,3 +196,11 @@ pub fit_3 : printed [] (0 ∷ 0 ∷ 4 ∷ 4 ∷ 1 ∷ []) ((negsuc 0 ∷ []) ∷
 }
 unfolding printed
 fit_3 = refl
+
+-- whatever means what a mark says is `+` for the branch of taxon 2, of length 2, and `-` for that of taxon 3, of length 0
+pub marks_3 : (two three : Bool)
+    → MarkMeans (weighing []).step tree_3 rows_3 3 1 (chosen_state tree_3 rows_3 3) 2 two
+    → MarkMeans (weighing []).step tree_3 rows_3 3 1 (chosen_state tree_3 rows_3 3) 3 three
+    → (two ≡ true) × (three ≡ false)
+unfolding printed
+marks_3 two three p q = (plus_of_length _ _ _ _ _ _ _ _ p (omega arith), minus_of_none _ _ _ _ _ _ _ _ q refl)

@@ -4,15 +4,16 @@ use Rattle.std.proofs.Common.{Ok, Err, ◌≡◌, ℕ, ◌-◌, ◌*◌, List, [
 use Rattle.lists.specs.Numbers.{numbers}
 use Rattle.lists.specs.Tests.{every, same_numbers}
 use Rattle.lists.specs.Filters.{keep}
-use Rattle.matrix_form.specs.Shape.{row, in_range, is_weight, last_node}
-use Rattle.matrix_form.specs.Questions.{one_to, within_limits, all_in_range, rows_in_range, are_weights, ask_matrix}
+use Rattle.matrix_form.specs.Shape.{row, in_range, is_weight, last_node, matrix_of}
+use Rattle.matrix_form.specs.Questions.{one_to, within_limits, ask_code, ask_row_of, ask_rows_of, are_weights, ask_matrix}
 use Rattle.matrix_form.specs.declared.refusal.Refusal.TheVariants.{BeyondLimits, CodeRange, ListSize, NotThere, NotBranching, WeightForm}
-use Rattle.matrix_form.specs.Outcomes.{Asked}
+use Rattle.matrix_form.specs.Outcomes.{Asked, ask_each}
 use Rattle.tree_form.specs.declared.branch.Branch.{Branch}
 use Rattle.tree_form.specs.Ancestors.{ancestor, descendants}
 use Rattle.tree_form.specs.Nodes.{has_ancestor, in_tree, nodes_in, other_nodes, taxa_placed}
 use Rattle.tree_form.specs.Growing.{descendant_count, descendants_wanted, climbs, row_one_alone, nodes_only, htus_in, ancestors_in}
 use Rattle.tree_form.specs.Growing.{descendants_right, all_climb, grown, growing_tree, branching}
+use Rattle.lists.specs.Filled.{filled}
 use Rattle.tree_form.specs.Branches.{branches_read, ancestors_of, named_in_order, lent_branching}
 use Rattle.tree_form.specs.Asking.{ask_branching}
 use Rattle.fit_form.specs.Calls.{lists_full, ask_fit}
@@ -47,11 +48,12 @@ none = replicate 125 (branch 0 0)
 
 -- the questions of a fit of n taxa, with lists of these sizes
 fit_by : List ℕ → List ℤ → ℕ → List Branch → ℕ → ℕ → ℕ → Asked
-unfolding numbers every same_numbers keep row in_range last_node one_to within_limits all_in_range rows_in_range ask_matrix ancestor descendants
+unfolding numbers every same_numbers keep row in_range last_node one_to within_limits ask_each ask_code ask_row_of ask_rows_of ask_matrix
+    ancestor descendants
     has_ancestor in_tree nodes_in other_nodes taxa_placed descendant_count descendants_wanted climbs row_one_alone nodes_only htus_in ancestors_in
-    descendants_right all_climb grown growing_tree branching branches_read ancestors_of named_in_order lent_branching ask_branching lists_full ask_fit
+    descendants_right all_climb grown growing_tree branching branches_read ancestors_of filled named_in_order lent_branching ask_branching lists_full ask_fit
     is_weight are_weights codes wrong_row weights branch three none
-fit_by weights matrix n records low high chosen = ask_fit matrix weights n 1 records (codes low) (codes high) (codes chosen)
+fit_by weights matrix n records low high chosen = ask_fit (matrix_of matrix weights) n 1 records (codes low) (codes high) (codes chosen)
 
 -- the same with weights of 1
 fit : List ℤ → ℕ → List Branch → ℕ → ℕ → ℕ → Asked
@@ -60,11 +62,12 @@ fit = fit_by (weights 1)
 
 -- the questions of the call for node v of n taxa in character j
 node_by : List ℕ → List ℤ → ℕ → List Branch → ℕ → ℕ → Asked
-unfolding numbers every same_numbers keep row in_range last_node one_to within_limits all_in_range rows_in_range ask_matrix ancestor descendants
+unfolding numbers every same_numbers keep row in_range last_node one_to within_limits ask_each ask_code ask_row_of ask_rows_of ask_matrix
+    ancestor descendants
     has_ancestor in_tree nodes_in other_nodes taxa_placed descendant_count descendants_wanted climbs row_one_alone nodes_only htus_in ancestors_in
-    descendants_right all_climb grown growing_tree branching branches_read ancestors_of named_in_order lent_branching ask_node
+    descendants_right all_climb grown growing_tree branching branches_read ancestors_of filled named_in_order lent_branching ask_node
     is_weight are_weights codes wrong_row weights branch three none
-node_by weights matrix n records v j = ask_node matrix weights n 1 records v j
+node_by weights matrix n records v j = ask_node (matrix_of matrix weights) n 1 records v j
 
 -- the same with weights of 1
 node : List ℤ → ℕ → List Branch → ℕ → ℕ → Asked

@@ -2,6 +2,7 @@
 -- and in character 3 of an assignment of least length #1 has state 0 or 1, and no other.
 use Rattle.std.proofs.Common.{◌≡◌, ℕ, ◌≤◌, true, ◌↔◌, List, [], ◌∷◌, ℤ, pos, refl, arith}
 use Rattle.lists.specs.Numbers.{numbers}
+use Rattle.matrix_form.proofs.Sample.{rows_abcd}
 use Rattle.matrix_form.specs.Shape.{last_node, is_weight}
 use Rattle.matrix_form.specs.Questions.{are_weights}
 use Rattle.lists.specs.Tests.{every}
@@ -15,7 +16,7 @@ use Rattle.tree_form.specs.Growing.{descendants_right, all_climb, grown, growing
 use Rattle.tree_form.proofs.Test.{branching_iff}
 use Rattle.fit_form.specs.Sets.{In}
 use Rattle.fit_form.specs.Assignments.{total, IsAssignment, Occurs}
-use Rattle.fit_form.proofs.Examples.{rows_abcd, tree_abcd, printed}
+use Rattle.fit_form.proofs.Examples.{tree_abcd, printed}
 use Rattle.fit_form.proofs.Sets.Distance.{span}
 use Rattle.fit_form.proofs.Matrix.ThirdRival.{third_rival}
 

@@ -1,11 +1,12 @@
 -- What the calls on a lent branching answer, and what the functions on a tree promise that other crates call.
 use Rattle.std.specs.Prelude.{◌≡◌, ℕ, ◌+◌, ◌-◌, ◌*◌, ◌≤◌, Bool, false, ◌&&◌, List, map, length, ℤ, ◌==◌, slice_index_or}
 use Rattle.lists.specs.Numbers.{numbers}
-use Rattle.matrix_form.specs.Shape.{matrix_size}
+use Rattle.matrix_form.specs.Shape.{matrix_size, MatrixLists}
 use Rattle.matrix_form.specs.NodeRows.{rows_of, with_rows}
 use Rattle.matrix_form.specs.Outcomes.{Asked, Outcome, answered, ask}
 use Rattle.matrix_form.specs.declared.refusal.Refusal.TheVariants.{ListSize}
 use Rattle.difference_form.specs.Rows.{weighing}
+use Rattle.tree_form.specs.Nodes.{htus}
 use Rattle.tree_form.specs.declared.branch.Branch.{Branch}
 use Rattle.tree_form.specs.Branches.{ancestors_of}
 use Rattle.tree_form.specs.Asking.{ask_branching}
@@ -29,7 +30,7 @@ state_in Chosen states = states.chosen
 -- a list of the matrix's shape with one of the states of each HTU in each of m characters written into the HTUs' rows
 unfoldable pub states_written : Which → List ℕ → List (List ℤ) → ℕ → ℕ → List ℤ → List ℤ
 states_written which tree rows n m old =
-    with_rows old (n + 1) (map (λ v. map (λ j. state_in which (states_in tree rows n v j)) (numbers 1 m)) (numbers (n + 1) (n - 2)))
+    with_rows old (n + 1) (map (λ v. map (λ j. state_in which (states_in tree rows n v j)) (numbers 1 m)) (htus n))
 
 -- a branch of no length and without a mark
 abbrev pub no_branch : BranchFit
@@ -48,15 +49,16 @@ pub record FitOf (step : ℕ → ℤ → ℤ → ℕ) (tree : List ℕ) (rows : 
   pub total : fit.total ≡ fitted_total step tree rows n m
 
 -- the fitted total of a lent branching, once its questions are answered
-unfoldable pub total_answer : List ℤ → List ℕ → ℕ → ℕ → List Branch → Outcome ℕ
-total_answer codes weights n m records =
-    answered (ask_branching codes weights n m records) (fitted_total (weighing weights).step (ancestors_of n records) (rows_of codes m n) n m)
+unfoldable pub total_answer : MatrixLists → ℕ → ℕ → List Branch → Outcome ℕ
+total_answer lists n m records =
+    answered (ask_branching lists n m records)
+    (fitted_total (weighing lists.weights).step (ancestors_of n records) (rows_of lists.codes m n) n m)
 
 -- three lists have the matrix's size
 unfoldable pub lists_full : ℕ → ℕ → ℕ → Bool
 lists_full low high chosen = low == matrix_size && (high == matrix_size && chosen == matrix_size)
 
 -- the questions of the call for a fit: the sizes of the three lists, then those on a lent branching that reads no HTU row
-unfoldable pub ask_fit : List ℤ → List ℕ → ℕ → ℕ → List Branch → List ℤ → List ℤ → List ℤ → Asked
-ask_fit codes weights n m records low high chosen =
-    ask (lists_full (length low) (length high) (length chosen)) ListSize (ask_branching codes weights n m records)
+unfoldable pub ask_fit : MatrixLists → ℕ → ℕ → List Branch → List ℤ → List ℤ → List ℤ → Asked
+ask_fit lists n m records low high chosen =
+    ask (lists_full (length low) (length high) (length chosen)) ListSize (ask_branching lists n m records)

@@ -2,7 +2,7 @@
 use Rattle.std.specs.Prelude.{ℕ, Bool, List, ℤ, nat_lt}
 use Rattle.clades.specs.Character.{state_of, range_of}
 use Rattle.fit_form.specs.Sets.{own_sets, ordered}
-use Rattle.fit_form.specs.declared.spans.Span.{Span}
+use Rattle.matrix_form.specs.declared.spans.Span.{Span}
 use Rattle.fit_form.specs.declared.characters.States.{States}
 use Rattle.fit_form.specs.Clades.{clades_below}
 use Rattle.fit_form.specs.Assignments.{character, branch_length, total}

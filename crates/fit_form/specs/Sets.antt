@@ -2,7 +2,7 @@
 use Rattle.std.specs.Prelude.{ℕ, cond, List, [], ◌∷◌, ℤ, pos, ◌≤ℤ◌, int_le, slice_index_or}
 use Rattle.difference_form.specs.Rows.{apart, lower, higher}
 use Rattle.clades.specs.Kinds.{Kind}
-use Rattle.fit_form.specs.declared.spans.Span.{Span}
+use Rattle.matrix_form.specs.declared.spans.Span.{Span}
 
 -- a set has at least one member
 pub record Nonempty (a : Span) : Type 0 where

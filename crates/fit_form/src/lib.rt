@@ -2,5 +2,4 @@
 #![tactic(auto)]
 
 pub mod characters;
-pub mod spans;
 pub mod whole;

@@ -1,7 +1,7 @@
 // The fit of a tree.
 ghost use Rattle.std.specs.Prelude.{length};
 
-use tree_form::tree::PLACES;
+use tree_form::tree::TREE_SIZE;
 
 // A branch as far as characters are fitted: its length under the chosen states, and its mark.
 #[derive(Clone, Copy, Default)]
@@ -14,6 +14,6 @@ pub struct BranchFit {
 // The fit of a tree: by node number the fitted length and the mark of each node's branch; and the total.
 #[derive(Clone, Copy, Default)]
 pub struct Fit {
-    pub branches: [BranchFit; PLACES],
+    pub branches: [BranchFit; TREE_SIZE],
     pub total: u64,
 }

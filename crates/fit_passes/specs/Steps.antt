@@ -4,7 +4,7 @@ use Rattle.std.specs.Bool.{then_some}
 use Rattle.std.specs.Prelude.{◌≡◌, ℕ, ◌+◌, ◌-◌, ◌*◌, ◌^◌, ◌<◌, ◌≤◌, true, nat_le, Option, Some, None, List, ℤ, pos, slice_index_or}
 use mathlib.Core.List.{flat_map}
 use Rattle.lists.specs.Sums.{sum_over}
-use Rattle.matrix_form.specs.Shape.{in_range, last_node}
+use Rattle.matrix_form.specs.Shape.{in_range, last_node, state_at}
 use Rattle.difference_form.specs.Rows.{apart}
 use Rattle.tree_form.specs.Ancestors.{ancestor}
 use Rattle.tree_form.specs.Nodes.{other_nodes}
@@ -17,8 +17,7 @@ use Rattle.fit_form.specs.Sets.{only, own_sets, join, gap, nearest_member, middl
 use Rattle.fit_form.specs.Clades.{clade_at, clades_below}
 use Rattle.fit_form.specs.Assignments.{character}
 use Rattle.fit_form.specs.Fit.{chosen_state, states_in}
-use Rattle.fit_form.specs.Handing.{state_at}
-use Rattle.fit_form.specs.declared.spans.Span.{Span}
+use Rattle.matrix_form.specs.declared.spans.Span.{Span}
 use Rattle.fit_passes.specs.declared.characters.Part.{Part}
 use Rattle.fit_passes.specs.declared.characters.Seen.{Seen}
 use Rattle.fit_form.specs.declared.characters.States.{States}
@@ -54,7 +53,7 @@ character_length tree rows n j =
 abbrev pub taxon_code : List ℤ → ℕ → ℕ → ℕ → Option ℤ
 taxon_code matrix n v j = then_some (nat_le v n) (state_at matrix v j)
 
--- the code at place v of a list of codes
+-- the code at index v of a list of codes
 abbrev pub code_in : List (Option ℤ) → ℕ → Option ℤ
 code_in codes v = slice_index_or codes v None
 

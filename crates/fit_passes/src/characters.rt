@@ -1,20 +1,18 @@
 // The passes over a branching in one character: sets and least costs from the tips up; chosen states and what is outside from row 1 down;
 // ranges from both.
 // Kept: no plainer, the plan serves all characters, and each has codes of its own: a struct of both would be made anew for each, to be taken apart in four passes.
-ghost use Rattle.std.specs.Prelude.{◌≡◌, ◌+◌, ◌-◌, ◌^◌, min};
-ghost use Rattle.matrix_form.specs.Shape.{row_start};
-ghost use Rattle.fit_form.specs.Handing.{state_at};
+ghost use Rattle.std.specs.Prelude.{◌≡◌};
 ghost use Rattle.fit_passes.specs.Steps.{taxon_code, Column, PartOf, PartsUp, LeastCost};
 ghost use Rattle.fit_passes.specs.Steps.{state_of, outside_from, SeenDown, states_from, Fits};
 
 use crate::planning::{Plan, sister};
-use branching::tree::place_of;
+use branching::tree::tree_index;
 use fit_form::characters::States;
-use fit_form::spans::Span;
 use fit_sets::spans::{gap, join, middle, nearest_member, only};
-use matrix::COLUMNS;
+use matrix::codes::code_at;
+use matrix_form::spans::Span;
 use std::array;
-use tree_form::tree::PLACES;
+use tree_form::tree::TREE_SIZE;
 
 // What is found of a node from the tips up: its set, and the least cost of its clade.
 #[derive(Clone, Copy, Default)]
@@ -30,22 +28,6 @@ pub struct Seen {
     pub outside: Span,
 }
 
-// Kept: no plainer, `row_start` ends at the list's end, and here a place beyond the list has to stay beyond it.
-// The place of node v's code in character j in a list of the matrix's shape, or the last of all numbers where it would lie beyond them.
-pub fn place_of_code(v: usize, j: usize) -> usize
-    ensures { result ≡ min (row_start v + (j - 1)) (2 ^ 64 - 1) }
-{
-    let start = v.saturating_sub(1).saturating_mul(COLUMNS);
-    start.saturating_add(j.saturating_sub(1))
-}
-
-// The code of node v in character j, as far as the matrix goes.
-pub fn code_at(matrix: &[i32], v: usize, j: usize) -> i32
-    ensures { result ≡ state_at matrix.now v j }
-{
-    matrix.get(place_of_code(v, j)).copied().unwrap_or(0)
-}
-
 // Kept: no plainer, the states of lists of the same shape are read by `code_at` as well, and the plan says how many taxa there are.
 // The code of node v in character j if it is one of n taxa; the row of an HTU is not read.
 fn taxon_code(matrix: &[i32], n: usize, v: usize, j: usize) -> Option<i32>
@@ -54,8 +36,8 @@ fn taxon_code(matrix: &[i32], n: usize, v: usize, j: usize) -> Option<i32>
     (v <= n).then(|| code_at(matrix, v, j))
 }
 
-// The codes of the n taxa in character j; that of taxon v stands at place v.
-pub fn codes_of(matrix: &[i32], n: usize, j: usize) -> [Option<i32>; PLACES]
+// The codes of the n taxa in character j; that of taxon v stands at index v.
+pub fn codes_of(matrix: &[i32], n: usize, j: usize) -> [Option<i32>; TREE_SIZE]
     ensures { Column matrix.now n j result }
 {
     array::from_fn(|v| taxon_code(matrix, n, v, j))
@@ -79,10 +61,10 @@ fn part_of(code: Option<i32>, a: Part, b: Part) -> Part
 
 // The pass up: against the walk, so that both descendants of an HTU come before it.
 #[tactic(auto, unfolding(tree_walk::specs::Walks::node_at))]
-fn parts_up(codes: &[Option<i32>; PLACES], plan: &Plan) -> [Part; PLACES]
+fn parts_up(codes: &[Option<i32>; TREE_SIZE], plan: &Plan) -> [Part; TREE_SIZE]
     ensures { PartsUp plan.now.taxa plan.now.tree codes.now result }
 {
-    let mut parts = [Part::default(); PLACES];
+    let mut parts = [Part::default(); TREE_SIZE];
     for v in plan.walk.as_slice().iter().rev() {
         let pair = plan.below[*v];
         parts[*v] = part_of(codes[*v], parts[pair.first], parts[pair.second]);
@@ -91,7 +73,7 @@ fn parts_up(codes: &[Option<i32>; PLACES], plan: &Plan) -> [Part; PLACES]
 }
 
 // The least cost of a character, from the pass up alone: that of the clade below row 1, and how far row 1's code lies from its set.
-pub fn least_cost(codes: &[Option<i32>; PLACES], plan: &Plan) -> u64
+pub fn least_cost(codes: &[Option<i32>; TREE_SIZE], plan: &Plan) -> u64
     ensures { LeastCost plan.now.taxa plan.now.tree codes.now result }
 {
     if plan.n < 2 {
@@ -125,12 +107,16 @@ fn outside_of(above: Option<i32>, beside: Span, outside: Span) -> Span
 
 // The pass down: along the walk, so that the ancestor of each node comes before it.
 #[tactic(auto, unfolding(tree_walk::specs::Walks::node_at))]
-fn seen_down(codes: &[Option<i32>; PLACES], plan: &Plan, parts: &[Part; PLACES]) -> [Seen; PLACES]
+fn seen_down(
+    codes: &[Option<i32>; TREE_SIZE],
+    plan: &Plan,
+    parts: &[Part; TREE_SIZE],
+) -> [Seen; TREE_SIZE]
     ensures { SeenDown plan.now.taxa plan.now.tree codes.now parts.now result }
 {
-    let mut seen = [Seen::default(); PLACES];
+    let mut seen = [Seen::default(); TREE_SIZE];
     for v in plan.walk.as_slice() {
-        let u = place_of(plan.tree.ancestors[*v]);
+        let u = tree_index(plan.tree.ancestor(*v));
         let above = seen[u];
         let beside = parts[sister(plan.below[u], *v)];
         seen[*v] = Seen {
@@ -164,7 +150,7 @@ fn states_of(code: Option<i32>, a: Part, b: Part, seen: Seen) -> States
 }
 
 // The fit of one character: the states of each node.
-pub fn fit_character(codes: &[Option<i32>; PLACES], plan: &Plan) -> [States; PLACES]
+pub fn fit_character(codes: &[Option<i32>; TREE_SIZE], plan: &Plan) -> [States; TREE_SIZE]
     ensures { Fits plan.now.taxa plan.now.tree codes.now result }
 {
     let parts = parts_up(codes, plan);

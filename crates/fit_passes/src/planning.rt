@@ -6,7 +6,7 @@ ghost use Rattle.fit_passes.specs.Plans.{sister_in};
 
 use branching::tree::Tree;
 use std::marker::Model;
-use tree_form::tree::PLACES;
+use tree_form::tree::TREE_SIZE;
 use tree_walk::descent::descent_over;
 use tree_walk::walk::{Below, Descent, Walk};
 
@@ -16,7 +16,7 @@ pub struct Plan {
     pub(crate) n: usize,
     pub(crate) tree: Tree,
     pub(crate) walk: Walk,
-    pub(crate) below: [Below; PLACES],
+    pub(crate) below: [Below; TREE_SIZE],
 }
 
 impl Model for Plan {

@@ -7,7 +7,7 @@ use Rattle.difference_form.specs.Rows.{lower, higher}
 use Rattle.difference_form.proofs.Laws.Order.{le_z-true, le_z-false}
 use Rattle.difference_form.proofs.Laws.Codes.{lower-first, lower_second, higher-first, higher_second}
 use Rattle.fit_form.specs.Sets.{insert, in_order, six_ends, middle}
-use Rattle.fit_form.specs.declared.spans.Span.{Span}
+use Rattle.matrix_form.specs.declared.spans.Span.{Span}
 use Rattle.fit_sets.specs.Steps.{carried, Carried}
 use Rattle.fit_form.proofs.Sets.Distance.{span}
 use Rattle.fit_form.proofs.Sets.Order.{Rising, rising_in_order}

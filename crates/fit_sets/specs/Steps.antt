@@ -3,9 +3,9 @@ use Rattle.std.specs.Prelude.{◌≡◌, ℕ, ◌+◌, ◌^◌, ◌≤◌, List,
 use Rattle.filled.specs.declared.Filled.{Filled}
 use Rattle.difference_form.specs.Rows.{lower, higher}
 use Rattle.fit_form.specs.Sets.{gap}
-use Rattle.fit_form.specs.declared.spans.Span.{Span}
+use Rattle.matrix_form.specs.declared.spans.Span.{Span}
 
--- a state carried through a list: each place keeps the lower, and the higher goes on
+-- a state carried through a list: each entry keeps the lower, and the higher goes on
 unfoldable pub carried : ℤ → List ℤ → List ℤ
 carried state [] = state ∷ []
 carried state (s ∷ rest) = lower state s ∷ carried (higher state s) rest

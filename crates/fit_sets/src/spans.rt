@@ -6,7 +6,7 @@ ghost use Rattle.fit_sets.specs.Steps.{Carried, GapOf};
 
 use difference::codes::{apart, higher, lower};
 use filled::Filled;
-use fit_form::spans::Span;
+use matrix_form::spans::Span;
 
 // Three sets have six ends.
 const ENDS: usize = 6;
@@ -49,7 +49,7 @@ pub fn gap(a: Span, b: Span) -> u64
     apart(start, lower(start, end))
 }
 
-// A state carried through states in rising order: each place keeps the lower, and the higher goes on, at last behind them.
+// A state carried through states in rising order: each entry keeps the lower, and the higher goes on, at last behind them.
 fn carry(sorted: Filled<i32, ENDS>, state: i32) -> Filled<i32, ENDS>
     requires { sorted.count < 6 }
     ensures { Carried sorted state result }

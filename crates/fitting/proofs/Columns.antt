@@ -9,11 +9,12 @@ use Rattle.lists.specs.Sums.{sum_over}
 use Rattle.lists.proofs.Every.{every_at}
 use Rattle.lists.proofs.Numbers.{numbers-within, length-numbers}
 use Rattle.lists.proofs.Sums.{sum_most}
-use Rattle.matrix_form.specs.Shape.{row, row_start, in_range, weight_of}
+use Rattle.matrix_form.specs.Shape.{most_taxa, row, row_start, in_range, heaviest, weight_of}
 use Rattle.matrix_form.specs.NodeRows.{rows_of}
 use Rattle.matrix_form.specs.Questions.{LentMatrix, all_in_range, are_weights}
 use Rattle.matrix_form.proofs.NodeRows.{get_or-rows_of}
 use Rattle.matrix_form.proofs.Row.{row-code, row-length}
+use Rattle.difference_form.specs.Rows.{most_apart}
 use Rattle.difference_form.proofs.Laws.Weights.{weight_of-within}
 use Rattle.tree_form.specs.Nodes.{other_nodes}
 use Rattle.tree_form.specs.Within.{branching_within}
@@ -22,6 +23,14 @@ use Rattle.fit_passes.specs.Steps.{Column, Codes, character_length}
 use Rattle.fit_form.proofs.Clades.Hanging.{clade_of}
 use Rattle.fit_passes.proofs.Matrix.LeastCost.{character-cost, cost-most, gap_row1}
 use Rattle.fit_passes.proofs.Pass.Standing.{taxa-most, grown_of, root-within}
+
+-- no character is longer: twice 1998 for each of 64 taxa, and 1998 between row 1 and the others
+abbrev longest_character : ℕ
+longest_character = 2 * most_apart * most_taxa + most_apart
+
+-- as often as its weight says, it counts for at most 9 times as much
+abbrev longest_weighed : ℕ
+longest_weighed = heaviest * longest_character
 
 -- where there is no branch a character has no length
 no_branch_lem : (tree : List ℕ) (rows : List (List ℤ)) (n j : ℕ) → 2 * n - 3 ≡ 0 → character_length tree rows n j ≡ 0
@@ -67,7 +76,7 @@ module _ (codes : List ℤ) (n m : ℕ) (lent : LentMatrix codes n m) where
 
   module _ (tree : List ℕ) (branches : branching_within n tree ≡ true) where
     -- a character's length is small
-    pub character-most : (j : ℕ) → 1 ≤ j → j ≤ m → character_length tree rows n j ≤ 300000
+    pub character-most : (j : ℕ) → 1 ≤ j → j ≤ m → character_length tree rows n j ≤ longest_character
     character-most j first last =
         by_cases (dec_le 2 n)
         (λ two.
@@ -88,10 +97,10 @@ module _ (codes : List ℤ) (n m : ℕ) (lent : LentMatrix codes n m) where
 
     -- so is the sum of the lengths of k characters, each as often as its weight says
     pub characters-most : (weights : List ℕ) → are_weights weights m ≡ true → (k : ℕ) → k ≤ m
-        → sum_over (λ j. weight_of weights j * character_length tree rows n j) (numbers 1 k) ≤ k * 2700000
+        → sum_over (λ j. weight_of weights j * character_length tree rows n j) (numbers 1 k) ≤ k * longest_weighed
     characters-most weights weighed k last =
         let most =
-        sum_most (λ j. weight_of weights j * character_length tree rows n j) 2700000 (numbers 1 k) (λ j i.
+        sum_most (λ j. weight_of weights j * character_length tree rows n j) longest_weighed (numbers 1 k) (λ j i.
         let w = numbers-within 1 k j i in
         let end : j ≤ m = omega (arith, w.1) in
         mul-le-mul (weight_of-within weights m weighed j w.0 end).1 (character-most j w.0 end)) in

@@ -7,11 +7,12 @@ use Rattle.lists.proofs.Filled.{get_d_replicate}
 use Rattle.lists.proofs.Maps.{map_same}
 use Rattle.lists.proofs.Numbers.{numbers-within, length-numbers}
 use Rattle.lists.proofs.Sums.{sum_most}
-use Rattle.matrix_form.specs.Shape.{columns, row_start, last_node, in_range, weight_of}
+use Rattle.matrix_form.specs.Shape.{columns, row_start, last_node, in_range, weight_of, MatrixLists}
 use Rattle.matrix_form.specs.NodeRows.{rows_of}
 use Rattle.matrix_form.specs.Questions.{LentMatrix, LentWeights}
-use Rattle.difference_form.specs.Rows.{apart, part, weighing}
+use Rattle.difference_form.specs.Rows.{apart, part, most_part, weighing}
 use Rattle.difference_form.proofs.Laws.Weights.{part-in_range, weight_of_weight, weight_of-within}
+use Rattle.tree_form.specs.Nodes.{htus}
 use Rattle.tree_form.specs.Ancestors.{ancestor}
 use Rattle.tree_form.specs.Within.{branching_within}
 use Rattle.tree_walk.proofs.Walks.{branching-rooted}
@@ -34,16 +35,16 @@ column-same : (n j : ℕ) (f g : ℕ → ℤ) (old : List ℤ) → ((v : ℕ) �
 unfolding with_column
 column-same n j f g old same =
     ap (λ (items : List (List ℤ)). stripes columns (row_start (n + 1) + (j - 1)) items old)
-    (map_same (λ v. f v ∷ []) (λ v. g v ∷ []) (numbers (n + 1) (n - 2))
+    (map_same (λ v. f v ∷ []) (λ v. g v ∷ []) (htus n)
     (λ v m. let w = numbers-within (n + 1) (n - 2) v m in ap (λ z. z ∷ []) (same v (omega (arith, w.0)) (omega (arith, w.1)))))
 
 -- before the first character nothing is written, every length is 0 and no branch is marked
-pub start_written : (matrix : List ℤ) (weights : List ℕ) (n m : ℕ) (tree : List ℕ) (low high chosen : List ℤ) →
-    Written matrix weights n m 0 tree low low high high chosen chosen (replicate 127 no_branch)
-start_written matrix weights n m tree low high chosen = record {
-  is_low = λ branches lent. sym (written_none Low tree (rows_of matrix m n) n low);
-  is_high = λ branches lent. sym (written_none High tree (rows_of matrix m n) n high);
-  is_chosen = λ branches lent. sym (written_none Chosen tree (rows_of matrix m n) n chosen);
+pub start_written : (lists : MatrixLists) (n m : ℕ) (tree : List ℕ) (low high chosen : List ℤ) →
+    Written lists n m 0 tree low low high high chosen chosen (replicate 127 no_branch)
+start_written lists n m tree low high chosen = record {
+  is_low = λ branches lent. sym (written_none Low tree (rows_of lists.codes m n) n low);
+  is_high = λ branches lent. sym (written_none High tree (rows_of lists.codes m n) n high);
+  is_chosen = λ branches lent. sym (written_none Chosen tree (rows_of lists.codes m n) n chosen);
   are = λ branches lent weighed v l h. get_d_replicate no_branch 127 v ∙ unfold marked fitted_length branch_length sum_over numbers in refl;
   no_others = λ v out. get_d_replicate no_branch 127 v;
 }
@@ -92,11 +93,11 @@ mark-next weights tree rows n j v first some =
     ∙ above_zero length (weight_of weights j * far)
     ∙ ap (λ t. ltb 0 length || t) (times_above_zero (weight_of weights j) far some)
 
-module _ (matrix : List ℤ) (weights : List ℕ) (n m : ℕ) (tree : List ℕ) (branches : branching_within n tree ≡ true)
-    (lent : LentMatrix matrix n m) (weighed : LentWeights weights m) where
+module _ (lists : MatrixLists) (n m : ℕ) (tree : List ℕ) (branches : branching_within n tree ≡ true)
+    (lent : LentMatrix lists.codes n m) (weighed : LentWeights lists.weights m) where
   -- the rows of the taxa
   abbrev rows : List (List ℤ)
-  rows = rows_of matrix m n
+  rows = rows_of lists.codes m n
 
   module _ (v : ℕ) (second : 2 ≤ v) (last : v ≤ 2 * n - 2) where
     -- there are at least two taxa
@@ -112,76 +113,78 @@ module _ (matrix : List ℤ) (weights : List ℕ) (n m : ℕ) (tree : List ℕ) 
 
     -- the states at both ends of its branch are not far apart
     step-most : (j : ℕ) → 1 ≤ j → j ≤ m
-        → part (weight_of weights j) (chosen_state tree rows n v j) (chosen_state tree rows n (ancestor tree v) j) ≤ 17982
+        → part (weight_of lists.weights j) (chosen_state tree rows n v j) (chosen_state tree rows n (ancestor tree v) j) ≤ most_part
     step-most j first end =
         let grown = grown_of n tree branches several in
         let known : (u : ℕ) → 1 ≤ u → u ≤ n → in_range (character rows j u)
-        ≡ true = λ u l h. character-known matrix n m lent u j l h first end in
-        part-in_range (weight_of weights j) (chosen_state tree rows n v j) (chosen_state tree rows n (ancestor tree v) j)
-        (weight_of_weight weights m weighed.known j first end)
+        ≡ true = λ u l h. character-known lists.codes n m lent u j l h first end in
+        part-in_range (weight_of lists.weights j) (chosen_state tree rows n v j) (chosen_state tree rows n (ancestor tree v) j)
+        (weight_of_weight lists.weights m weighed.known j first end)
         (chosen_state-each (λ z. in_range z ≡ true) n tree grown rows j known v (omega arith) last)
         (chosen_state-each (λ z. in_range z ≡ true) n tree grown rows j known (ancestor tree v) above_within.0 above_within.1)
 
     -- so its fitted length is small
-    pub length_most : (k : ℕ) → k ≤ m → fitted_length (weighing weights).step tree rows n k v ≤ k * 17982
+    pub length_most : (k : ℕ) → k ≤ m → fitted_length (weighing lists.weights).step tree rows n k v ≤ k * most_part
     unfolding fitted_length branch_length
     length_most k end =
         let most =
-        sum_most (λ i. part (weight_of weights i) (chosen_state tree rows n v i) (chosen_state tree rows n (ancestor tree v) i)) 17982
+        sum_most (λ i. part (weight_of lists.weights i) (chosen_state tree rows n v i) (chosen_state tree rows n (ancestor tree v) i))
+        most_part
         (numbers 1 k)
         (λ i i∈. let w = numbers-within 1 k i i∈ in step-most i w.0 (omega (arith, w.1))) in
         rw (length-numbers 1 k) at most
 
 -- one character more
-module _ (matrix : List ℤ) (weights : List ℕ) (n m j : ℕ) (first : 1 ≤ j) (last : j ≤ m) (tree : List ℕ) (codes : List (Option ℤ))
-    (column : Column matrix n j codes) (states : List States) (fits : Fits n tree codes states) where
+module _ (lists : MatrixLists) (n m j : ℕ) (first : 1 ≤ j) (last : j ≤ m) (tree : List ℕ) (codes : List (Option ℤ))
+    (column : Column lists.codes n j codes) (states : List States) (fits : Fits n tree codes states) where
   -- the states found
-  states-are : branching_within n tree ≡ true → LentMatrix matrix n m → (v : ℕ) → 1 ≤ v → v ≤ last_node n
-      → states_at states v ≡ states_in tree (rows_of matrix m n) n v j
-  states-are branches lent = fits.are (rows_of matrix m n) j (column-codes matrix n m lent j first last codes column) branches
+  states-are : branching_within n tree ≡ true → LentMatrix lists.codes n m → (v : ℕ) → 1 ≤ v → v ≤ last_node n
+      → states_at states v ≡ states_in tree (rows_of lists.codes m n) n v j
+  states-are branches lent = fits.are (rows_of lists.codes m n) j (column-codes lists.codes n m lent j first last codes column) branches
 
   -- a list with one of them written
-  list-next : (which : Which) (old now new : List ℤ) → branching_within n tree ≡ true → LentMatrix matrix n m
-      → now ≡ states_written which tree (rows_of matrix m n) n (j - 1) old
+  list-next : (which : Which) (old now new : List ℤ) → branching_within n tree ≡ true → LentMatrix lists.codes n m
+      → now ≡ states_written which tree (rows_of lists.codes m n) n (j - 1) old
       → new ≡ with_column n j (λ v. state_in which (states_at states v)) now
-      → new ≡ states_written which tree (rows_of matrix m n) n (j + 1 - 1) old
+      → new ≡ states_written which tree (rows_of lists.codes m n) n (j + 1 - 1) old
   list-next which old now new branches lent before written =
       let wide = lent.characters in
       written
-      ∙ column-same n j (λ v. state_in which (states_at states v)) (λ v. state_in which (states_in tree (rows_of matrix m n) n v j)) now
+      ∙ column-same n j (λ v. state_in which (states_at states v))
+      (λ v. state_in which (states_in tree (rows_of lists.codes m n) n v j)) now
       (λ v l h. ap (state_in which) (states-are branches lent v (omega arith) (unfold last_node in omega arith)))
-      ∙ ap (with_column n j (λ v. state_in which (states_in tree (rows_of matrix m n) n v j))) before
-      ∙ written_next which tree (rows_of matrix m n) n j old first (omega arith)
+      ∙ ap (with_column n j (λ v. state_in which (states_in tree (rows_of lists.codes m n) n v j))) before
+      ∙ written_next which tree (rows_of lists.codes m n) n j old first (omega arith)
 
   -- a branch with one character more
-  branch_right : (old new : List BranchFit) → branching_within n tree ≡ true → LentMatrix matrix n m → LentWeights weights m
-      → Lengthened (weight_of weights j) n tree states old new
-      → (v : ℕ) → 2 ≤ v → v ≤ 2 * n - 2 → branch_at old v ≡ fitted_branch weights tree (rows_of matrix m n) n (j - 1) v
-      → branch_at new v ≡ fitted_branch weights tree (rows_of matrix m n) n (j + 1 - 1) v
+  branch_right : (old new : List BranchFit) → branching_within n tree ≡ true → LentMatrix lists.codes n m → LentWeights lists.weights m
+      → Lengthened (weight_of lists.weights j) n tree states old new
+      → (v : ℕ) → 2 ≤ v → v ≤ 2 * n - 2 → branch_at old v ≡ fitted_branch lists.weights tree (rows_of lists.codes m n) n (j - 1) v
+      → branch_at new v ≡ fitted_branch lists.weights tree (rows_of lists.codes m n) n (j + 1 - 1) v
   branch_right old new branches lent weighed longer v l h before =
-      let rows = rows_of matrix m n in
-      let above = above_within matrix weights n m tree branches lent weighed v l h in
+      let rows = rows_of lists.codes m n in
+      let above = above_within lists n m tree branches lent weighed v l h in
       let few = taxa-most n tree branches in
       let end = last_several n (omega arith) in
       let own = states-are branches lent v (omega arith) (omega arith) in
       let its = states-are branches lent (ancestor tree v) above.0 (omega (arith, above.1)) in
       let more = rw (own, its, before) at (longer.added v l h (omega (arith, above.1))) in
-      let step = ap₂ (part (weight_of weights j)) (chosen_is tree rows n v j) (chosen_is tree rows n (ancestor tree v) j) in
-      let next = length-next weights tree rows n j v first in
-      let most = length_most matrix weights n m tree branches lent weighed v l h (j + 1 - 1) (omega arith) in
+      let step = ap₂ (part (weight_of lists.weights j)) (chosen_is tree rows n v j) (chosen_is tree rows n (ancestor tree v) j) in
+      let next = length-next lists.weights tree rows n j v first in
+      let most = length_most lists n m tree branches lent weighed v l h (j + 1 - 1) (omega arith) in
       let wide = lent.characters in
       ap₂ (λ (x : ℕ) (t : Bool). record { length = x; mark = t })
-      (more.length (omega arith) ∙ ap (λ (x : ℕ). fitted_length (weighing weights).step tree rows n (j - 1) v + x) step ∙ sym next)
-      (more.mark ∙ sym (mark-next weights tree rows n j v first (weight_of-within weights m weighed.known j first last).0))
+      (more.length (omega arith) ∙ ap (λ (x : ℕ). fitted_length (weighing lists.weights).step tree rows n (j - 1) v + x) step ∙ sym next)
+      (more.mark ∙ sym (mark-next lists.weights tree rows n j v first (weight_of-within lists.weights m weighed.known j first last).0))
 
   -- all of it
   pub written_more : (low low' low'' high high' high'' chosen chosen' chosen'' : List ℤ) (old new : List BranchFit)
-      → Written matrix weights n m (j - 1) tree low low' high high' chosen chosen' old
+      → Written lists n m (j - 1) tree low low' high high' chosen chosen' old
       → low'' ≡ with_column n j (λ v. state_in Low (states_at states v)) low'
       → high'' ≡ with_column n j (λ v. state_in High (states_at states v)) high'
       → chosen'' ≡ with_column n j (λ v. state_in Chosen (states_at states v)) chosen'
-      → Lengthened (weight_of weights j) n tree states old new
-      → Written matrix weights n m (j + 1 - 1) tree low low'' high high'' chosen chosen'' new
+      → Lengthened (weight_of lists.weights j) n tree states old new
+      → Written lists n m (j + 1 - 1) tree low low'' high high'' chosen chosen'' new
   written_more low low' low'' high high' high'' chosen chosen' chosen'' old new before l h c longer = record {
     is_low = λ branches lent. list-next Low low low' low'' branches lent (before.is_low branches lent) l;
     is_high = λ branches lent. list-next High high high' high'' branches lent (before.is_high branches lent) h;

@@ -12,6 +12,7 @@ use Rattle.matrix_form.specs.NodeRows.{with_rows}
 use Rattle.fit_form.specs.Fit.{states_in}
 use Rattle.fit_form.specs.Calls.{Which, state_in, states_written}
 use Rattle.fitting.specs.Lists.{with_column}
+use Rattle.tree_form.specs.Nodes.{htus}
 
 -- stripes without items
 empty_stripes : (vs : List ℕ) (place : ℕ) (old : List ℤ) → stripes columns place (map (λ (v : ℕ). []) vs) old ≡ old
@@ -22,7 +23,7 @@ empty_stripes (v ∷ vs) place old = empty_stripes vs (place + columns) (over pl
 -- a list with a column written keeps its length
 pub length-column : (n j : ℕ) (f : ℕ → ℤ) (old : List ℤ) → length (with_column n j f old) ≡ length old
 unfolding with_column
-length-column n j f old = length-stripes columns (row_start (n + 1) + (j - 1)) (map (λ v. f v ∷ []) (numbers (n + 1) (n - 2))) old
+length-column n j f old = length-stripes columns (row_start (n + 1) + (j - 1)) (map (λ v. f v ∷ []) (htus n)) old
 
 -- a column of which the entry for node v is written next
 pub column-more : (n j v : ℕ) (f : ℕ → ℤ) (old out : List ℤ) → n + 1 ≤ v →
@@ -47,7 +48,7 @@ module _ (which : Which) (tree : List ℕ) (rows : List (List ℤ)) (n : ℕ) wh
   -- of no character nothing is written
   pub written_none : (old : List ℤ) → states_written which tree rows n 0 old ≡ old
   unfolding states_written with_rows numbers
-  written_none old = empty_stripes (numbers (n + 1) (n - 2)) (row_start (n + 1)) old
+  written_none old = empty_stripes (htus n) (row_start (n + 1)) old
 
   -- with one character more
   pub written_next : (j : ℕ) (old : List ℤ) → 1 ≤ j → j ≤ columns →
@@ -60,7 +61,7 @@ module _ (which : Which) (tree : List ℕ) (rows : List (List ℤ)) (n : ℕ) wh
       let more : (v : ℕ) → map (state v) (numbers 1 (j - 1)) ++ (state v j ∷ []) ≡ map (state v) (numbers 1 (suc (j - 1))) =
       λ v. ap (λ (k : ℕ). map (state v) (numbers 1 (j - 1)) ++ (state v k ∷ [])) (sym here)
       ∙ sym (ap (map (state v)) (numbers-snoc 1 (j - 1)) ∙ map-append (state v) (numbers 1 (j - 1)) ((1 + (j - 1)) ∷ [])) in
-      stripes-column columns (j - 1) (λ v. map (state v) (numbers 1 (j - 1))) (λ v. state v j) size (omega arith) (numbers (n + 1) (n - 2))
+      stripes-column columns (j - 1) (λ v. map (state v) (numbers 1 (j - 1))) (λ v. state v j) size (omega arith) (htus n)
       (row_start (n + 1)) old
-      ∙ ap (λ (f : ℕ → List ℤ). stripes columns (row_start (n + 1)) (map f (numbers (n + 1) (n - 2))) old) (fun_ext more)
-      ∙ ap (λ (k : ℕ). stripes columns (row_start (n + 1)) (map (λ v. map (state v) (numbers 1 k)) (numbers (n + 1) (n - 2))) old) (sym one)
+      ∙ ap (λ (f : ℕ → List ℤ). stripes columns (row_start (n + 1)) (map f (htus n)) old) (fun_ext more)
+      ∙ ap (λ (k : ℕ). stripes columns (row_start (n + 1)) (map (λ v. map (state v) (numbers 1 k)) (htus n)) old) (sym one)

@@ -1,6 +1,6 @@
 -- What a character costs, and the fitted total of a branching.
-use Rattle.std.specs.Prelude.{◌≡◌, ℕ, ◌*◌, ◌^◌, ◌≤◌, true, List, ℤ}
-use Rattle.matrix_form.specs.Shape.{weight_of}
+use Rattle.std.specs.Prelude.{◌≡◌, ℕ, ◌*◌, ◌^◌, ◌≤◌, true, List}
+use Rattle.matrix_form.specs.Shape.{weight_of, MatrixLists}
 use Rattle.matrix_form.specs.NodeRows.{rows_of}
 use Rattle.matrix_form.specs.Questions.{LentMatrix, LentWeights}
 use Rattle.difference_form.specs.Rows.{weighing}
@@ -13,11 +13,11 @@ pub record WeighedOf (weight length r : ℕ) : Type 0 where
   pub is : length ≤ 2 ^ 32 → r ≡ weight * length
 
 -- r is the cost of character j: its length under the chosen states, as often as its weight says
-pub record CostOf (matrix : List ℤ) (weights : List ℕ) (n m : ℕ) (tree : List ℕ) (j r : ℕ) : Type 0 where
-  pub is : branching_within n tree ≡ true → LentMatrix matrix n m → LentWeights weights m
-      → r ≡ weight_of weights j * character_length tree (rows_of matrix m n) n j
+pub record CostOf (lists : MatrixLists) (n m : ℕ) (tree : List ℕ) (j r : ℕ) : Type 0 where
+  pub is : branching_within n tree ≡ true → LentMatrix lists.codes n m → LentWeights lists.weights m
+      → r ≡ weight_of lists.weights j * character_length tree (rows_of lists.codes m n) n j
 
 -- r is the fitted total of a branching with a lent matrix of n taxa and m characters, by its weights
-pub record TotalOf (codes : List ℤ) (weights : List ℕ) (n m : ℕ) (tree : List ℕ) (r : ℕ) : Type 0 where
-  pub is : branching_within n tree ≡ true → LentMatrix codes n m → LentWeights weights m
-      → r ≡ fitted_total (weighing weights).step tree (rows_of codes m n) n m
+pub record TotalOf (lists : MatrixLists) (n m : ℕ) (tree : List ℕ) (r : ℕ) : Type 0 where
+  pub is : branching_within n tree ≡ true → LentMatrix lists.codes n m → LentWeights lists.weights m
+      → r ≡ fitted_total (weighing lists.weights).step tree (rows_of lists.codes m n) n m

@@ -1,15 +1,14 @@
 -- For the proofs of the private functions alone; no public contract cites this file.
 -- The lent lists and the branches while a matrix is fitted character after character.
 use Rattle.std.specs.Prelude.{◌≡◌, ℕ, ◌+◌, ◌-◌, ◌*◌, ◌^◌, ◌<◌, ◌≤◌, Bool, true, ◌&&◌, ◌||◌, List, [], ◌∷◌, map, ℤ, ◌==◌, nat_lt, length}
-use Rattle.lists.specs.Numbers.{numbers}
 use Rattle.lists.specs.Over.{stripes}
 use Rattle.lists.specs.Sums.{sum_over}
-use Rattle.matrix_form.specs.Shape.{columns, matrix_size, row_start, last_node}
+use Rattle.matrix_form.specs.Shape.{columns, matrix_size, row_start, last_node, MatrixLists}
 use Rattle.matrix_form.specs.NodeRows.{rows_of}
 use Rattle.matrix_form.specs.Questions.{LentMatrix, LentWeights, within_limits}
 use Rattle.difference_form.specs.Rows.{apart, part, weighing}
 use Rattle.tree_form.specs.Ancestors.{ancestor}
-use Rattle.tree_form.specs.Nodes.{other_nodes}
+use Rattle.tree_form.specs.Nodes.{other_nodes, htus}
 use Rattle.tree_form.specs.Within.{branching_within}
 use Rattle.fit_form.specs.Fit.{fitted_length, marked, states_in}
 use Rattle.fit_passes.specs.Steps.{states_at}
@@ -24,7 +23,7 @@ Picks says which = (states : States) (r : ℤ) → says states r → r ≡ state
 
 -- a list of the matrix's shape with a number for each HTU of n taxa written into column j of its row
 unfoldable pub with_column : ℕ → ℕ → (ℕ → ℤ) → List ℤ → List ℤ
-with_column n j f old = stripes columns (row_start (n + 1) + (j - 1)) (map (λ v. f v ∷ []) (numbers (n + 1) (n - 2))) old
+with_column n j f old = stripes columns (row_start (n + 1) + (j - 1)) (map (λ v. f v ∷ []) (htus n)) old
 
 -- the branch of node v in the fit of k characters
 abbrev pub fitted_branch : List ℕ → List ℕ → List (List ℤ) → ℕ → ℕ → ℕ → BranchFit
@@ -53,13 +52,16 @@ pub record SumOf (n : ℕ) (branches : List BranchFit) (r : ℕ) : Type 0 where
 
 -- the first k of m characters fitted: the states of the HTUs in them are written, and the branches are those of the fit of them; elsewhere
 -- stands no branch
-pub record Written (matrix : List ℤ) (weights : List ℕ) (n m k : ℕ) (tree : List ℕ)
+pub record Written (lists : MatrixLists) (n m k : ℕ) (tree : List ℕ)
     (low low' high high' chosen chosen' : List ℤ) (branches : List BranchFit) : Type 0 where
-  pub is_low : branching_within n tree ≡ true → LentMatrix matrix n m → low' ≡ states_written Low tree (rows_of matrix m n) n k low
-  pub is_high : branching_within n tree ≡ true → LentMatrix matrix n m → high' ≡ states_written High tree (rows_of matrix m n) n k high
-  pub is_chosen : branching_within n tree ≡ true → LentMatrix matrix n m → chosen' ≡ states_written Chosen tree (rows_of matrix m n) n k chosen
-  pub are : branching_within n tree ≡ true → LentMatrix matrix n m → LentWeights weights m → (v : ℕ) → 2 ≤ v → v ≤ 2 * n - 2
-      → branch_at branches v ≡ fitted_branch weights tree (rows_of matrix m n) n k v
+  pub is_low : branching_within n tree ≡ true → LentMatrix lists.codes n m → low'
+      ≡ states_written Low tree (rows_of lists.codes m n) n k low
+  pub is_high : branching_within n tree ≡ true → LentMatrix lists.codes n m → high'
+      ≡ states_written High tree (rows_of lists.codes m n) n k high
+  pub is_chosen : branching_within n tree ≡ true → LentMatrix lists.codes n m → chosen'
+      ≡ states_written Chosen tree (rows_of lists.codes m n) n k chosen
+  pub are : branching_within n tree ≡ true → LentMatrix lists.codes n m → LentWeights lists.weights m → (v : ℕ) → 2 ≤ v → v ≤ 2 * n - 2
+      → branch_at branches v ≡ fitted_branch lists.weights tree (rows_of lists.codes m n) n k v
   pub no_others : (v : ℕ) → (2 ≤ v → v ≤ 2 * n - 2 → ⊥) → branch_at branches v ≡ no_branch
 
 -- the length of a matrix is that of the matrix's shape, and n and m are within their limits
@@ -67,14 +69,14 @@ unfoldable pub matrix_shaped : ℕ → ℕ → ℕ → Bool
 matrix_shaped matrix n m = within_limits n m && matrix == matrix_size
 
 -- a tree that is a branching, with a lent matrix, fitted into three lists of the matrix's shape
-pub record TreeFitted (codes : List ℤ) (weights : List ℕ) (n m : ℕ) (tree : List ℕ) (low low' high high' chosen chosen' : List ℤ)
+pub record TreeFitted (lists : MatrixLists) (n m : ℕ) (tree : List ℕ) (low low' high high' chosen chosen' : List ℤ)
     (fit : Fit) : Type 0 where
-  pub fitted : branching_within n tree ≡ true → LentMatrix codes n m → LentWeights weights m
+  pub fitted : branching_within n tree ≡ true → LentMatrix lists.codes n m → LentWeights lists.weights m
       → length low ≡ matrix_size → length high ≡ matrix_size → length chosen ≡ matrix_size
-      → FitOf (weighing weights).step tree (rows_of codes m n) n m fit
-      × (low' ≡ states_written Low tree (rows_of codes m n) n m low)
-      × (high' ≡ states_written High tree (rows_of codes m n) n m high)
-      × (chosen' ≡ states_written Chosen tree (rows_of codes m n) n m chosen)
+      → FitOf (weighing lists.weights).step tree (rows_of lists.codes m n) n m fit
+      × (low' ≡ states_written Low tree (rows_of lists.codes m n) n m low)
+      × (high' ≡ states_written High tree (rows_of lists.codes m n) n m high)
+      × (chosen' ≡ states_written Chosen tree (rows_of lists.codes m n) n m chosen)
 
 -- r are the states of node v in character j of a branching with a lent matrix of n taxa and m characters
 pub record StatesOf (codes : List ℤ) (n m : ℕ) (tree : List ℕ) (v j : ℕ) (r : States) : Type 0 where

@@ -5,6 +5,7 @@ ghost use Rattle.std.specs.Prelude.{◌≡◌};
 ghost use Rattle.matrix_form.specs.Outcomes.{result_says};
 ghost use Rattle.fit_form.specs.Calls.{total_answer};
 ghost use Rattle.fit_form.specs.Handing.{FitAnswer, ask_node, NodeAnswer};
+ghost use Rattle.matrix.specs.Lent.{lent_lists};
 
 use crate::totals::total_of;
 use crate::whole::{fit_tree, lists_full, states_at};
@@ -28,7 +29,7 @@ pub fn fit(
     high: &mut [i32],
     chosen: &mut [i32],
 ) -> Result<Fit, Refusal>
-    ensures { FitAnswer lent.now.matrix.now lent.now.weights.now lent.now.n lent.now.m records.now low.old low.new high.old high.new chosen.old chosen.new result }
+    ensures { FitAnswer (lent_lists lent.now) lent.now.n lent.now.m records.now low.old low.new high.old high.new chosen.old chosen.new result }
 {
     if !lists_full(low.len(), high.len(), chosen.len()) {
         return Err(Refusal::ListSize);
@@ -46,7 +47,7 @@ fn ask_node(
     node: usize,
     character: usize,
 ) -> Result<(), Refusal>
-    ensures { result ≡ ask_node lent.now.matrix.now lent.now.weights.now lent.now.n lent.now.m records.now node character }
+    ensures { result ≡ ask_node (lent_lists lent.now) lent.now.n lent.now.m records.now node character }
 {
     lent.ask()?;
     if !one_to(last_node(lent.n), node) {
@@ -68,7 +69,7 @@ pub fn states(
     node: usize,
     character: usize,
 ) -> Result<States, Refusal>
-    ensures { NodeAnswer lent.now.matrix.now lent.now.weights.now lent.now.n lent.now.m records.now node character result }
+    ensures { NodeAnswer (lent_lists lent.now) lent.now.n lent.now.m records.now node character result }
 {
     ask_node(lent, records, node, character)?;
     let tree = tree_of(records, lent.n);
@@ -77,7 +78,7 @@ pub fn states(
 
 // The fitted total of a lent branching. It writes nothing.
 pub fn total(lent: &Lent, records: &[Branch; BRANCHES]) -> Result<u64, Refusal>
-    ensures { result_says result ≡ total_answer lent.now.matrix.now lent.now.weights.now lent.now.n lent.now.m records.now }
+    ensures { result_says result ≡ total_answer (lent_lists lent.now) lent.now.n lent.now.m records.now }
 {
     ask_branching(lent, records)?;
     let tree = tree_of(records, lent.n);

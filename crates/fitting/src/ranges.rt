@@ -1,11 +1,10 @@
 // The states of the HTUs in lists of the matrix's shape, as a fit writes them.
 ghost use Rattle.std.specs.Prelude.{◌≡◌, replicate};
-ghost use Rattle.matrix_form.specs.Shape.{matrix_size};
-ghost use Rattle.fit_form.specs.Handing.{state_at};
+ghost use Rattle.matrix_form.specs.Shape.{matrix_size, state_at};
 
 use fit_form::characters::States;
-use fit_passes::characters::code_at;
 use matrix::MATRIX_SIZE;
+use matrix::codes::code_at;
 
 // The lists of the lowest, the highest and the chosen states.
 // Kept: interface, `fit_tree` writes three lists, since `wagner_fit` takes three; an array of structs would be filled from them anew.

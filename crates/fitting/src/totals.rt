@@ -3,6 +3,7 @@
 ghost use Rattle.std.specs.Prelude.{◌≤◌};
 ghost use Rattle.branching.specs.Views.{ancestors};
 ghost use Rattle.fitting.specs.Costs.{WeighedOf, CostOf, TotalOf};
+ghost use Rattle.matrix.specs.Lent.{lent_lists};
 
 use branching::tree::Tree;
 use difference::nodes::Nodes;
@@ -22,7 +23,7 @@ fn weighed(weight: u8, length: u64) -> u64
 // The least cost of character j, as often as its weight says.
 fn cost_of(nodes: &Nodes, plan: &Plan, j: usize) -> u64
     requires { (1 ≤ j) × (j ≤ nodes.now.lent.m) }
-    ensures { CostOf nodes.now.lent.matrix.now nodes.now.lent.weights.now plan.now.taxa nodes.now.lent.m plan.now.tree j result }
+    ensures { CostOf (lent_lists nodes.now.lent) plan.now.taxa nodes.now.lent.m plan.now.tree j result }
 {
     let codes = codes_of(nodes.lent.matrix, plan.taxa(), j);
     weighed(
@@ -33,7 +34,7 @@ fn cost_of(nodes: &Nodes, plan: &Plan, j: usize) -> u64
 
 // The sum of the costs of all characters.
 fn sum_costs(nodes: &Nodes, plan: &Plan) -> u64
-    ensures { TotalOf nodes.now.lent.matrix.now nodes.now.lent.weights.now plan.now.taxa nodes.now.lent.m plan.now.tree result }
+    ensures { TotalOf (lent_lists nodes.now.lent) plan.now.taxa nodes.now.lent.m plan.now.tree result }
 {
     (1..nodes.lent.m + 1)
         .map(|j| cost_of(nodes, plan, j))
@@ -43,7 +44,7 @@ fn sum_costs(nodes: &Nodes, plan: &Plan) -> u64
 // The fitted total of a tree that is a branching, with a lent matrix that no question refuses. It writes nothing and finds no range.
 // Kept: interface, a call that could not fail still cannot: where nothing was asked it answers 0.
 pub fn total_of(lent: &Lent, tree: &Tree) -> u64
-    ensures { TotalOf lent.now.matrix.now lent.now.weights.now lent.now.n lent.now.m (ancestors tree.now) result }
+    ensures { TotalOf (lent_lists lent.now) lent.now.n lent.now.m (ancestors tree.now) result }
 {
     if MOST_TAXA < lent.n {
         return 0;

@@ -6,19 +6,21 @@ ghost use Rattle.fit_passes.specs.Steps.{states_at};
 ghost use Rattle.fitting.specs.Lists.{Picks, with_column, Longer, Lengthened, SumOf, Written, matrix_shaped};
 ghost use Rattle.fit_form.specs.Calls.{Which, state_in, lists_full};
 ghost use Rattle.fitting.specs.Lists.{TreeFitted, StatesOf};
+ghost use Rattle.matrix.specs.Lent.{lent_lists};
 
-use branching::tree::{Tree, place_of};
+use branching::tree::{Tree, tree_index};
 use difference::codes::part;
 use difference::nodes::Nodes;
 use fit_form::characters::States;
 use fit_form::whole::{BranchFit, Fit};
-use fit_passes::characters::{codes_of, fit_character, place_of_code};
+use fit_passes::characters::{codes_of, fit_character};
 use fit_passes::planning::Plan;
 use matrix::MATRIX_SIZE;
+use matrix::codes::index_of_code;
 use matrix::lent::Lent;
 use matrix::questions::{last_node, one_to, within_limits};
 use matrix::weights::weight_at;
-use tree_form::tree::PLACES;
+use tree_form::tree::TREE_SIZE;
 
 // Writes one of the states of each HTU into column j of its row.
 #[tactic(auto, unfolding(matrix_form::specs::Shape::last_node))]
@@ -26,7 +28,7 @@ fn write_column<F: Fn(States) -> i32>(
     out: &mut [i32],
     plan: &Plan,
     j: usize,
-    states: &[States; PLACES],
+    states: &[States; TREE_SIZE],
     state: F,
 )
     requires callable { F.IsAlwaysCallable state }
@@ -36,7 +38,7 @@ fn write_column<F: Fn(States) -> i32>(
 {
     let n = plan.taxa();
     for v in n + 1..last_node(n) + 1 {
-        out[place_of_code(v, j)] = state(states[v]);
+        out[index_of_code(v, j)] = state(states[v]);
     }
 }
 
@@ -56,23 +58,23 @@ fn lengthened(branch: BranchFit, weight: u8, own: States, above: States) -> Bran
 // Kept: no plainer, a node's number is read for its ancestor and its states as well as for its branch.
 #[tactic(auto, unfolding(matrix_form::specs::Shape::last_node))]
 fn add_lengths(
-    branches: &mut [BranchFit; PLACES],
+    branches: &mut [BranchFit; TREE_SIZE],
     plan: &Plan,
     weight: u8,
-    states: &[States; PLACES],
+    states: &[States; TREE_SIZE],
 )
     requires { plan.now.taxa ≤ 64 }
     ensures { Lengthened weight plan.now.taxa plan.now.tree states.now branches.old branches.new }
 {
     for v in 2..last_node(plan.taxa()) + 1 {
-        let u = place_of(plan.ancestor(v));
+        let u = tree_index(plan.ancestor(v));
         branches[v] = lengthened(branches[v], weight, states[v], states[u]);
     }
 }
 
 // The lengths of the branches together.
 #[tactic(auto, unfolding(matrix_form::specs::Shape::last_node))]
-fn sum_lengths(branches: &[BranchFit; PLACES], plan: &Plan) -> u64
+fn sum_lengths(branches: &[BranchFit; TREE_SIZE], plan: &Plan) -> u64
     requires { plan.now.taxa ≤ 64 }
     ensures { SumOf plan.now.taxa branches.now result }
 {
@@ -89,12 +91,12 @@ fn fit_columns(
     low: &mut [i32],
     high: &mut [i32],
     chosen: &mut [i32],
-) -> [BranchFit; PLACES]
+) -> [BranchFit; TREE_SIZE]
     requires some { (1 ≤ plan.now.taxa) × (plan.now.taxa ≤ 64) }
     requires state_lists { (length low.old ≡ matrix_size) × (length high.old ≡ matrix_size) × (length chosen.old ≡ matrix_size) }
-    ensures { Written nodes.now.lent.matrix.now nodes.now.lent.weights.now plan.now.taxa nodes.now.lent.m nodes.now.lent.m plan.now.tree low.old low.new high.old high.new chosen.old chosen.new result }
+    ensures { Written (lent_lists nodes.now.lent) plan.now.taxa nodes.now.lent.m nodes.now.lent.m plan.now.tree low.old low.new high.old high.new chosen.old chosen.new result }
 {
-    let mut branches = [BranchFit::default(); PLACES];
+    let mut branches = [BranchFit::default(); TREE_SIZE];
     for j in 1..nodes.lent.m + 1 {
         let codes = codes_of(nodes.lent.matrix, plan.taxa(), j);
         let states = fit_character(&codes, plan);
@@ -139,7 +141,7 @@ pub fn fit_tree(
     high: &mut [i32],
     chosen: &mut [i32],
 ) -> Fit
-    ensures { TreeFitted lent.now.matrix.now lent.now.weights.now lent.now.n lent.now.m (ancestors tree.now) low.old low.new high.old high.new chosen.old chosen.new result }
+    ensures { TreeFitted (lent_lists lent.now) lent.now.n lent.now.m (ancestors tree.now) low.old low.new high.old high.new chosen.old chosen.new result }
 {
     if !matrix_shaped(lent) {
         return Fit::default();
@@ -167,7 +169,7 @@ pub fn states_at(lent: &Lent, tree: &Tree, v: usize, j: usize) -> States
     if !one_to(lent.m, j) {
         return States::default();
     }
-    if PLACES <= v {
+    if TREE_SIZE <= v {
         return States::default();
     }
     fit_character(&codes_of(lent.matrix, lent.n, j), &Plan::of(tree, lent.n))[v]

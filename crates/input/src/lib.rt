@@ -65,7 +65,7 @@ pub fn read_counted(reader: &mut impl Read, bytes: &mut [u8]) -> Option<usize>
 }
 
 // How many items of a list are as they were lent.
-pub fn kept<T: PartialEq>(list: &[T], lent: &T) -> usize
+pub fn unchanged<T: PartialEq>(list: &[T], lent: &T) -> usize
     ensures { result ≡ count_by (λ item. T.eq item lent.now) list.now }
 {
     list.iter().filter(|item| *item == lent).count()

@@ -18,14 +18,14 @@ use Rattle.consistency_form.specs.declared.index.Index.{Index}
 use Rattle.lists.proofs.Numbers.{map-numbers}
 use Rattle.difference_form.specs.Rows.{apart}
 use Rattle.difference_form.proofs.Laws.Codes.{apart_from_zero}
-use Rattle.file_form.specs.Bytes.{minus, part_length, first_part}
+use Rattle.file_form.specs.Bytes.{minus, piece_length, first_piece}
 use Rattle.file_form.specs.Decimal.{digits_of, decimal}
 use Rattle.file_form.specs.Text.{bytes}
 use Rattle.file_form.specs.Job.{name_size}
 use Rattle.listing_form.specs.Lines.{line, hyphen, htu_name, node_name}
 use Rattle.listing_form.specs.Kinds.{index_line}
-use Rattle.lines.specs.Fields.{names_in, or_hyphen}
-use Rattle.lines.specs.Fields.{name_bytes}
+use Rattle.lines.specs.Fields.{or_hyphen}
+use Rattle.file_form.specs.Written.{name_bytes, names_in}
 
 -- a code below zero
 pub code_below : (z : ℤ) → lt_z z (pos 0) ≡ true → minus ∷ digits_of (apart z (pos 0)) ≡ decimal z
@@ -44,8 +44,8 @@ pub same_code : {z : ℤ} → SFits w32 z → decimal (to_z w32 (of_z w32 z)) �
 same_code f = rw (to_z-of_z f)
 
 -- a byte that is no separator belongs to the first part
-pub part_goes_on : (s b : ℕ) (bs : List ℕ) → (b ≡ s → ⊥) → first_part s (b ∷ bs) ≡ b ∷ first_part s bs
-unfolding first_part part_length
+pub part_goes_on : (s b : ℕ) (bs : List ℕ) → (b ≡ s → ⊥) → first_piece s (b ∷ bs) ≡ b ∷ first_piece s bs
+unfolding first_piece piece_length
 part_goes_on s b bs e = rw (ne_eqb b s e)
 
 -- the bytes of a name: those of its part of the lent list, and none beyond its end
@@ -78,14 +78,14 @@ module _ (n : ℕ) (names : List (List ℕ)) where
   node_none (suc v) e = absurd (omega arith)
 
 -- a taxon is printed by the name that lent bytes hold for it
-pub node_lent : (n : ℕ) (lent : List ℕ) (v : ℕ) → (v ≡ 0 → ⊥) → v ≤ n → first_part 0 (name_bytes lent (v - 1)) ≡ node_name n (names_in n lent) v
+pub node_lent : (n : ℕ) (lent : List ℕ) (v : ℕ) → (v ≡ 0 → ⊥) → v ≤ n → first_piece 0 (name_bytes lent (v - 1)) ≡ node_name n (names_in n lent) v
 unfolding names_in
 node_lent n lent v some h =
     let place : v - 1 < n = omega arith in
     let first : 1 ≤ v = omega arith in
     let same : v - 1 ≡ 0 + (v - 1) = omega arith in
-    ap (λ k. first_part 0 (name_bytes lent k)) same
-    ∙ sym (map-numbers (λ k. first_part 0 (name_bytes lent k)) [] 0 n (v - 1) place)
+    ap (λ k. first_piece 0 (name_bytes lent k)) same
+    ∙ sym (map-numbers (λ k. first_piece 0 (name_bytes lent k)) [] 0 n (v - 1) place)
     ∙ sym (node_taxon n (names_in n lent) v first h)
 
 -- the line `c` by its two fields, each of them a hyphen where there is no index

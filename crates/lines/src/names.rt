@@ -1,7 +1,7 @@
 // The names of taxa in lent bytes, and the nodes that they name.
 ghost use Rattle.std.specs.Prelude.{◌≡◌};
 ghost use Rattle.listing_form.specs.Lines.{node_name};
-ghost use Rattle.lines.specs.Fields.{name_bytes};
+ghost use Rattle.file_form.specs.Written.{name_bytes};
 ghost use Rattle.lines.specs.Fields.{names_of, node_text};
 
 use file_form::NAME_SIZE;
@@ -29,7 +29,7 @@ impl<'a> Names<'a> {
         Node { names: self, v }
     }
 
-    // The bytes lent for the name at place k, as far as the lent list goes.
+    // The bytes lent for the name at index k, as far as the lent list goes.
     pub(crate) fn name_bytes(self, k: usize) -> &'a [u8]
         ensures { result.now ≡ name_bytes self.entry.lent.now k }
     {

@@ -6,7 +6,7 @@ const ZERO_DIGIT: u8 = b'0';
 
 const TEN: u64 = 10;
 
-// A listing as far as it is put: the bytes lent for it, and the place behind what was put.
+// A listing as far as it is put: the bytes lent for it, and the index behind what was put.
 // Kept: interface, the bytes behind `at` stay as they were lent, and a `Vec` would need a heap; std's `Cursor` is this struct, with a write that can end early.
 #[derive(Drop)]
 pub struct Listing<'a> {
@@ -24,7 +24,7 @@ fn digit(n: u64) -> u8
 
 impl<'a> Listing<'a> {
     ghost use Rattle.std.specs.Prelude.{[], ◌∷◌};
-    ghost use Rattle.file_form.specs.Bytes.{first_part};
+    ghost use Rattle.file_form.specs.Bytes.{first_piece};
     ghost use Rattle.file_form.specs.Decimal.{digits_of};
     ghost use Rattle.lines.specs.Puts.{Puts};
 
@@ -53,7 +53,7 @@ impl<'a> Listing<'a> {
 
     // Puts a name up to its first zero.
     pub(crate) fn put_name(&mut self, name: &[u8])
-        ensures { Puts (first_part 0 name.now) self.old self.new }
+        ensures { Puts (first_piece 0 name.now) self.old self.new }
     {
         for byte in name.iter().take_while(|byte| **byte != 0) {
             self.put_byte(*byte);

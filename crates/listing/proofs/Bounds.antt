@@ -2,5 +2,6 @@
 pub mod Fields
 pub mod Fit
 pub mod LineNumbers
+pub mod LineRooms
 pub mod Room
 pub mod Output

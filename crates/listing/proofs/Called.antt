@@ -10,7 +10,7 @@ use Rattle.matrix_form.specs.Outcomes.{value}
 use Rattle.matrix_form.specs.declared.refusal.Refusal.TheVariants.{ListSize}
 use Rattle.lines.specs.Put.{Put}
 use Rattle.listing_form.specs.Listing.{output}
-use Rattle.listing_form.specs.Call.{output_size, ask_output, ListDone}
+use Rattle.listing_form.specs.Calls.{output_size, ask_output, ListDone}
 use Rattle.listing.proofs.PutFront.{put_front}
 use Rattle.listing.proofs.Bounds.Output.{output_room}
 

@@ -1,7 +1,6 @@
 -- What is put for the job that lent lists hold is its listing, for each kind of file.
 use mathlib.Core.Path.{◌≡◌, refl, sym, ap, ◌∙◌}
 use mathlib.Core.List.{List}
-use Prim.Native.Nat.{ℕ}
 use lib.IntN.{ℤ}
 use Rattle.matrix_form.specs.NodeRows.{rows_of}
 use Rattle.file_form.specs.declared.header.Header.{Header}
@@ -10,13 +9,12 @@ use Rattle.file_form.specs.Written.{LentLists}
 use Rattle.difference_form.specs.Rows.{Measure, weighing}
 use Rattle.tree_form.specs.declared.branch.Branch.{Branch}
 use Rattle.branching.specs.declared.tree.Tree.{Tree}
-use Rattle.tree_form.specs.Ancestors.{ancestor, tree_with}
+use Rattle.tree_form.specs.Ancestors.{tree_with}
 use Rattle.branching.specs.Views.{ancestors}
-use Rattle.tree_form.specs.Branches.{ancestors_of, places_of}
+use Rattle.tree_form.specs.Branches.{ancestors_of}
 use Rattle.tree_form.specs.LentNumbers.{records_in}
-use Rattle.tree_form.proofs.Lending.{places-ancestors}
 use Rattle.listing_form.specs.Lines.{joined}
-use Rattle.lines.specs.Fields.{names_in}
+use Rattle.file_form.specs.Written.{names_in}
 use Rattle.lines.specs.declared.put.Listing.{Listing}
 use Rattle.lines.specs.Puts.{Puts}
 use Rattle.lines.proofs.Puts.{put_same}
@@ -25,13 +23,14 @@ use Rattle.listing.specs.declared.job.FittedTree.{FittedTree}
 use Rattle.listing.specs.declared.job.Results.{Results}
 use Rattle.listing_form.specs.Listing.{listing}
 use Rattle.listing.specs.Found.{FittedOf, ResultsOf, tree_texts, result_texts, held_job, ListsJob}
-use Rattle.listing_form.proofs.Parts.{own-text}
+use Rattle.listing_form.proofs.Parts.{own-listing}
 use Rattle.listing.proofs.FittedTrees.{tree_put}
 use Rattle.listing.proofs.FoundResults.{results_listed}
+use Rattle.matrix_form.specs.Shape.{matrix_of}
 
 -- the listing of a `W` file: what was found of its matrix, in the order that its word means
 pub built_put : (header : Header) → header.kind ≡ Wagner → (lists : LentLists) (low high chosen : List ℤ) (r : Results)
-    → ResultsOf (order_meant header.order) lists.matrix lists.weights header.n header.m low high chosen r → {old new : Listing}
+    → ResultsOf (order_meant header.order) (matrix_of lists.matrix lists.weights) header.n header.m low high chosen r → {old new : Listing}
     → Puts (result_texts header.n (names_in header.n lists.names) header.m r low high chosen) old new
     → ListsJob header lists old new
 built_put header kind lists low high chosen r given put =
@@ -46,25 +45,21 @@ built_put header kind lists low high chosen r given put =
 
 -- the listing of an `F` file: what was found of its own branching
 pub own_put : (header : Header) → header.kind ≡ Own → (lists : LentLists) (records : List Branch) → records ≡ records_in lists.branches
-    → (tree : Tree) → ancestors tree ≡ places_of header.n records → (low high chosen : List ℤ) (r : FittedTree)
+    → (tree : Tree) → ancestors tree ≡ ancestors_of header.n records → (low high chosen : List ℤ) (r : FittedTree)
     → FittedOf (weighing lists.weights) (rows_of lists.matrix header.m header.n) header.n header.m (ancestors tree) low high chosen r
     → {old new : Listing}
     → Puts (tree_texts header.n (names_in header.n lists.names) header.m tree r low high chosen) old new
     → ListsJob header lists old new
-own_put header kind lists records given tree places low high chosen r found put =
+unfolding tree_texts
+own_put header kind lists records given tree read low high chosen r found put =
     record {
       is = λ names weights above held.
           let job = held_job header weights names lists.matrix above in
           let measure : Measure = weighing lists.weights in
-          let same : (v : ℕ) → ancestor (ancestors tree) v ≡ ancestor (tree_with above) v =
-          λ v.
-          ap (λ (list : List ℕ). ancestor list v) places
-          ∙ places-ancestors header.n records v
-          ∙ ap (λ (all : List Branch). ancestor (ancestors_of header.n all) v) given
-          ∙ ap (λ (list : List ℕ). ancestor list v) (held.branched kind) in
+          let same : ancestors tree ≡ tree_with above = read ∙ ap (ancestors_of header.n) given ∙ held.branched kind in
           put_same
-          (tree_put measure job tree (tree_with above) same low high chosen r found lists.names held.named
-          ∙ sym (own-text measure job kind)
+          (ap joined
+          (tree_put measure job tree (tree_with above) same low high chosen r found lists.names held.named ∙ sym (own-listing measure job kind))
           ∙ ap (λ (by : Measure). joined (listing by job)) held.weighed)
           put;
     }

@@ -11,9 +11,8 @@ use Rattle.matrix_form.specs.NodeRows.{rows_of}
 use Rattle.matrix_form.specs.Questions.{LentMatrix, LentWeights}
 use Rattle.matrix_form.specs.Refusals.{refusal_number}
 use Rattle.matrix_form.specs.Outcomes.{value, refused}
-use Rattle.file_form.specs.Header.{header_of}
 use Rattle.file_form.specs.Reading.{read_answer}
-use Rattle.file_form.specs.Report.{read_says, read_outcome, ReadDone}
+use Rattle.file_form.specs.Calls.{read_says, read_outcome, ReadDone}
 use Rattle.file_form.specs.Written.{names_size, weights_written, LentLists}
 use Rattle.file_form.specs.declared.header.Header.{Header}
 use Rattle.file_form.specs.declared.answer.Refused.{Refused}
@@ -55,7 +54,7 @@ module _ (file : List ℕ) (old new : LentLists) (r : Result Header Refused) (do
   refused_answer : (report : Refused) → r ≡ Err report → read_answer file ≡ refused (refusal_number report.refusal) report.line
   refused_answer report e =
       sym (outcome-full file old sizes-full)
-      ∙ then_refused (read_outcome file old) header_of (refusal_number report.refusal) report.line (sym done.says ∙ ap read_says e)
+      ∙ then_refused (read_outcome file old) (λ job. job.header) (refusal_number report.refusal) report.line (sym done.says ∙ ap read_says e)
 
   -- so the line of the refusal is what is printed
   pub refused-printed : (report : Refused) → r ≡ Err report → refusal_line (refusal_number report.refusal) report.line ≡ output file
@@ -104,7 +103,7 @@ module _ (file : List ℕ) (old new : LentLists) (r : Result Header Refused) (do
         ∙ sym (ap (λ (lists : LentLists). rows_of lists.matrix told.job.m told.job.n) told.written)
 
     -- the lent lists hold its names, its weights and its branching
-    accepted_held : HoldsJob (header_of told.job) new told.job.names told.job.weights told.job.ancestors
+    accepted_held : HoldsJob told.job.header new told.job.names told.job.weights told.job.ancestors
     accepted_held =
         record {
           named =
@@ -121,17 +120,13 @@ module _ (file : List ℕ) (old new : LentLists) (r : Result Header Refused) (do
     job_printed :
         joined
         (listing (measure_meant told.job)
-        (held_job (header_of told.job) told.job.weights told.job.names new.matrix told.job.ancestors))
+        (held_job told.job.header told.job.weights told.job.names new.matrix told.job.ancestors))
         ≡ output file
     unfolding printed
     job_printed =
         ap
         (λ (rows : List (List ℤ)). joined (listing (measure_meant told.job) (record {
-          kind = told.job.kind;
-          n = told.job.n;
-          m = told.job.m;
-          order = told.job.order;
-          weighed = told.job.weighed;
+          header = told.job.header;
           weights = told.job.weights;
           names = told.job.names;
           rows = rows;
@@ -143,5 +138,5 @@ module _ (file : List ℕ) (old new : LentLists) (r : Result Header Refused) (do
     -- so where the job's listing was put, what is printed was put
     pub accepted_printed : {before after : Listing} → ListsJob header new before after → Puts (output file) before after
     accepted_printed {before} {after} listed =
-        let lists : ListsJob (header_of told.job) new before after = subst⁻¹ (λ said. ListsJob said new before after) told.says listed in
+        let lists : ListsJob told.job.header new before after = subst⁻¹ (λ said. ListsJob said new before after) told.says listed in
         put_same job_printed (lists.is told.job.names told.job.weights told.job.ancestors accepted_held)

@@ -8,7 +8,7 @@ use Rattle.lists.proofs.Every.{every_at}
 use Rattle.file_form.specs.Job.{Job, JobWithinLimits, name_form}
 use Rattle.file_form.specs.Written.{names_size, names_written}
 use Rattle.file_form.proofs.Lists.ReadLists.{job_name}
-use Rattle.lines.specs.Fields.{name_bytes}
+use Rattle.file_form.specs.Written.{name_bytes}
 use Rattle.listing.specs.Handed.{HoldsNames}
 
 -- the names of a job within the limits, written into a lent list of full size

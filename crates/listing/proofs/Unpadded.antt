@@ -13,11 +13,11 @@ use Rattle.lists.specs.Filled.{filled}
 use Rattle.lists.specs.Tests.{every}
 use Rattle.lists.proofs.Both.{and_left, and_right}
 use Rattle.lists.proofs.Every.{every-head, every-tail}
-use Rattle.file_form.specs.Bytes.{underscore, is_digit, is_letter, part_length, first_part}
+use Rattle.file_form.specs.Bytes.{underscore, is_digit, is_letter, piece_length, first_piece}
 use Rattle.file_form.specs.Job.{name_size, in_name, name_form}
 use Rattle.file_form.specs.Written.{padded}
 use Rattle.listing_form.specs.Lines.{node_name}
-use Rattle.lines.specs.Fields.{names_in}
+use Rattle.file_form.specs.Written.{names_in}
 use Rattle.lines.proofs.Fields.{part_goes_on, node_taxon, node_lent, node_htu}
 use Rattle.listing.specs.Handed.{HoldsNames}
 
@@ -44,13 +44,13 @@ byte_some byte e =
     (λ line. omega (arith, eqb-true byte underscore line))
 
 -- zeros read up to the first one are nothing
-zeros : (count : ℕ) → first_part 0 (replicate count 0) ≡ []
-unfolding first_part part_length
+zeros : (count : ℕ) → first_piece 0 (replicate count 0) ≡ []
+unfolding first_piece piece_length
 zeros zero = refl
 zeros (suc count) = refl
 
 -- bytes of a name, with zeros behind them
-bytes_unpadded : (text : List ℕ) (count : ℕ) → every in_name text ≡ true → first_part 0 (text ++ replicate count 0) ≡ text
+bytes_unpadded : (text : List ℕ) (count : ℕ) → every in_name text ≡ true → first_piece 0 (text ++ replicate count 0) ≡ text
 bytes_unpadded [] count e = zeros count
 bytes_unpadded (byte ∷ text) count e =
     let some = byte_some byte (every-head in_name byte text e) in
@@ -58,7 +58,7 @@ bytes_unpadded (byte ∷ text) count e =
     ∙ ap (λ rest. byte ∷ rest) (bytes_unpadded text count (every-tail in_name byte text e))
 
 -- a padded name is read as the name
-pub name_unpadded : (name : List ℕ) → name_form name ≡ true → first_part 0 (padded name) ≡ name
+pub name_unpadded : (name : List ℕ) → name_form name ≡ true → first_piece 0 (padded name) ≡ name
 unfolding name_form filled
 name_unpadded [] e = absurd (false≢true e)
 name_unpadded (byte ∷ text) e =
@@ -83,7 +83,7 @@ module _ (n : ℕ) (names : List (List ℕ)) (lent : List ℕ) (h : HoldsNames n
       (λ taxon.
       let place : suc v - 1 < n = omega arith in
       sym (node_lent n lent (suc v) (λ e. omega arith) taxon)
-      ∙ ap (first_part 0) (h.held (suc v - 1) place)
+      ∙ ap (first_piece 0) (h.held (suc v - 1) place)
       ∙ name_unpadded (get_or names (suc v - 1) []) (h.formed (suc v - 1) place)
       ∙ sym (node_taxon n names (suc v) (omega arith) taxon))
       (λ htu.

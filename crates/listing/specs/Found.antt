@@ -1,6 +1,6 @@
 -- What is found of a lent matrix and of a tree, and the text that is put for it. No public contract cites this.
-use Rattle.std.specs.Prelude.{◌≡◌, true, List, ◌++◌, ℕ, ℤ, length}
-use Rattle.matrix_form.specs.Shape.{matrix_size, row}
+use Rattle.std.specs.Prelude.{◌≡◌, true, List, ◌++◌, ℕ, ℤ, length, take}
+use Rattle.matrix_form.specs.Shape.{matrix_size, row, MatrixLists}
 use Rattle.matrix_form.specs.NodeRows.{rows_of}
 use Rattle.file_form.specs.declared.header.Header.{Header}
 use Rattle.file_form.specs.declared.header.Kind.TheVariants.{Own}
@@ -8,7 +8,7 @@ use Rattle.file_form.specs.Job.{Job}
 use Rattle.file_form.specs.Written.{LentLists, lent}
 use Rattle.difference_form.specs.Rows.{Measure, difference, node_difference, weighing}
 use Rattle.prim_form.specs.Network.{network}
-use Rattle.prim.specs.Answers.{Holds}
+use Rattle.prim.specs.Calls.{Holds}
 use Rattle.branching.specs.declared.tree.Tree.{Tree}
 use Rattle.tree_form.specs.Ancestors.{tree_with}
 use Rattle.branching.specs.Views.{ancestors}
@@ -19,10 +19,11 @@ use Rattle.wagner_form.specs.Build.{wagner_length}
 use Rattle.wagner_form.specs.Matrix.{wagner_in}
 use Rattle.fit_form.specs.Calls.{FitOf}
 use Rattle.fit_form.specs.Fit.{fitted_total}
+use Rattle.matrix_form.specs.Shape.{state_at}
 use Rattle.consistency_form.specs.Index.{index}
 use Rattle.consistency_form.specs.Floor.{floor}
 use Rattle.listing_form.specs.Lines.{joined}
-use Rattle.listing_form.specs.Kinds.{index_line}
+use Rattle.listing_form.specs.Blocks.{PrintedTree, network_lines, build_lines, lines_of_tree}
 use Rattle.lines.specs.declared.put.Listing.{Listing}
 use Rattle.lines.specs.Puts.{Puts}
 use Rattle.listing.specs.declared.job.Lists.{Lists}
@@ -30,7 +31,7 @@ use Rattle.listing.specs.declared.job.FittedTree.{FittedTree}
 use Rattle.listing.specs.declared.job.Results.{Results}
 use Rattle.listing_form.specs.Listing.{listing}
 use Rattle.listing.specs.Sizes.{SizesWithin}
-use Rattle.listing.specs.Handed.{HoldsNames, HoldsPlacements, HoldsStates, prim_texts, wagner_texts, fitted_texts, state_texts}
+use Rattle.listing.specs.Handed.{HoldsNames, HoldsPlacements, HoldsStates, length_in, mark_in}
 
 -- the lists that a file is read into
 abbrev pub lists_of : Lists → LentLists
@@ -55,32 +56,47 @@ pub record FittedOf
   pub states : HoldsStates tree rows n m low high chosen
 
 -- what was found of a lent matrix: its Prim Network, its Wagner tree, and what was found of that tree
-pub record ResultsOf (order : Order) (codes : List ℤ) (weights : List ℕ) (n m : ℕ) (low high chosen : List ℤ) (r : Results) : Type 0 where
+pub record ResultsOf (order : Order) (lists : MatrixLists) (n m : ℕ) (low high chosen : List ℤ) (r : Results) : Type 0 where
   pub sizes : SizesWithin n m
-  pub network : Holds (network (node_difference (difference weights) (row codes m)) n) r.network
-  pub tree : ancestors r.built.tree ≡ (wagner_in order codes weights n m).tree
-  pub placements : HoldsPlacements (wagner_in order codes weights n m).placements r.built.placements.items r.built.placements.count
-  pub whole : r.built.length ≡ wagner_length (difference weights) n (wagner_in order codes weights n m)
-  pub fitted : FittedOf (weighing weights) (rows_of codes m n) n m (ancestors r.built.tree) low high chosen r.fitted
+  pub network : Holds (network (node_difference (difference lists.weights) (row lists.codes m)) n) r.network
+  pub tree : ancestors r.built.tree ≡ (wagner_in order lists n m).tree
+  pub placements : HoldsPlacements (wagner_in order lists n m).placements r.built.placements.items r.built.placements.count
+  pub whole : r.built.length ≡ wagner_length (difference lists.weights) n (wagner_in order lists n m)
+  pub fitted : FittedOf (weighing lists.weights) (rows_of lists.codes m n) n m (ancestors r.built.tree) low high chosen r.fitted
 
--- the text put for a tree: its `T` lines with `t`, the line `c` and the `H` lines
-unfoldable pub tree_texts : ℕ → List (List ℕ) → ℕ → Tree → FittedTree → List ℤ → List ℤ → List ℤ → List ℕ
-tree_texts n names m tree r low high chosen =
-    fitted_texts n names tree r.fit ++ (index_line r.index ++ state_texts n names low high chosen m)
+-- the numbers handed in of a tree: its ancestors, its fit with the index, and the states in three lists
+abbrev pub handed_tree : Tree → FittedTree → List ℤ → List ℤ → List ℤ → PrintedTree
+handed_tree tree r low high chosen = record {
+  tree = ancestors tree;
+  lengths = length_in r.fit;
+  marks = mark_in r.fit;
+  t = r.fit.total;
+  c = r.index;
+  low = state_at low;
+  high = state_at high;
+  chosen = state_at chosen;
+}
 
--- the text put for what was found of a matrix: the blocks of network and build, and that of the tree
-unfoldable pub result_texts : ℕ → List (List ℕ) → ℕ → Results → List ℤ → List ℤ → List ℤ → List ℕ
-result_texts n names m r low high chosen =
-    prim_texts n names r.network ++ (wagner_texts n names r.built ++ tree_texts n names m r.built.tree r.fitted low high chosen)
+module _ (n : ℕ) (names : List (List ℕ)) (m : ℕ) where
+  -- the text put for a tree: the lines of what is handed in
+  unfoldable pub tree_texts : Tree → FittedTree → List ℤ → List ℤ → List ℤ → List ℕ
+  tree_texts tree r low high chosen = joined (lines_of_tree n names m (handed_tree tree r low high chosen))
+
+  -- the lines of network and build, by the first of their links and placements
+  unfoldable pub found_lines : Results → List (List ℕ)
+  found_lines r =
+      network_lines n names (take r.network.links.count r.network.links.items) r.network.total
+      ++ build_lines n names (take r.built.placements.count r.built.placements.items) r.built.length
+
+  -- the text put for what was found of a matrix: these lines, and those of the tree
+  unfoldable pub result_texts : Results → List ℤ → List ℤ → List ℤ → List ℕ
+  result_texts r low high chosen =
+      joined (found_lines r ++ lines_of_tree n names m (handed_tree r.built.tree r.fitted low high chosen))
 
 -- the job with this header, these weights, names and ancestors and the taxa's rows of a matrix
 abbrev pub held_job : Header → List ℕ → List (List ℕ) → List ℤ → List ℕ → Job
 held_job header weights names codes above = record {
-  kind = header.kind;
-  n = header.n;
-  m = header.m;
-  order = header.order;
-  weighed = header.weighed;
+  header = header;
   weights = weights;
   names = names;
   rows = rows_of codes header.m header.n;

@@ -56,10 +56,7 @@ impl<'a> Legend<'a> {
 
     // Puts the `H` lines of node v, for characters 1 to m.
     fn put_node_lines(&self, listing: &mut Listing, v: usize)
-        ensures { Puts
-            (node_texts self.now.names.n (names_of self.now.names)
-            self.now.ranges.now.low self.now.ranges.now.high self.now.ranges.now.chosen self.now.m v)
-            listing.old listing.new }
+        ensures { Puts (node_texts self.now.names.n (names_of self.now.names) self.now.ranges.now self.now.m v) listing.old listing.new }
     {
         for j in 1..self.m + 1 {
             listing.put_state_line(self.names, v, j, self.ranges.states(v, j));
@@ -68,10 +65,7 @@ impl<'a> Legend<'a> {
 
     // Puts the `H` lines of HTUs n+1 to 2n-2, for characters 1 to m.
     pub(crate) fn put_state_lines(&self, listing: &mut Listing)
-        ensures { Puts
-            (state_texts self.now.names.n (names_of self.now.names)
-            self.now.ranges.now.low self.now.ranges.now.high self.now.ranges.now.chosen self.now.m)
-            listing.old listing.new }
+        ensures { Puts (state_texts self.now.names.n (names_of self.now.names) self.now.ranges.now self.now.m) listing.old listing.new }
     {
         let n = self.names.n;
         for v in n + 1..2 * n - 1 {

@@ -3,7 +3,7 @@ ghost use Rattle.std.specs.Prelude.{◌≡◌, replicate};
 ghost use Rattle.matrix_form.specs.Shape.{columns};
 ghost use Rattle.lines.specs.Puts.{Puts};
 ghost use Rattle.listing_form.specs.Listing.{output};
-ghost use Rattle.listing_form.specs.Call.{ListDone};
+ghost use Rattle.listing_form.specs.Calls.{ListDone};
 
 use crate::job::{Lists, Room, put_job};
 use fitting::ranges::Ranges;

@@ -1,7 +1,9 @@
 // The listing of a job: what is computed from lists, and the blocks of lines put for it in their order.
 ghost use Rattle.std.specs.Prelude.{◌≡◌, true};
 ghost use Rattle.matrix_form.specs.NodeRows.{rows_of};
-ghost use Rattle.matrix_form.specs.Questions.{LentMatrix, LentWeights};
+ghost use Rattle.matrix_form.specs.Questions.{MatrixLent};
+ghost use Rattle.matrix_form.specs.Shape.{matrix_of};
+ghost use Rattle.matrix.specs.Lent.{lent_lists};
 ghost use Rattle.difference_form.specs.Rows.{weighing};
 ghost use Rattle.branching.specs.Views.{ancestors};
 ghost use Rattle.tree_form.specs.Within.{branching_within};
@@ -29,13 +31,13 @@ use matrix::lent::Lent;
 use matrix::{COLUMNS, MATRIX_SIZE};
 use matrix_file::NAMES_SIZE;
 use prim::answer::Network;
-use prim::network::network;
+use prim::network::network_of;
 use prim_form::answer::Link;
 use tree_form::placement::Placement;
 use tree_records::lent::tree_of;
 use tree_records::numbers::{LENT_NUMBERS, records_in};
 use wagner::answer::WagnerTree;
-use wagner::build::build;
+use wagner::build::build_tree;
 
 // What a file is read into: matrix, weights, names and branches.
 #[derive(Drop)]
@@ -150,7 +152,7 @@ impl Lists {
 // The fit of a tree to what is lent, and its index. The states of the HTUs are written into ranges.
 // Kept: no plainer, what is lent is made for this one reading: a view with the fact would be made by both callers, and `floor_of` and `fit_tree` take what is lent without it.
 fn fitted_of(lent: &Lent, tree: &Tree, ranges: &mut Ranges) -> FittedTree
-    requires lent_matrix { LentMatrix lent.now.matrix.now lent.now.n lent.now.m × LentWeights lent.now.weights.now lent.now.m }
+    requires lent_matrix { MatrixLent (lent_lists lent.now) lent.now.n lent.now.m }
     requires branching { branching_within lent.now.n (ancestors tree.now) ≡ true }
     ensures { FittedOf (weighing lent.now.weights.now) (rows_of lent.now.matrix.now lent.now.m lent.now.n) lent.now.n lent.now.m (ancestors tree.now)
         ranges.new.low ranges.new.high ranges.new.chosen result }
@@ -171,21 +173,20 @@ fn fitted_of(lent: &Lent, tree: &Tree, ranges: &mut Ranges) -> FittedTree
 
 // The network of the matrix that a room holds, its build in the order that the header means, and what is found of that tree. The rows of
 // the HTUs are written into the matrix, their states into the room's ranges.
-// Kept: no plainer, `build` writes the matrix between two readings, and a struct with this fact would owe it while that is written.
+// Kept: no plainer, `build_tree` writes the matrix between two readings, and a struct with this fact would owe it while that is written.
 fn results_of(header: Header, room: &mut Room) -> Results
-    requires { LentMatrix room.old.lists.matrix header.n header.m × LentWeights room.old.lists.weights header.m }
-    ensures found { ResultsOf (order_meant header.order) room.old.lists.matrix room.old.lists.weights header.n header.m
+    requires { MatrixLent (matrix_of room.old.lists.matrix room.old.lists.weights) header.n header.m }
+    ensures found { ResultsOf (order_meant header.order) (matrix_of room.old.lists.matrix room.old.lists.weights) header.n header.m
         room.new.ranges.low room.new.ranges.high room.new.ranges.chosen result }
     ensures named { room.new.lists.names ≡ room.old.lists.names }
 {
     let lists = &mut room.lists;
     let order = order_meant(header.order);
-    // A matrix that was read passes the questions.
-    let links = network(&lists.lent(header)).unwrap();
-    let built = build(&mut lists.matrix, &lists.weights, header.n, header.m, order).unwrap();
+    let network = network_of(&lists.lent(header));
+    let built = build_tree(&mut lists.matrix, &lists.weights, header.n, header.m, order);
     let fitted = fitted_of(&lists.lent(header), &built.tree, &mut room.ranges);
     Results {
-        network: links,
+        network,
         built,
         fitted,
     }
@@ -193,9 +194,9 @@ fn results_of(header: Header, room: &mut Room) -> Results
 
 // Puts the listing of the job with this header that a room holds. Of a `W` file no branching is read.
 // Kept: no plainer, the two kinds of file have listings of different blocks, and no other function of this crate goes by the kind.
-// Kept: no plainer, `build` writes the matrix between two readings, and a struct with this fact would owe it while that is written.
+// Kept: no plainer, `build_tree` writes the matrix between two readings, and a struct with this fact would owe it while that is written.
 pub(crate) fn put_job(listing: &mut Listing, header: Header, room: &mut Room)
-    requires lent_matrix { LentMatrix room.old.lists.matrix header.n header.m × LentWeights room.old.lists.weights header.m }
+    requires lent_matrix { MatrixLent (matrix_of room.old.lists.matrix room.old.lists.weights) header.n header.m }
     requires branching_lent { BranchingLent header room.old.lists.branches }
     ensures { ListsJob header (lists_of room.old.lists) listing.old listing.new }
 {

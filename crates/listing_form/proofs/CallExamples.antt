@@ -9,7 +9,7 @@ use Rattle.matrix_form.specs.declared.refusal.Refusal.{Refusal}
 use Rattle.matrix_form.specs.declared.refusal.Refusal.TheVariants.{ListSize}
 use Rattle.tree_form.specs.declared.order.Order.TheVariants.{Advance, Closest}
 use Rattle.listing_form.specs.Listing.{output}
-use Rattle.listing_form.specs.Call.{ask_output, ListDone}
+use Rattle.listing_form.specs.Calls.{ask_output, ListDone}
 use Rattle.listing_form.specs.Meant.{order_meant}
 
 -- no word means by advancement, and a word its order
@@ -27,9 +27,9 @@ unfolding ask_output
 less_output lent e = rw e
 
 -- behind the bytes that are printed all of 1,048,576 lent bytes are as before
-behind_kept : (file old new : List ℕ) (r : Result ℕ Refusal) → ListDone file old new r → length old ≡ 1048576
+behind_unchanged : (file old new : List ℕ) (r : Result ℕ Refusal) → ListDone file old new r → length old ≡ 1048576
     → drop (length (output file)) new ≡ drop (length (output file)) old
-behind_kept file old new r done full =
+behind_unchanged file old new r done full =
     let pass : ask_output old ≡ Ok tt = full_output old full in
     let front : new ≡ output file ++ drop (length (output file)) old = rw pass at done.bytes in
     ap (λ (bytes : List ℕ). drop (length (output file)) bytes) front ∙ drop-append_seam (output file) (drop (length (output file)) old)

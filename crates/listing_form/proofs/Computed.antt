@@ -4,17 +4,20 @@ use Prim.Native.Nat.{ℕ}
 use Prim.Native.String.{String}
 use Rattle.matrix_form.specs.Shape as matrix-Shape
 use Rattle.lists.specs.Tests as lists-Tests
+use Rattle.lists.specs.Filled as lists-Filled
 use Rattle.lists.specs.Filters as lists-Filters
 use Rattle.lists.specs.Sums as lists-Sums
 use Rattle.lists.specs.Numbers as lists-Numbers
 use Rattle.lists.specs.Least as lists-Least
 use Rattle.lists.specs.Pairs as lists-Pairs
 use Rattle.matrix_form.specs.NodeRows as matrix-NodeRows
+use Rattle.matrix_form.specs.Outcomes as matrix-Outcomes
 use Rattle.matrix_form.specs.Questions as matrix-Questions
 use Rattle.difference_form.specs.Rows as difference-Rows
 use Rattle.file_form.specs.Bytes as file-form-Bytes
 use Rattle.file_form.specs.Decimal as file-form-Decimal
 use Rattle.file_form.specs.Job as file-form-Job
+use Rattle.file_form.specs.Kinds as file-form-Kinds
 use Rattle.file_form.specs.Lines as file-form-Lines
 use Rattle.file_form.specs.Header as file-form-Header
 use Rattle.file_form.specs.Optional as file-form-Optional
@@ -43,6 +46,7 @@ use Rattle.consistency_form.specs.Floor as consistency-Floor
 use Rattle.consistency_form.specs.Index as consistency-Index
 use Rattle.listing_form.specs.Lines as lines-Lines
 use Rattle.listing_form.specs.Kinds as lines-Kinds
+use Rattle.listing_form.specs.Meant as listing-Meant
 use Rattle.listing_form.specs.Blocks as listing-Blocks
 use Rattle.listing_form.specs.Listing as listing-Listing
 
@@ -50,23 +54,24 @@ use Rattle.listing_form.specs.Listing as listing-Listing
 unfoldable pub computed : List String → List ℕ
 unfolding flat_map matrix-Shape.row matrix-Shape.in_range matrix-Shape.last_node lists-Numbers.numbers lists-Least.first_least
     lists-Tests.every lists-Tests.same_numbers matrix-Questions.one_to matrix-Questions.within_limits matrix-Questions.all_in_range
-    matrix-Questions.rows_in_range matrix-Questions.ask_matrix matrix-Questions.nodes_exist matrix-Questions.htu_in_range
-    matrix-Questions.htus_in_range matrix-Questions.ask_nodes difference-Rows.apart difference-Rows.lower difference-Rows.higher
+    matrix-Outcomes.ask_each matrix-Questions.ask_code matrix-Questions.ask_row_of matrix-Questions.ask_rows_of matrix-Questions.ask_matrix
+    matrix-Questions.nodes_exist matrix-Questions.ask_htu matrix-Questions.ask_nodes difference-Rows.apart difference-Rows.lower difference-Rows.higher
     difference-Rows.median difference-Rows.part matrix-Shape.weight_at matrix-Shape.weight_of matrix-Shape.is_weight
     difference-Rows.difference difference-Rows.medians file-form-Bytes.is_digit file-form-Bytes.is_letter
-    file-form-Bytes.parts_at file-form-Bytes.part_length file-form-Bytes.first_part file-form-Bytes.behind_part
+    file-form-Bytes.pieces_at file-form-Bytes.piece_length file-form-Bytes.first_piece file-form-Bytes.behind_piece
     file-form-Bytes.joined_by file-form-Decimal.digits_in file-form-Decimal.digits_of file-form-Decimal.decimal
     file-form-Decimal.no_leading_zero file-form-Decimal.number_form file-form-Decimal.number_from file-form-Decimal.number_of
     file-form-Decimal.code_form file-form-Decimal.code_of file-form-Job.in_name file-form-Job.name_form
     file-form-Job.differs_from_all file-form-Job.all_differ file-form-Job.has_codes file-form-Job.first_text file-form-Job.row_text
     file-form-Job.ended file-form-Job.file_of file-form-Lines.lines_of file-form-Lines.fields_of file-form-Header.header_in
     file-form-Header.first_form file-form-Header.order_known file-form-Header.is_order file-form-Header.order_in
-    file-form-Header.first_line_form file-form-Header.ask_first_line file-form-Header.ask_weights file-form-Header.ask_header
+    file-form-Header.first_line_form file-form-Header.ask_first_line file-form-Header.ask_header
     file-form-Optional.optional_there file-form-Optional.optional_fields file-form-Optional.ask_optional
     file-form-Weights.weight_form file-form-Weights.weight_in file-form-Weights.weights_form file-form-Weights.weights_said
-    file-form-Header.is_kind file-form-Header.kind_said file-form-Branches.branch_form file-form-Branches.ancestor_in
-    file-form-Branches.branch_text file-form-Branches.branch_texts file-form-Branches.ask_branches file-form-Reading.ask_after
-    file-form-Rows.name_in file-form-Rows.codes_in file-form-Rows.ask_codes file-form-Rows.ask_row file-form-Rows.ask_rows
+    file-form-Kinds.is_kind file-form-Kinds.kind_said file-form-Branches.branch_form file-form-Branches.ancestor_in
+    file-form-Branches.branch_text file-form-Branches.branch_texts file-form-Reading.ask_after
+    file-form-Rows.name_in file-form-Rows.codes_in file-form-Rows.ask_field file-form-Rows.ask_codes file-form-Rows.ask_row
+    file-form-Lines.ask_lines
     file-form-Reading.job_of file-form-Reading.nothing_more file-form-Reading.ask_end file-form-Reading.ask_behind
     file-form-Reading.ask_file file-form-Reading.ask_length file-form-Reading.read_answer file-form-Text.bytes prim-Network.taxa
     prim-Network.network_length lists-Tests.among lists-Filters.without prim-Network.unplaced prim-Network.nearest_placed
@@ -76,10 +81,10 @@ unfolding flat_map matrix-Shape.row matrix-Shape.in_range matrix-Shape.last_node
     branching-Growing.descendant_count branching-Growing.descendants_wanted branching-Growing.climbs branching-Growing.row_one_alone
     branching-Growing.nodes_only branching-Growing.htus_in branching-Growing.ancestors_in branching-Growing.descendants_right
     branching-Growing.all_climb branching-Growing.grown branching-Growing.growing_tree branching-Growing.branching
-    branching-Hanging.no_branches branching-Hanging.linked branching-Hanging.hung branching-Hanging.next_htu lists-Sums.sum_over
+    branching-Hanging.only_row_one branching-Hanging.linked branching-Hanging.hung branching-Hanging.next_htu lists-Sums.sum_over
     branching-Branches.tree_length branching-Branches.branch_of branching-Branches.branch_records branching-Branches.branches_read
-    branching-Branches.ancestors_of branching-Branches.named_in_order branching-Branches.lent_branching matrix-NodeRows.row_of
-    lists-Least.least_of difference-Rows.interval_by branching-RowLengths.node_interval wagner-Next.advancement
+    branching-Branches.ancestors_of lists-Filled.filled branching-Branches.named_in_order branching-Branches.lent_branching matrix-NodeRows.row_of
+    lists-Least.least_of difference-Rows.interval_by wagner-Next.advancement
     branching-RowLengths.length_under branching-Placing.median_row branching-Placing.from_interval branching-Placing.nearest_interval
     branching-Placing.link_first branching-Placing.hang branching-Placing.place_on branching-Placing.place
     wagner-Next.by_advancement wagner-Next.hangings wagner-Next.taxon_of wagner-Next.by_closeness wagner-Next.next_by lists-Pairs.pairs
@@ -89,11 +94,10 @@ unfolding flat_map matrix-Shape.row matrix-Shape.in_range matrix-Shape.last_node
     clades-Character.up clades-Character.chosen clades-Character.ranges clades-Character.row1_range
     clades-Character.state_of clades-Character.range_of fitting-Assignments.character
     fitting-Assignments.branch_length fitting-Assignments.total fitting-Fit.chosen_state fitting-Fit.range fitting-Fit.fitted_length
-    fitting-Fit.fitted_total fitting-Fit.marked consistency-Floor.lowest consistency-Floor.highest consistency-Floor.codes_of
-    consistency-Floor.character_floor consistency-Floor.floor consistency-Index.index lines-Lines.line lines-Lines.hyphen lines-Lines.htu_name lines-Lines.node_name
+    fitting-Fit.fitted_total fitting-Fit.marked consistency-Floor.left_by consistency-Floor.lowest consistency-Floor.highest
+    consistency-Floor.codes_of consistency-Floor.character_floor consistency-Floor.floor consistency-Index.index lines-Lines.line lines-Lines.hyphen lines-Lines.htu_name lines-Lines.node_name
     lines-Kinds.total_line lines-Kinds.index_line lines-Kinds.mark lines-Kinds.prim_line lines-Kinds.wagner_line lines-Kinds.branch_line
-    lines-Kinds.state_line lines-Kinds.refusal_line listing-Blocks.fitted_line
-    listing-Blocks.range_line listing-Blocks.fitted_lines listing-Blocks.range_lines listing-Listing.prim_block listing-Listing.wagner_block
-    listing-Listing.fitted_block listing-Listing.index_block listing-Listing.range_block listing-Listing.tree_blocks listing-Listing.blocks_for listing-Listing.blocks listing-Listing.listing
-    listing-Listing.printed listing-Listing.listing_of listing-Listing.output
+    lines-Kinds.state_line lines-Kinds.refusal_line listing-Meant.tree_for listing-Blocks.network_lines listing-Blocks.build_lines
+    listing-Blocks.fitted_line listing-Blocks.fitted_lines listing-Blocks.state_line_of listing-Blocks.node_lines listing-Blocks.state_lines listing-Blocks.lines_of_build listing-Blocks.lines_of_tree
+    listing-Listing.lines_before listing-Listing.listing listing-Listing.printed listing-Listing.listing_of listing-Listing.output
 computed lines = listing-Listing.output (flat_map file-form-Text.bytes lines)

@@ -48,3 +48,19 @@ texts_room f most (x ∷ xs) h =
       h x (Memᴰ.head refl),
       texts_room f most xs (λ y m. h y (Memᴰ.tail m)),
     )
+
+-- a line for each item, and one behind them
+pub joined-block : {A : Type 0} (f : A → List ℕ) (xs : List A) (x : List ℕ) → joined (map f xs ++ (x ∷ [])) ≡ flat_map f xs ++ x
+joined-block f xs x = flat_map-append (λ line. line) (map f xs) (x ∷ []) ∙ ap₂ ◌++◌ (joined-map f xs) (joined-one x)
+
+-- lines, a line behind them, and what follows it
+pub joined-behind : (a : List (List ℕ)) (x : List ℕ) (b : List (List ℕ)) → joined (a ++ (x ∷ b)) ≡ joined a ++ (x ++ joined b)
+unfolding flat_map
+joined-behind a x b = flat_map-append (λ line. line) a (x ∷ b)
+
+-- two blocks of lines, and what follows them
+pub joined-three : (a b c : List (List ℕ)) → joined ((a ++ b) ++ c) ≡ joined a ++ (joined b ++ joined c)
+joined-three a b c =
+    flat_map-append (λ line. line) (a ++ b) c
+    ∙ ap (λ text. text ++ joined c) (flat_map-append (λ line. line) a b)
+    ∙ append_assoc (joined a) (joined b) (joined c)

@@ -7,6 +7,7 @@ pub mod OneTaxon
 pub mod LineSizes
 pub mod InTurn
 pub mod Joined
+pub mod SameLines
 pub mod Parts
 pub mod Printed
 pub mod InPrint

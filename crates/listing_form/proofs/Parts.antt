@@ -1,6 +1,6 @@
--- The listing of a job by its parts: the lines of each block and the totals between them, and how many lines each block has.
+-- The listing of a job by its parts: its lines by the kind of file, and how many lines of each kind there are.
 use mathlib.Core.Path.{◌≡◌, refl, ap, ◌∙◌}
-use mathlib.Core.List.{List, [], ◌∷◌, ◌++◌, map, flat_map, append-nil, append_assoc}
+use mathlib.Core.List.{List, [], ◌∷◌, ◌++◌, map, flat_map}
 use Prim.Native.Nat.{ℕ, zero, suc, ◌+◌, ◌-◌, ◌*◌}
 use native.Mathlib.Omega.{arith}
 use lib.IntN.{ℤ}
@@ -11,36 +11,15 @@ use Rattle.matrix_form.specs.NodeRows.{row_of}
 use Rattle.file_form.specs.Job.{Job}
 use Rattle.file_form.specs.declared.header.Kind.TheVariants.{Wagner, Own}
 use Rattle.difference_form.specs.Rows.{Measure, node_difference}
-use Rattle.prim_form.specs.Network.{Link, network, network_length}
 use Rattle.prim_form.proofs.Placing.{network-length}
 use Rattle.tree_form.specs.Ancestors.{tree_with}
-use Rattle.tree_form.specs.Nodes.{other_nodes}
+use Rattle.tree_form.specs.Nodes.{other_nodes, htus}
 use Rattle.tree_form.specs.declared.order.Order.{Order}
-use Rattle.wagner_form.specs.Build.{Built, wagner, wagner_length, build, build_on}
-use Rattle.fit_form.specs.Fit.{fitted_total}
-use Rattle.std.specs.Prelude.{Option}
-use Rattle.consistency_form.specs.declared.index.Index.{Index}
-use Rattle.consistency_form.specs.Floor.{floor}
-use Rattle.consistency_form.specs.Index.{index}
-use Rattle.listing_form.specs.Lines.{joined}
-use Rattle.listing_form.specs.Kinds.{total_line, index_line, prim_line, wagner_line}
-use Rattle.listing_form.specs.Meant.{order_meant}
-use Rattle.listing_form.specs.Blocks.{fitted_line, fitted_lines, range_line, range_lines}
-use Rattle.listing_form.specs.Listing.{prim_block, wagner_block, fitted_block, index_block, range_block, tree_blocks, blocks_for, blocks, listing}
-use Rattle.listing_form.proofs.Joined.{flat_map-append}
-
--- blocks, the first with a line behind it
-after_block : (a : List (List ℕ)) (x : List ℕ) (others : List (List (List ℕ)))
-    → joined (flat_map (λ (block : List (List ℕ)). block) ((a ++ (x ∷ [])) ∷ others))
-    ≡ joined a ++ (x ++ joined (flat_map (λ (block : List (List ℕ)). block) others))
-unfolding flat_map
-after_block a x others = simp (flat_map-append, append-nil, append_assoc)
-
--- a block of one line and a last block
-last_blocks : (w : List ℕ) (d : List (List ℕ))
-    → joined (flat_map (λ (block : List (List ℕ)). block) ((w ∷ []) ∷ d ∷ [])) ≡ w ++ joined d
-unfolding flat_map
-last_blocks w d = simp append-nil
+use Rattle.wagner_form.specs.Build.{wagner, build, build_on}
+use Rattle.listing_form.specs.Kinds.{total_line, prim_line, wagner_line}
+use Rattle.listing_form.specs.Meant.{order_meant, links_meant, built_meant, tree_for}
+use Rattle.listing_form.specs.Blocks.{PrintedTree, network_lines, build_lines, fitted_line, fitted_lines, node_lines, state_lines, lines_of_build, lines_of_tree}
+use Rattle.listing_form.specs.Listing.{build_numbers, tree_numbers, lines_before, listing}
 
 -- so many items, each with as many texts
 length-each : {A B : Type 0} (f : A → List B) (size : ℕ) (xs : List A) → ((x : A) → length (f x) ≡ size) → length (flat_map f xs) ≡ length xs * size
@@ -62,111 +41,64 @@ unfolding wagner build
 wagner-count d order n rows = build-count d _ n (n - 1) _ rows
 
 module _ (measure : Measure) (job : Job) where
-  -- the links of the job's Prim Network
-  abbrev pub links_of : List Link
-  links_of = network (node_difference measure.rows (row_of job.rows)) job.n
+  -- the lines of a tree of the job
+  abbrev pub tree_lines : List ℕ → List (List ℕ)
+  tree_lines tree = lines_of_tree job.n job.names job.m (tree_numbers measure job tree)
 
-  -- the job's Wagner tree
-  abbrev pub built_of : Built
-  built_of = wagner measure.rows (order_meant job.order) job.n job.rows
+  -- the listing of a `W` file: the lines of network and build, and those of the tree built
+  pub built-listing : job.kind ≡ Wagner
+      → listing measure job ≡ lines_of_build job.n job.names (build_numbers measure job) ++ tree_lines (built_meant measure job).tree
+  unfolding listing lines_before tree_for
+  built-listing kind = ap (λ k. lines_before k measure job ++ tree_lines (tree_for k measure job)) kind
 
-  -- its `P` lines
-  abbrev pub prim_lines : List (List ℕ)
-  prim_lines = map (prim_line job.n job.names) links_of
+  -- that of an `F` file: the lines of its own branching
+  pub own-listing : job.kind ≡ Own → listing measure job ≡ tree_lines (tree_with job.ancestors)
+  unfolding listing lines_before tree_for
+  own-listing kind = ap (λ k. lines_before k measure job ++ tree_lines (tree_for k measure job)) kind
 
-  -- its `W` lines
-  abbrev pub wagner_lines : List (List ℕ)
-  wagner_lines = map (wagner_line job.n job.names) built_of.placements
+  -- n-1 `P` lines, and `p`
+  pub prim_count : (p : ℕ) → length (network_lines job.n job.names (links_meant measure job) p) ≡ job.n - 1 + 1
+  unfolding network_lines
+  prim_count p =
+      omega (
+        arith,
+        length-append (map (prim_line job.n job.names) (links_meant measure job)) (total_line "p" p ∷ []),
+        length-map (links_meant measure job) (prim_line job.n job.names),
+        network-length (node_difference measure.rows (row_of job.rows)) job.n,
+      )
 
-  -- the line `p`
-  abbrev pub prim_total : List ℕ
-  prim_total = total_line "p" (network_length links_of)
+  -- n-1 `W` lines, and `w`
+  pub build_count : (w : ℕ) → length (build_lines job.n job.names (built_meant measure job).placements w) ≡ job.n - 1 + 1
+  unfolding build_lines
+  build_count w =
+      omega (
+        arith,
+        length-append (map (wagner_line job.n job.names) (built_meant measure job).placements) (total_line "w" w ∷ []),
+        length-map (built_meant measure job).placements (wagner_line job.n job.names),
+        wagner-count measure.rows (order_meant job.order) job.n job.rows,
+      )
 
-  -- the line `w`
-  abbrev pub wagner_total : List ℕ
-  wagner_total = total_line "w" (wagner_length measure.rows job.n built_of)
+-- 2n-3 `T` lines, and `t`
+pub fitted_count : (n : ℕ) (names : List (List ℕ)) (x : PrintedTree) → length (fitted_lines n names x.tree x.lengths x.marks x.t) ≡ 2 * n - 3 + 1
+unfolding fitted_lines other_nodes
+fitted_count n names x =
+    let text : ℕ → List ℕ = fitted_line n names x.tree x.lengths x.marks in
+    omega (arith, length-append (map text (numbers 2 (2 * n - 3))) (total_line "t" x.t ∷ []), length_map_numbers text 2 (2 * n - 3))
 
-  -- a tree
-  module _ (tree : List ℕ) where
-    -- its `T` lines
-    abbrev pub tree_lines : List (List ℕ)
-    tree_lines = fitted_lines job.n job.names tree job.rows job.m measure.step
+-- (n-2)m `H` lines
+pub state_count : (n m : ℕ) (names : List (List ℕ)) (low high chosen : ℕ → ℕ → ℤ)
+    → length (state_lines n names low high chosen m) ≡ (n - 2) * m
+unfolding state_lines node_lines
+state_count n m names low high chosen =
+    length-each (node_lines n names low high chosen m) m (htus n) (λ v. length_map_numbers _ 1 m)
+    ∙ ap (λ (count : ℕ). count * m) (length-numbers (n + 1) (n - 2))
 
-    -- its `H` lines
-    abbrev pub htu_lines : List (List ℕ)
-    htu_lines = range_lines job.n job.names tree job.rows job.m
-
-    -- the line `t`
-    abbrev pub tree_total : List ℕ
-    tree_total = total_line "t" (fitted_total measure.step tree job.rows job.n job.m)
-
-    -- its index
-    abbrev pub index_of : Option Index
-    index_of =
-        index (floor measure.step job.rows job.n job.m) (fitted_total measure.step tree job.rows job.n job.m)
-
-    -- the line `c`
-    abbrev pub tree_index : List ℕ
-    tree_index = index_line index_of
-
-    -- its lines, joined: `T` lines, `t`, `c`, `H` lines
-    abbrev pub tree_text : List ℕ
-    tree_text = joined tree_lines ++ (tree_total ++ (tree_index ++ joined htu_lines))
-
-    -- they are its blocks
-    pub tree-text : joined (flat_map (λ (block : List (List ℕ)). block) (tree_blocks measure job tree)) ≡ tree_text
-    unfolding tree_blocks fitted_block index_block range_block
-    tree-text = after_block tree_lines tree_total _ ∙ ap (λ rest. joined tree_lines ++ (tree_total ++ rest)) (last_blocks tree_index htu_lines)
-
-    -- 2n-3 `T` lines
-    pub tree-count : length tree_lines ≡ 2 * job.n - 3
-    unfolding fitted_lines other_nodes
-    tree-count =
-        length_map_numbers (fitted_line job.n job.names tree job.rows job.m measure.step) 2 (2 * job.n - 3)
-
-    -- (n-2)m `H` lines
-    pub htu-count : length htu_lines ≡ (job.n - 2) * job.m
-    unfolding range_lines
-    htu-count =
-        length-each (λ v. map (line v) (numbers 1 job.m)) job.m (numbers (job.n + 1) (job.n - 2))
-        (λ v. length_map_numbers (line v) 1 job.m)
-        ∙ ap (λ (count : ℕ). count * job.m) (length-numbers (job.n + 1) (job.n - 2))
-      where
-        line : ℕ → ℕ → List ℕ
-        line = range_line job.n job.names tree job.rows job.m
-
-  -- the listing of a `W` file, joined: `P` lines, `p`, `W` lines, `w`, and the lines of the tree built
-  pub built-text : job.kind ≡ Wagner → joined (listing measure job)
-      ≡ joined prim_lines ++ (prim_total ++ (joined wagner_lines ++ (wagner_total ++ tree_text built_of.tree)))
-  unfolding listing blocks blocks_for prim_block wagner_block
-  built-text kind =
-      ap (λ k. joined (flat_map (λ (block : List (List ℕ)). block) (blocks_for k measure job))) kind
-      ∙ after_block prim_lines prim_total _
-      ∙ ap (λ rest. joined prim_lines ++ (prim_total ++ rest))
-      (after_block wagner_lines wagner_total _ ∙ ap (λ rest. joined wagner_lines ++ (wagner_total ++ rest)) (tree-text built_of.tree))
-
-  -- the listing of an `F` file, joined: the lines of its own branching
-  pub own-text : job.kind ≡ Own → joined (listing measure job) ≡ tree_text (tree_with job.ancestors)
-  unfolding listing blocks blocks_for
-  own-text kind =
-      ap (λ k. joined (flat_map (λ (block : List (List ℕ)). block) (blocks_for k measure job))) kind ∙ tree-text (tree_with job.ancestors)
-
-  -- n-1 `P` lines
-  pub prim_count : length prim_lines ≡ job.n - 1
-  prim_count = length-map links_of (prim_line job.n job.names) ∙ network-length (node_difference measure.rows (row_of job.rows)) job.n
-
-  -- n-1 `W` lines
-  pub wagner-lines : length wagner_lines ≡ job.n - 1
-  wagner-lines =
-      length-map built_of.placements (wagner_line job.n job.names)
-      ∙ wagner-count measure.rows (order_meant job.order) job.n job.rows
-
--- two taxa: one `P`, one `W` and one `T` line, and no `H`, whatever the tree
+-- two taxa: one `P`, one `W` and one `T` line, each with the line of its total, and no `H`, whatever the tree
 pub record OneOfEach (measure : Measure) (job : Job) : Type 0 where
-  pub p : length (prim_lines measure job) ≡ 1
-  pub w : length (wagner_lines measure job) ≡ 1
-  pub t : (tree : List ℕ) → length (tree_lines measure job tree) ≡ 1
-  pub h : (tree : List ℕ) → htu_lines measure job tree ≡ []
+  pub p : (p : ℕ) → length (network_lines job.n job.names (links_meant measure job) p) ≡ 2
+  pub w : (w : ℕ) → length (build_lines job.n job.names (built_meant measure job).placements w) ≡ 2
+  pub t : (x : PrintedTree) → length (fitted_lines job.n job.names x.tree x.lengths x.marks x.t) ≡ 2
+  pub h : (x : PrintedTree) → state_lines job.n job.names x.low x.high x.chosen job.m ≡ []
 
 -- a list of no entries
 no_lines : {A : Type 0} (xs : List A) → length xs ≡ 0 → xs ≡ []
@@ -176,8 +108,8 @@ no_lines (x ∷ xs) e = absurd (omega arith)
 -- every job of two taxa has these
 pub two_taxa : (measure : Measure) (job : Job) → job.n ≡ 2 → OneOfEach measure job
 two_taxa measure job e = record {
-  p = omega (arith, prim_count measure job);
-  w = omega (arith, wagner-lines measure job);
-  t = λ tree. omega (arith, tree-count measure job tree);
-  h = λ tree. no_lines (htu_lines measure job tree) (htu-count measure job tree ∙ ap (λ (n : ℕ). (n - 2) * job.m) e ∙ omega arith);
+  p = λ p. omega (arith, prim_count measure job p);
+  w = λ w. omega (arith, build_count measure job w);
+  t = λ x. omega (arith, fitted_count job.n job.names x);
+  h = λ x. no_lines _ (state_count job.n job.m job.names x.low x.high x.chosen ∙ ap (λ (n : ℕ). (n - 2) * job.m) e ∙ omega arith);
 }

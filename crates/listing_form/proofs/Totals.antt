@@ -1,17 +1,14 @@
 -- The totals that are printed are the sums of what the lines of their blocks print.
 use mathlib.Core.Path.{◌≡◌, refl, sym}
-use mathlib.Core.Bool.{true}
 use mathlib.Core.List.{List, []}
-use Prim.Native.Nat.{ℕ, ◌-◌, ◌≤◌}
+use Prim.Native.Nat.{ℕ, ◌-◌}
 use native.Mathlib.Omega.{arith}
-use lib.Dec.{leb}
 use lib.ListN.{length, get_or}
-use borrow.Author.Tests.{leb-true, eqb-true}
+use borrow.Author.Tests.{eqb-true}
 use Rattle.lists.specs.Sums.{sum_over}
-use Rattle.lists.proofs.Both.{and_left, and_right}
 use Rattle.lists.proofs.Every.{every_at}
 use Rattle.matrix_form.specs.NodeRows.{row_of}
-use Rattle.matrix_form.specs.Questions.{one_to, within_limits}
+pub use Rattle.matrix_form.proofs.Limits.{Limits, limits}
 use Rattle.file_form.specs.Job.{Job, JobWithinLimits, has_codes}
 use Rattle.difference_form.specs.Rows.{Measure}
 use Rattle.prim_form.specs.Network.{Link, network_length}
@@ -22,32 +19,11 @@ use Rattle.wagner_form.specs.Build.{wagner_length, added_length}
 use Rattle.wagner_form.proofs.Difference.{wagner-length}
 use Rattle.fit_form.specs.Fit.{fitted_length, fitted_total}
 use Rattle.fit_form.proofs.Matrix.Totals.{lengths-total}
-use Rattle.listing_form.specs.Meant.{order_meant, measure_meant}
-use Rattle.listing_form.proofs.Parts.{links_of, built_of}
-
--- the limits of n and m, from the question that asks for them
-pub record Limits (n m : ℕ) : Type 0 where
-  pub taxon : 1 ≤ n
-  pub taxa : n ≤ 64
-  pub character : 1 ≤ m
-  pub characters : m ≤ 128
-
--- what passes the question is within the limits
-pub limits : (n m : ℕ) → within_limits n m ≡ true → Limits n m
-unfolding within_limits one_to
-limits n m e =
-    let first = and_left (one_to 64 n) (one_to 128 m) e in
-    let second = and_right (one_to 64 n) (one_to 128 m) e in
-    record {
-      taxon = leb-true 1 n (and_left (leb 1 n) (leb n 64) first);
-      taxa = leb-true n 64 (and_right (leb 1 n) (leb n 64) first);
-      character = leb-true 1 m (and_left (leb 1 m) (leb m 128) second);
-      characters = leb-true m 128 (and_right (leb 1 m) (leb m 128) second);
-    }
+use Rattle.listing_form.specs.Meant.{order_meant, measure_meant, links_meant, built_meant}
 
 -- `p` is the sum of the lengths of the `P` lines
 pub prim_total_lem : (measure : Measure) (job : Job)
-    → network_length (links_of measure job) ≡ sum_over (λ (l : Link). l.length) (links_of measure job)
+    → network_length (links_meant measure job) ≡ sum_over (λ (l : Link). l.length) (links_meant measure job)
 unfolding network_length
 prim_total_lem measure job = refl
 
@@ -66,8 +42,8 @@ module _ (job : Job) (within : JobWithinLimits job) where
       (every_at (has_codes job.m) job.rows within.rows_full (v - 1) [] (omega arith))
 
   -- `w` is the sum of the lengths that the `W` lines say are added
-  pub wagner-total : wagner_length (measure_meant job).rows job.n (built_of (measure_meant job) job)
-      ≡ sum_over (λ (p : Placement). p.added) (built_of (measure_meant job) job).placements
+  pub wagner-total : wagner_length (measure_meant job).rows job.n (built_meant (measure_meant job) job)
+      ≡ sum_over (λ (p : Placement). p.added) (built_meant (measure_meant job) job).placements
   unfolding added_length
   wagner-total =
       let known = limits job.n job.m within.limits in

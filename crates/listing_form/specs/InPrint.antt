@@ -1,68 +1,25 @@
 -- Demand 3 for what is printed (document 01, "The three rivals"): the numbers that the listing of an accepted file prints, and that no
 -- rival does better than they say; with the index of its tree and the claim about the floor (document 02, M-102), and for a file with its
 -- own branching (M-103).
-use Rattle.std.specs.Prelude.{◌≡◌, ◌↔◌, Bool, true, Option, ℕ, ◌+◌, ◌*◌, ◌-◌, ◌≤◌, ◌<◌, ℤ, ◌≤ℤ◌}
-use mathlib.Core.List.{List, [], ◌∷◌, ◌++◌, map, flat_map}
-use Rattle.lists.specs.Numbers.{numbers}
+use Rattle.std.specs.Prelude.{◌≡◌, ◌↔◌, true, ℕ, ◌*◌, ◌-◌, ◌≤◌, ◌<◌, ℤ, ◌≤ℤ◌}
+use mathlib.Core.List.{List, ◌++◌}
 use Rattle.lists.specs.Sums.{sum_over}
 use Rattle.matrix_form.specs.NodeRows.{row_of}
 use Rattle.file_form.specs.Job.{Job}
 use Rattle.difference_form.specs.Rows.{node_difference}
-use Rattle.prim_form.specs.Network.{Link}
 use Rattle.prim_form.specs.Rival.{Connected, link_ends, links_length}
 use Rattle.tree_form.specs.declared.placement.Placement.{Placement}
-use Rattle.tree_form.specs.Ancestors.{ancestor, tree_with}
-use Rattle.tree_form.specs.Nodes.{other_nodes}
 use Rattle.tree_form.specs.Growing.{branching}
 use Rattle.tree_form.specs.RowLengths.{length_under}
-use Rattle.wagner_form.specs.Build.{Built}
 use Rattle.fit_form.specs.Assignments.{branch_length, total, IsAssignment, Occurs}
-use Rattle.consistency_form.specs.declared.index.Index.{Index}
+use Rattle.fit_form.specs.Marks.{MarkMeans}
 use Rattle.consistency_form.specs.Floor.{floor, FloorNeverPasses}
 use Rattle.consistency_form.specs.Index.{IsIndex}
 use Rattle.rivals.specs.Demand.{BuildIsLeast}
 use Rattle.listing_form.specs.Lines.{joined}
-use Rattle.listing_form.specs.Kinds.{total_line, index_line, prim_line, wagner_line, branch_line, state_line}
-use Rattle.listing_form.specs.Meant.{order_meant, measure_meant}
+use Rattle.listing_form.specs.Meant.{order_meant, measure_meant, built_meant, tree_meant}
+use Rattle.listing_form.specs.Blocks.{PrintedBuild, PrintedTree, lines_of_build, lines_of_tree}
 use Rattle.listing_form.specs.Listing.{output}
-
--- the numbers that the lines of network and build print
-pub record PrintedBuild : Type 0 where
-  -- the links of the `P` lines, and `p`
-  pub links : List Link
-  pub p : ℕ
-  -- the build whose placements are the `W` lines, and `w`
-  pub built : Built
-  pub w : ℕ
-
--- the numbers that the lines of a fitted tree print
-pub record PrintedTree : Type 0 where
-  -- the tree whose ancestors stand in the `T` lines; length and mark in the `T` line of a node, and `t`
-  pub tree : List ℕ
-  pub lengths : ℕ → ℕ
-  pub marks : ℕ → Bool
-  pub t : ℕ
-  -- the index in the line `c`
-  pub c : Option Index
-  -- lowest, highest and chosen state in the `H` line of a node and a character
-  pub low : ℕ → ℕ → ℤ
-  pub high : ℕ → ℕ → ℤ
-  pub chosen : ℕ → ℕ → ℤ
-
--- the lines that print the numbers of network and build for a job
-unfoldable pub lines_of_build : Job → PrintedBuild → List (List ℕ)
-lines_of_build job x =
-    map (prim_line job.n job.names) x.links
-    ++ (total_line "p" x.p ∷ map (wagner_line job.n job.names) x.built.placements ++ (total_line "w" x.w ∷ []))
-
--- the lines that print the numbers of a fitted tree
-unfoldable pub lines_of_tree : Job → PrintedTree → List (List ℕ)
-lines_of_tree job x =
-    map (λ v. branch_line job.n job.names v (ancestor x.tree v) (x.lengths v) (x.marks v)) (other_nodes job.n)
-    ++ (total_line "t" x.t
-    ∷ index_line x.c
-    ∷ flat_map (λ v. map (λ j. state_line job.n job.names v j (x.low v j) (x.high v j) (x.chosen v j)) (numbers 1 job.m))
-    (numbers (job.n + 1) (job.n - 2)))
 
 -- of the numbers of network and build this holds
 pub record BuildLeast (job : Job) (printed : PrintedBuild) : Type 0 where
@@ -84,6 +41,9 @@ pub record TreeLeast (job : Job) (printed : PrintedTree) : Type 0 where
   pub assigns : IsAssignment job.rows job.n job.m printed.chosen
   pub t_length : total (measure_meant job).step printed.tree job.n job.m printed.chosen ≡ printed.t
   pub branch_lengths : (v : ℕ) → printed.lengths v ≡ branch_length (measure_meant job).step printed.tree job.m printed.chosen v
+  -- the mark of each `T` line says of the chosen states what a mark says
+  pub branch_marks : (v : ℕ) → 2 ≤ v → v ≤ 2 * job.n - 2
+      → MarkMeans (measure_meant job).step printed.tree job.rows job.n job.m printed.chosen v (printed.marks v)
   -- no assignment has a lower total
   pub no_states_shorter : (rival : ℕ → ℕ → ℤ) → IsAssignment job.rows job.n job.m rival
       → printed.t ≤ total (measure_meant job).step printed.tree job.n job.m rival
@@ -95,18 +55,19 @@ pub record TreeLeast (job : Job) (printed : PrintedTree) : Type 0 where
       → ((printed.low v j ≤ℤ s) × (s ≤ℤ printed.high v j))
       ↔ Occurs (measure_meant job).step printed.tree job.rows job.n job.m v j s
 
--- the listing of a `W` file that says a job prints the numbers of network and build, and those of the tree built, and nothing else
+-- the listing of a `W` file that says a job prints the numbers of network and build, and those of the tree that is meant, and nothing else
 pub record NoRivalInPrint (file : List ℕ) (job : Job) : Type 0 where
   pub built : PrintedBuild
   pub tree : PrintedTree
-  pub lines : output file ≡ joined (lines_of_build job built ++ lines_of_tree job tree)
-  pub same : tree.tree ≡ built.built.tree
+  pub lines : output file ≡ joined (lines_of_build job.n job.names built ++ lines_of_tree job.n job.names job.m tree)
+  pub is_built : built.built ≡ built_meant (measure_meant job) job
+  pub is_tree : tree.tree ≡ tree_meant (measure_meant job) job
   pub build_least : BuildLeast job built
   pub tree_least : TreeLeast job tree
 
--- that of an `F` file prints the numbers of the file's own branching, and nothing else: rivals over inner states are measured on it
+-- that of an `F` file prints the numbers of the tree that is meant, and nothing else: rivals over inner states are measured on it
 pub record OwnInPrint (file : List ℕ) (job : Job) : Type 0 where
   pub tree : PrintedTree
-  pub lines : output file ≡ joined (lines_of_tree job tree)
-  pub own : tree.tree ≡ tree_with job.ancestors
+  pub lines : output file ≡ joined (lines_of_tree job.n job.names job.m tree)
+  pub is_tree : tree.tree ≡ tree_meant (measure_meant job) job
   pub tree_least : TreeLeast job tree

@@ -9,5 +9,5 @@ pub mod Kinds
 pub mod Meant
 pub mod Blocks
 pub mod Listing
-pub mod Call
+pub mod Calls
 pub mod InPrint

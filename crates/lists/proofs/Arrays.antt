@@ -1,4 +1,4 @@
--- Arrays that a closure makes from the places, which computes a function and stays as it is.
+-- Arrays that a closure makes from the indices, which computes a function and stays as it is.
 use mathlib.Core.Path.{◌≡◌, sym, subst, ◌∙◌}
 use mathlib.Core.List.{List, map}
 use Prim.Native.Nat.{ℕ, zero, suc, ◌+◌, ◌<◌}
@@ -18,7 +18,7 @@ further i k = omega arith
 
 module _ {F B : Type 0} (g : Mut F (ℕ × Unit {0}) B) (f : F) (h : ℕ → B)
     (each : (i : ℕ) (y : B) (q : F) → Called g f (i, tt) y q → (q ≡ f) × (y ≡ h i)) where
-  -- what stands at a place is the function's value there
+  -- what stands at an index is the function's value there
   made_at : (ys : List B) (none : B) (i n : ℕ) → IsFromFnResultFrom g f ys i n → (k : ℕ) → k < n → get_or ys (i + k) none ≡ h (i + k)
   made_at ys none i zero t k b = absurd (omega arith)
   made_at ys none i (suc n) t zero b = rw add-zero (t.2.1 none ∙ (each i t.1 t.0 t.3).1)

@@ -1,4 +1,4 @@
--- Laws of `every`, and what a loop over a list knows at place j: the rest from j on decides.
+-- Laws of `every`, and what a loop over a list knows at index j: the rest from j on decides.
 use mathlib.Core.Path.{◌≡◌, refl, sym, ap, ◌∙◌}
 use mathlib.Core.Bool.{Bool, true, false, not, ◌&&◌, false≢true}
 use mathlib.Core.Logic.Iff

@@ -1,4 +1,4 @@
--- Lists filled place by place.
+-- Lists filled entry by entry.
 use mathlib.Core.Path.{◌≡◌, ap, ◌∙◌}
 use mathlib.Core.Logic.{by_cases}
 use mathlib.Core.List.{List, [], ◌∷◌, ◌++◌}
@@ -12,7 +12,7 @@ use Rattle.lists.specs.Sums.{sum_over}
 use Rattle.lists.proofs.Numbers.{numbers-snoc}
 use Rattle.lists.proofs.Sums.{sum_snoc}
 
--- what holds of the entries at the places from `first` to i, and of the one that is written at i, holds at the places to i + 1
+-- what holds of the entries at the entries from `first` to i, and of the one that is written at i, holds at the places to i + 1
 pub filled_next : {A : Type 0} (P : ℕ → A → Type 0) (none : A) (xs : List A) (first i : ℕ) (x : A) → i < length xs
     → ((u : ℕ) → first ≤ u → u < i → P u (get_or xs u none)) → P i x
     → (u : ℕ) → first ≤ u → u < i + 1 → P u (get_or (set xs i x) u none)

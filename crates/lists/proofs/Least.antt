@@ -3,18 +3,15 @@ use mathlib.Core.Path.{◌≡◌, refl, sym, ap, ◌∙◌}
 use mathlib.Core.Bool.{Bool, true, false, cond}
 use mathlib.Core.List.Memᴰ
 use mathlib.Core.List.{List, [], ◌∷◌, ◌++◌, map, Memᴰ}
-use mathlib.Core.Logic.{◌⊎◌, inl, inr, ◌≢◌}
-use Prim.Native.Nat.{ℕ, suc, ◌+◌, ◌-◌, ◌≤◌, ◌<◌}
+use mathlib.Core.Logic.{◌⊎◌, inl, inr}
+use Prim.Native.Nat.{ℕ, ◌≤◌, ◌<◌}
 use native.Mathlib.Nat.{le_refl, le_trans}
 use native.Mathlib.Omega.{arith}
-use borrow.Author.Tests.{leb-true, leb-false, le-leb, lt-leb, ltb-true, ltb-false, lt-ltb, le-ltb}
-use lib.Dec.{leb, ltb}
+use borrow.Author.Tests.{leb-true, leb-false, le-leb, lt-leb}
+use lib.Dec.{leb}
 use lib.ListN.{length, length-append}
-use Rattle.lists.specs.Least.{first_least, least_of, scanned}
-use Rattle.lists.specs.Filters.{keep}
-use Rattle.lists.specs.Numbers.{numbers}
-use Rattle.lists.proofs.Keep.{keep-mem, keep_snoc_passes, keep_snoc_fails}
-use Rattle.lists.proofs.Numbers.{numbers-within, numbers-snoc}
+use Rattle.std.specs.Prelude.{Some}
+use Rattle.lists.specs.Least.{first_least, least_key, least_of}
 
 -- of three items with equal keys the first is chosen
 first_of_equals : first_least (λ (item : ℕ). 7) 1 (2 ∷ 3 ∷ []) ≡ 1
@@ -175,15 +172,6 @@ module _ {A : Type 0} where
         → first_least key x (xs ++ (y ∷ [])) ≡ first_least key x xs
     first_least_snoc_stays x xs y h = one_more x xs y ∙ take_head (first_least key x xs) y h
 
-    -- the two in one: one more at the end is chosen exactly if its key is below the key of the one chosen so far
-    pub first_least-snoc : (x : A) (xs : List A) (y : A)
-        → first_least key x (xs ++ (y ∷ [])) ≡ cond (ltb (key y) (key (first_least key x xs))) y (first_least key x xs)
-    first_least-snoc x xs y = go (ltb (key y) (key (first_least key x xs))) refl
-      where
-        go : (b : Bool) → ltb (key y) (key (first_least key x xs)) ≡ b → first_least key x (xs ++ (y ∷ [])) ≡ cond b y (first_least key x xs)
-        go true e = first_least_snoc_less x xs y (ltb-true (key y) (key (first_least key x xs)) e)
-        go false e = first_least_snoc_stays x xs y (ltb-false (key y) (key (first_least key x xs)) e)
-
   -- the choice depends only on the keys of the list
   pub first_least_congr : (key key' : A → ℕ) (x : A) (xs : List A)
       → ((y : A) → Memᴰ y (x ∷ xs) → key y ≡ key' y)
@@ -234,101 +222,8 @@ unfolding least_of
 least_of_congr key key' [] h = refl
 least_of_congr key key' (v ∷ vs) h = first_least_congr key key' v vs h
 
--- one number more at the end of a list of none
-snoc_none : (key : ℕ → ℕ) (vs : List ℕ) (v : ℕ) → ((u : ℕ) → Memᴰ u vs → 1 ≤ u) → least_of key vs ≡ 0
-    → least_of key (vs ++ (v ∷ [])) ≡ v
-unfolding least_of first_least
-snoc_none key [] v low e = refl
-snoc_none key (u ∷ us) v low e =
-    absurd (omega (arith, low (first_least key u us) (first_least-mem key u us)))
-
--- at the end of a list of some: it is chosen exactly if its key is below the key of the one chosen so far
-snoc_some : (key : ℕ → ℕ) (vs : List ℕ) (v : ℕ) → least_of key vs ≢ 0
-    → least_of key (vs ++ (v ∷ [])) ≡ cond (ltb (key v) (key (least_of key vs))) v (least_of key vs)
-unfolding least_of
-snoc_some key [] v some = absurd (some refl)
-snoc_some key (u ∷ us) v some = first_least-snoc key u us v
-
--- a scan, one number after the other
-module _ (key : ℕ → ℕ) (test : ℕ → Bool) (first : ℕ) where
-  -- before the first number none is chosen
-  pub scan_start : scanned key test first first ≡ 0
-  unfolding scanned least_of keep numbers
-  scan_start = let none : first - first ≡ 0 = omega arith in ap (λ (k : ℕ). least_of key (keep test (numbers first k))) none
-
-  -- what is chosen is one of the numbers gone through and passes the test
-  pub scan_mem : (end : ℕ) → scanned key test first end ≢ 0
-      → (first ≤ scanned key test first end) × (scanned key test first end < end) × (test (scanned key test first end) ≡ true)
-  unfolding scanned least_of
-  scan_mem end some = go (keep test (numbers first (end - first))) refl some
-    where
-      go : (vs : List ℕ) → keep test (numbers first (end - first)) ≡ vs → least_of key vs ≢ 0
-          → (first ≤ least_of key vs) × (least_of key vs < end) × (test (least_of key vs) ≡ true)
-      go [] e some = absurd (some refl)
-      go (v ∷ vs) e some =
-          let m = rw (sym e) at (first_least-mem key v vs) in
-          let k = keep-mem test (numbers first (end - first)) (first_least key v vs) m in
-          let w = numbers-within first (end - first) (first_least key v vs) k.0 in
-          (w.0, omega arith, k.1)
-
-  module _ (v : ℕ) (low : first ≤ v) where
-    -- the numbers up to the next one are those up to v, and v
-    numbers-next : numbers first (v + 1 - first) ≡ numbers first (v - first) ++ (v ∷ [])
-    numbers-next =
-        let one : v + 1 - first ≡ suc (v - first) = omega arith in
-        let last : first + (v - first) ≡ v = omega arith in
-        ap (numbers first) one
-        ∙ numbers-snoc first (v - first)
-        ∙ ap (λ (w : ℕ). numbers first (v - first) ++ (w ∷ [])) last
-
-    -- a number that fails the test is passed over
-    pub scan_fails : test v ≡ false → scanned key test first (v + 1) ≡ scanned key test first v
-    unfolding scanned
-    scan_fails e = rw (numbers-next, keep_snoc_fails test (numbers first (v - first)) v e)
-
-    module _ (passes : test v ≡ true) where
-      -- those that pass the test up to the next number are those up to v, and v
-      kept_next : keep test (numbers first (v + 1 - first)) ≡ keep test (numbers first (v - first)) ++ (v ∷ [])
-      kept_next = ap (keep test) numbers-next ∙ keep_snoc_passes test (numbers first (v - first)) v passes
-
-      -- the first one that passes is chosen
-      pub scan_first : 1 ≤ first → scanned key test first v ≡ 0 → scanned key test first (v + 1) ≡ v
-      unfolding scanned
-      scan_first positive none =
-          ap (least_of key) kept_next
-          ∙ snoc_none key (keep test (numbers first (v - first))) v
-          (λ u m. omega (arith, numbers-within first (v - first) u (keep-mem test (numbers first (v - first)) u m).0))
-          none
-
-      module _ (some : scanned key test first v ≢ 0) where
-        -- one more is compared with the one chosen so far
-        compared : scanned key test first (v + 1) ≡ cond (ltb (key v) (key (scanned key test first v))) v (scanned key test first v)
-        unfolding scanned
-        compared = ap (least_of key) kept_next ∙ snoc_some key (keep test (numbers first (v - first))) v some
-
-        -- it is chosen if its key is below that of the one chosen so far
-        pub scan_less : key v < key (scanned key test first v) → scanned key test first (v + 1) ≡ v
-        scan_less h = compared ∙ ap (λ (t : Bool). cond t v (scanned key test first v)) (lt-ltb (key v) (key (scanned key test first v)) h)
-
-        -- otherwise the one chosen so far stays
-        pub scan_stays : key (scanned key test first v) ≤ key v → scanned key test first (v + 1) ≡ scanned key test first v
-        scan_stays h = compared ∙ ap (λ (t : Bool). cond t v (scanned key test first v)) (le-ltb (key v) (key (scanned key test first v)) h)
-
-  -- one step of a scan, from what is chosen of the numbers before v to what is chosen of those up to v
-  module _ (v best : ℕ) (low : first ≤ v) (is : best ≡ scanned key test first v) where
-    -- a number that fails the test is passed over
-    pub step_fails : test v ≡ false → best ≡ scanned key test first (v + 1)
-    step_fails fails = is ∙ sym (scan_fails v low fails)
-
-    module _ (passes : test v ≡ true) where
-      -- the first one that passes is chosen
-      pub step-first : 1 ≤ first → best ≡ 0 → v ≡ scanned key test first (v + 1)
-      step-first positive none = sym (scan_first v low passes positive (sym is ∙ none))
-
-      -- one of lesser key is chosen
-      pub step_less : best ≢ 0 → key v < key best → v ≡ scanned key test first (v + 1)
-      step_less some less = sym (scan_less v low passes (λ z. some (is ∙ z)) (rw (← is) less))
-
-      -- otherwise the one chosen so far stays
-      pub step_stays : best ≢ 0 → key best ≤ key v → best ≡ scanned key test first (v + 1)
-      step_stays some more = is ∙ sym (scan_stays v low passes (λ z. some (is ∙ z)) (rw (← is) more))
+-- the least key of a list that is not empty is that of the number chosen
+pub least_key-of : (key : ℕ → ℕ) (vs : List ℕ) (u : ℕ) → Memᴰ u vs → least_key key vs ≡ Some (key (least_of key vs))
+unfolding least_key least_of
+least_key-of key [] u m = absurd (Memᴰ.not-nil m)
+least_key-of key (v ∷ vs) u m = refl

@@ -1,22 +1,10 @@
 -- Laws of lists made from others, item by item.
-use mathlib.Core.Path.{◌≡◌, refl, sym, ap, ap₂}
-use mathlib.Core.Logic.{⊎_elim}
+use mathlib.Core.Path.{◌≡◌, refl, ap, ap₂}
 use mathlib.Core.List.Memᴰ
 use mathlib.Core.List.{List, [], ◌∷◌, map, zip_with, Memᴰ}
 use Prim.Native.Nat.{ℕ, zero, suc, ◌<◌}
 use native.Mathlib.Omega.{arith}
 use lib.ListN.{length, get_or, take}
-
--- what stands in a list made from another is made from one of its items
-pub map-mem : {A B : Type 0} (f : A → B) (xs : List A) (y : B) → Memᴰ y (map f xs) → (x : A) × Memᴰ x xs × (f x ≡ y)
-map-mem f [] y i = absurd (Memᴰ.not-nil i)
-map-mem f (x ∷ xs) y i =
-    ⊎_elim
-    (λ e. (x, Memᴰ.head refl, sym e))
-    (λ j.
-    let later = map-mem f xs y j in
-    (later.0, Memᴰ.tail later.1, later.2))
-    (Memᴰ.cases_cons i)
 
 -- two ways to make items that agree on a list make the same list
 pub map_same : {A B : Type 0} (f g : A → B) (xs : List A) → ((x : A) → Memᴰ x xs → f x ≡ g x) → map f xs ≡ map g xs
@@ -37,7 +25,7 @@ module _ {A B C : Type 0} (f : A → B → C) where
   length_zip (x ∷ xs) [] e = absurd (omega arith)
   length_zip (x ∷ xs) (y ∷ ys) e = ap suc (length_zip xs ys (omega arith))
 
-  -- the item at a place of both
+  -- the item at an index of both
   pub get_d_zip : (x₀ : A) (y₀ : B) (z₀ : C) (xs : List A) (ys : List B) (k : ℕ) → k < length xs → k < length ys
       → get_or (zip_with f xs ys) k z₀ ≡ f (get_or xs k x₀) (get_or ys k y₀)
   unfolding zip_with

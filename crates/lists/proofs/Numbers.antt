@@ -69,7 +69,7 @@ module _ {A : Type 0} (f : ℕ → A) where
   pub length_map_numbers : (a k : ℕ) → length (map f (numbers a k)) ≡ k
   length_map_numbers a k = length-map (numbers a k) f ∙ length-numbers a k
 
-  -- its entry at place i
+  -- its entry at index i
   pub map-numbers : (z : A) (a k i : ℕ) → i < k → get_or (map f (numbers a k)) i z ≡ f (a + i)
   unfolding numbers
   map-numbers z a zero i h = absurd (omega arith)

@@ -94,7 +94,7 @@ module _ {A : Type 0} where
   over-beyond (suc place) xs [] h = refl
   over-beyond (suc place) xs (o ∷ old) h = ap (λ rest. o ∷ rest) (over-beyond place xs old (omega arith))
 
-  -- a place beyond the end may stand for the end
+  -- an index beyond the end may stand for the end
   pub over-least : (place : ℕ) (xs old : List A) → over (min (length old) place) xs old ≡ over place xs old
   over-least place xs old =
       by_cases
@@ -142,14 +142,14 @@ module _ {A : Type 0} where
   pub over_past : (place : ℕ) (xs old : List A) → length old ≤ place → over place xs old ≡ old
   over_past place xs old h = sym (over-part place 0 xs old (omega arith)) ∙ over_nothing place old
 
-  -- the part of a list from a place on, written over from its front and put back
+  -- the part of a list from an index on, written over from its front and put back
   pub over-rest : (place : ℕ) (xs old : List A) → place ≤ length old → take place old ++ over 0 xs (drop place old) ≡ over place xs old
   unfolding over
   over-rest zero xs old h = refl
   over-rest (suc place) xs [] h = absurd (omega arith)
   over-rest (suc place) xs (o ∷ old) h = ap (λ rest. o ∷ rest) (over-rest place xs old (omega arith))
 
-  -- the same as a call leaves it that was lent the part from a place on
+  -- the same as a call leaves it that was lent the part from an index on
   pub over-lent : (place : ℕ) (xs old : List A) → place ≤ length old
       → put_mid place (length old - place) old (over 0 xs (take (length old - place) (drop place old))) ≡ over place xs old
   over-lent place xs old h =

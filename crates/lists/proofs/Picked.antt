@@ -1,21 +1,23 @@
--- The first item with the least key, as `min_by_key` picks it.
+-- What a chain gives that ends in `min_by_key` or in `min`: the first item with the least key, or the least key.
 use mathlib.Core.Path.{◌≡◌, refl, sym, ap, ap₂, subst, ◌∙◌}
 use mathlib.Core.Bool.{Bool, true, false, cond}
-use mathlib.Core.List.{List, [], ◌∷◌, map-id}
-use Prim.Native.Nat.{ℕ}
+use mathlib.Core.List.{List, [], ◌∷◌, map, map-id, Memᴰ}
+use Prim.Native.Nat.{ℕ, min}
 use native.Mathlib.Omega.{arith}
 use borrow.Author.Tests.{leb-true, leb-false, le-leb, lt-leb}
 use denote.Param.Members.{Mut}
 use denote.Ref.{Bor}
 use lib.Dec.{leb}
-use Rattle.std.specs.Prelude.{Option, Some, None}
+use Rattle.std.specs.Prelude.{Option, Some, None, MatchOption}
 use Rattle.std.specs.Fn.{CalledAt}
-use Rattle.std.specs.Iterator.{KeyTurn, PicksMinByKey}
-use Rattle.std.specs.List.{FoldsTo}
+use Rattle.std.specs.Iterator.{ActsAsAt, KeyTurn, PicksMinByKey}
+use Rattle.std.specs.List.{FoldsTo, fold, reduce}
+use Rattle.std.specs.Option.{unwrap_or}
 use Rattle.std.specs.Ordering.{nat_cmp, min_by_ordering}
 use Rattle.std.proofs.lemmas.Bool.Decides.{nat_tests}
 use Rattle.std.proofs.lemmas.Iterator.{YieldsList, items_from_drains}
-use Rattle.lists.specs.Least.{first_least, least_item}
+use Rattle.lists.specs.Least.{first_least, least_item, least_key, least_of}
+use Rattle.lists.proofs.Least.{first_least-mem}
 
 -- the lesser of two keys, the first where they are equal
 min_key : {A : Type 0} (a b : ℕ) (x z : A) → min_by_ordering (nat_cmp a b) x z ≡ cond (leb a b) x z
@@ -81,3 +83,53 @@ module _ {A : Type 0} (key : A → ℕ) where
         sym (map-id (p.0 ∷ p.1)) ∙ items_from_drains (p.0 ∷ p.1) (p.5.1.0, p.5.1.1, λ _. (p.5.0, p.5.1.2)) yields in
         ap Some (turns p.0 p.1 p.4 y (subst (λ h. FoldsTo (KeyTurn min_by_ordering min_by_ordering g nat_cmp) h p.1 (p.4, y)) first p.7))
         ∙ ap (least_item key) items
+
+-- ---- of a list of numbers
+
+-- the first of a list of numbers with the least key is one of it, and `least_of` gives it
+least_of-item : (key : ℕ → ℕ) (all : List ℕ) (r : Option ℕ) → r ≡ least_item key all
+    → MatchOption r (least_of key all ≡ 0) (λ y. Memᴰ y all × (y ≡ least_of key all))
+unfolding least_of
+least_of-item key [] None e = refl
+least_of-item key [] (Some y) e = cc
+least_of-item key (x ∷ xs) None e = cc
+least_of-item key (x ∷ xs) (Some y) e =
+    let is : y ≡ first_least key x xs = cc in (rw is (first_least-mem key x xs), is)
+
+module _ {S F : Type 0} {steps : S → Option ℕ → S → Type 0} (g : Mut F (Bor ℕ × Unit {0}) ℕ) (s : S) (f : F) {all : List ℕ} where
+  -- none of an empty list, and else the first with the least key
+  pub least_from_min_by_key : (key : ℕ → ℕ) (r : Option ℕ) → PicksMinByKey steps g nat_cmp s f r → ActsAsAt g f key
+      → YieldsList steps (λ x. x) s all → MatchOption r (least_of key all ≡ 0) (λ y. Memᴰ y all × (y ≡ least_of key all))
+  least_from_min_by_key key r ran acts road = least_of-item key all r (min_by_key_is key g f acts r ran road)
+
+-- it is what is picked, and 0 if there is none
+pub least_or_none : (key : ℕ → ℕ) (vs : List ℕ) → unwrap_or (least_item key vs) 0 ≡ least_of key vs
+unfolding least_of
+least_or_none key [] = refl
+least_or_none key (v ∷ vs) = refl
+
+module _ (key : ℕ → ℕ) where
+  -- the least key of a list is the lesser of the first one and the least of the others
+  first-others : (x y : ℕ) (ys : List ℕ) → key (first_least key x (y ∷ ys)) ≡ min (key x) (key (first_least key y ys))
+  unfolding first_least
+  first-others x y ys = go (leb (key x) (key (first_least key y ys))) refl
+    where
+      go : (b : Bool) → leb (key x) (key (first_least key y ys)) ≡ b
+          → key (cond b x (first_least key y ys)) ≡ min (key x) (key (first_least key y ys))
+      go true e = omega (arith, leb-true (key x) (key (first_least key y ys)) e)
+      go false e = omega (arith, leb-false (key x) (key (first_least key y ys)) e)
+
+  -- the least of a number and the keys of a list is the lesser of that number and the least key
+  least_folded : (k y : ℕ) (ys : List ℕ) → fold min k (map key (y ∷ ys)) ≡ min k (key (first_least key y ys))
+  unfolding first_least
+  least_folded k y [] = refl
+  least_folded k y (z ∷ zs) =
+      least_folded (min k (key y)) z zs
+      ∙ let others = first-others y z zs in omega arith
+
+  -- `min` of the keys of a list gives the least key
+  pub least_from_min : (xs : List ℕ) → reduce min (map key xs) ≡ least_key key xs
+  unfolding least_key first_least
+  least_from_min [] = refl
+  least_from_min (x ∷ []) = refl
+  least_from_min (x ∷ y ∷ ys) = ap Some (least_folded (key x) y ys ∙ sym (first-others x y ys))

@@ -1,4 +1,4 @@
--- Laws of items written at a fixed width: the list keeps its length, each item stands at its place, and all else stays.
+-- Laws of items written at a fixed width: the list keeps its length, each item stands at its index, and all else stays.
 use mathlib.Core.Path.{◌≡◌, refl, sym, ap, ◌∙◌}
 use mathlib.Core.List.{List, [], ◌∷◌, ◌++◌, map, map-append}
 use Prim.Native.Nat.{ℕ, zero, suc, ◌+◌, ◌*◌, ◌≤◌, ◌<◌}
@@ -130,7 +130,7 @@ over-set (suc place) xs [] a x h = refl
 over-set (suc place) xs (o ∷ old) zero x h = refl
 over-set (suc place) xs (o ∷ old) (suc a) x h = ap (λ rest. o ∷ rest) (over-set place xs old a x (omega arith))
 
--- an item written before the place of the first stripe
+-- an item written before the index of the first stripe
 stripes-set : {A : Type 0} (width place : ℕ) (items : List (List A)) (old : List A) (a : ℕ) (x : A) → a < place
     → set (stripes width place items old) a x ≡ stripes width place items (set old a x)
 unfolding stripes

@@ -1,8 +1,6 @@
 -- The choice that settles a tie. A key gives each item a number, as a difference or an advancement; of a list the first item with the
 -- least key is chosen.
-use Rattle.std.specs.Prelude.{List, [], ◌∷◌, Bool, cond, ℕ, ◌-◌, leb, Option, Some, None}
-use Rattle.lists.specs.Filters.{keep}
-use Rattle.lists.specs.Numbers.{numbers}
+use Rattle.std.specs.Prelude.{List, [], ◌∷◌, cond, ℕ, leb, Option, Some, None}
 
 -- of x and the items behind it, the first with the least key
 unfoldable pub first_least : {A : Type 0} → (A → ℕ) → A → List A → A
@@ -21,6 +19,7 @@ unfoldable pub least_of : (ℕ → ℕ) → List ℕ → ℕ
 least_of key [] = 0
 least_of key (v ∷ vs) = first_least key v vs
 
--- a scan: of the numbers from `first` up to but not with `end` that pass a test, the first with the least key, and 0 if none passes
-unfoldable pub scanned : (ℕ → ℕ) → (ℕ → Bool) → ℕ → ℕ → ℕ
-scanned key test first end = least_of key (keep test (numbers first (end - first)))
+-- the least key of a list, if it has an item
+unfoldable pub least_key : {A : Type 0} → (A → ℕ) → List A → Option ℕ
+least_key key [] = None
+least_key key (x ∷ xs) = Some (key (first_least key x xs))

@@ -1,8 +1,9 @@
 // What is lent with a call that reads a matrix, and the questions put to it. Each answers what its definition in specs/ answers, for every
 // input.
-ghost use Rattle.std.specs.Prelude.{◌≡◌};
+ghost use Rattle.std.specs.Prelude.{◌≡◌, ◌-◌};
+ghost use Rattle.lists.specs.Numbers.{numbers};
 
-use crate::questions::{all_in_range, nodes_exist, rows_in_range, within_limits};
+use crate::questions::{ask_codes, nodes_exist, within_limits};
 use crate::rows::row;
 use crate::weights::are_weights;
 use crate::{COLUMNS, MATRIX_SIZE};
@@ -20,8 +21,9 @@ pub struct Lent<'a> {
 
 impl<'a> Lent<'a> {
     ghost use Rattle.matrix_form.specs.Shape.{row};
-    ghost use Rattle.matrix_form.specs.Questions.{htu_in_range, htus_in_range};
-    ghost use Rattle.matrix.specs.Lent.{matrix_asked, nodes_asked};
+    ghost use Rattle.matrix_form.specs.Outcomes.{ask_each};
+    ghost use Rattle.matrix_form.specs.Questions.{ask_row_of, ask_rows_of, ask_htu};
+    ghost use Rattle.matrix.specs.Lent.{lent_lists, matrix_asked, nodes_asked};
 
     // The row of node v: its codes for characters 1 to m, as far as the list goes.
     pub fn row(&self, v: usize) -> &'a [i32]
@@ -47,26 +49,46 @@ impl<'a> Lent<'a> {
         if !are_weights(self.weights, self.m) {
             return Err(Refusal::WeightForm);
         }
-        if !rows_in_range(self.matrix, self.m, self.n) {
-            return Err(Refusal::CodeRange);
+        self.ask_rows(1, self.n + 1)
+    }
+
+    // The questions put to the row of node v, code by code.
+    #[tactic(auto, unfolding(matrix_form::specs::Questions::ask_row_of))]
+    fn ask_row(&self, v: usize) -> Result<(), Refusal>
+        ensures { result ≡ ask_row_of (lent_lists self.now) self.now.m v }
+    {
+        ask_codes(self.row(v))
+    }
+
+    // Those put to the rows of nodes `first` to below `end`, row by row.
+    pub fn ask_rows(&self, first: usize, end: usize) -> Result<(), Refusal>
+        ensures { result ≡ ask_rows_of (lent_lists self.now) self.now.m (numbers first (end - first)) }
+    {
+        for v in first..end {
+            self.ask_row(v)?;
         }
         Ok(())
     }
 
-    // Whether the row of node v, if it is an HTU, has codes from -999 to 999.
-    #[tactic(auto, unfolding(matrix_form::specs::Questions::htu_in_range))]
-    pub fn htu_in_range(&self, v: usize) -> bool
-        ensures { result ≡ htu_in_range self.now.matrix.now self.now.n self.now.m v }
+    // Those put to the row of node v, if it is an HTU.
+    #[tactic(auto, unfolding(matrix_form::specs::Questions::ask_htu))]
+    fn ask_htu(&self, v: usize) -> Result<(), Refusal>
+        ensures { result ≡ ask_htu (lent_lists self.now) self.now.n self.now.m v }
     {
-        v <= self.n || all_in_range(self.row(v))
+        if v <= self.n {
+            return Ok(());
+        }
+        self.ask_row(v)
     }
 
-    // Whether the rows of the HTUs among the nodes of a list have codes from -999 to 999.
-    #[tactic(auto, unfolding(matrix_form::specs::Questions::htus_in_range, lists::specs::Tests::every))]
-    pub fn htus_in_range(&self, nodes: &[usize]) -> bool
-        ensures { result ≡ htus_in_range self.now.matrix.now self.now.n self.now.m nodes.now }
+    // Those put to the rows of the HTUs among the nodes of a list.
+    fn ask_htus(&self, nodes: &[usize]) -> Result<(), Refusal>
+        ensures { result ≡ ask_each (ask_htu (lent_lists self.now) self.now.n self.now.m) nodes.now }
     {
-        nodes.iter().all(|v| self.htu_in_range(*v))
+        for v in nodes {
+            self.ask_htu(*v)?;
+        }
+        Ok(())
     }
 
     // The questions of a call that names some nodes: those on the matrix, whether the nodes exist, and the rows of the HTUs among them.
@@ -78,9 +100,6 @@ impl<'a> Lent<'a> {
         if !nodes_exist(self.n, nodes) {
             return Err(Refusal::NotThere);
         }
-        if !self.htus_in_range(nodes) {
-            return Err(Refusal::CodeRange);
-        }
-        Ok(())
+        self.ask_htus(nodes)
     }
 }

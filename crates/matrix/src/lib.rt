@@ -1,6 +1,7 @@
 // The shapes of the lent lists, the refusals and their numbers, and the questions put to a lent matrix.
 #![tactic(auto)]
 
+pub mod codes;
 pub mod lent;
 pub mod questions;
 pub mod refusal;

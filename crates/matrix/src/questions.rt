@@ -1,10 +1,11 @@
 // What is asked of numbers, codes and nodes. Each answers what its definition in specs/ answers, for every input.
 ghost use Rattle.std.specs.Prelude.{◌≡◌, ◌≤◌, ◌-◌, ◌^◌, min};
-ghost use Rattle.matrix_form.specs.Shape.{most_taxa, row, in_range, last_node};
-ghost use Rattle.matrix_form.specs.Questions.{within_limits, one_to, all_in_range, rows_in_range, nodes_exist};
+ghost use Rattle.matrix_form.specs.Shape.{most_taxa, in_range, last_node};
+ghost use Rattle.matrix_form.specs.Outcomes.{ask_each};
+ghost use Rattle.matrix_form.specs.Questions.{within_limits, one_to, ask_code, nodes_exist};
 
-use crate::rows::row;
 use crate::{HIGHEST_CODE, LOWEST_CODE, MOST_CHARACTERS, MOST_TAXA};
+use matrix_form::refusal::Refusal;
 
 // Whether a code is from -999 to 999.
 pub fn in_range(code: i32) -> bool
@@ -29,19 +30,25 @@ pub fn within_limits(n: usize, m: usize) -> bool
     one_to(MOST_TAXA, n) && one_to(MOST_CHARACTERS, m)
 }
 
-// Whether every code of a row is from -999 to 999.
-#[tactic(auto, unfolding(matrix_form::specs::Questions::all_in_range, lists::specs::Tests::every))]
-pub fn all_in_range(codes: &[i32]) -> bool
-    ensures { result ≡ all_in_range codes.now }
+// The question put to one code: is it from -999 to 999?
+#[tactic(auto, unfolding(matrix_form::specs::Questions::ask_code))]
+pub fn ask_code(code: i32) -> Result<(), Refusal>
+    ensures { result ≡ ask_code code }
 {
-    codes.iter().all(|code| in_range(*code))
+    if !in_range(code) {
+        return Err(Refusal::CodeRange);
+    }
+    Ok(())
 }
 
-// Whether all m codes of rows 1 to n are from -999 to 999.
-pub fn rows_in_range(matrix: &[i32], m: usize, n: usize) -> bool
-    ensures { result ≡ rows_in_range matrix.now m n }
+// The questions put to the codes of a row, code by code.
+pub fn ask_codes(codes: &[i32]) -> Result<(), Refusal>
+    ensures { result ≡ ask_each ask_code codes.now }
 {
-    (0..n).all(|i| all_in_range(row(matrix, m, i + 1)))
+    for code in codes {
+        ask_code(*code)?;
+    }
+    Ok(())
 }
 
 // The last node: 2n-2, and for n = 1 node 1. Where 2n-2 is past what a number holds, the highest number.

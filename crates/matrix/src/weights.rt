@@ -22,10 +22,10 @@ pub fn are_weights(weights: &[u8], m: usize) -> bool
 }
 
 // Kept: no plainer, as a method of `Lent` by character it would say `weight_at` of j - 1 in its contract all the same, and each of its three callers would.
-// The weight at a place, counted from 0: that of character place + 1, and 1 past the end of the list.
+// The weight at an index, counted from 0: that of character place + 1, and 1 past the end of the list.
 #[tactic(auto, unfolding(matrix_form::specs::Shape::weight_at))]
-pub fn weight_at(weights: &[u8], place: usize) -> u8
-    ensures { result ≡ weight_at weights.now place }
+pub fn weight_at(weights: &[u8], index: usize) -> u8
+    ensures { result ≡ weight_at weights.now index }
 {
-    weights.get(place).copied().unwrap_or(LIGHTEST)
+    weights.get(index).copied().unwrap_or(LIGHTEST)
 }

@@ -15,21 +15,22 @@ use Rattle.matrix_form.specs.Outcomes.{Asked, ask, Outcome, value, refused, on_l
 use Rattle.matrix_form.specs.Questions.{within_limits, one_to}
 use Rattle.matrix_form.proofs.Passing.{one_to-true}
 use Rattle.file_form.specs.declared.header.Header.{Header}
-use Rattle.file_form.specs.Bytes.{line_feed, before_first, parts_at}
-use Rattle.file_form.specs.Lines.{lines_of}
-use Rattle.file_form.specs.Header.{header_lines, header_of, ask_header}
-use Rattle.file_form.specs.Rows.{ask_rows}
-use Rattle.file_form.specs.Job.{Job}
-use Rattle.file_form.specs.Branches.{branch_count, ancestor_in, ask_branches, ask_tree}
-use Rattle.file_form.specs.Reading.{most_bytes, behind_rows, job_of, nothing_more, ask_end, ask_after, ask_behind, ask_file, ask_length}
+use Rattle.file_form.specs.Bytes.{line_feed, before_first, pieces_at}
+use Rattle.file_form.specs.Lines.{lines_of, ask_lines}
+use Rattle.file_form.specs.Header.{header_lines, ask_header}
+use Rattle.file_form.specs.Rows.{row_sort}
+use Rattle.file_form.specs.Job.{Job, most_bytes}
+use Rattle.file_form.specs.Branches.{branch_count, ancestor_in, branch_sort, ask_tree}
+use Rattle.file_form.specs.Reading.{behind_rows, job_of, nothing_more, ask_end, ask_after, ask_behind, ask_file, ask_length}
 use Rattle.file_form.specs.Reading.{read_answer}
 use Rattle.file_form.specs.Formed.{BranchesFormed}
 use Rattle.file_form.proofs.File.HeaderRead.{HeaderPassed, header_passed, several-lines, header_behind}
-use Rattle.file_form.proofs.Text.Parts.{parts_some, parts_at_lem, parts_other}
+use Rattle.file_form.proofs.Text.Parts.{pieces_some, pieces_at_lem, pieces_other}
 use Rattle.file_form.specs.declared.answer.Refused.{Refused}
-use Rattle.file_form.specs.Report.{read_says, with_header}
-use Rattle.matrix_file.specs.Walk.{passed_says, lines_say, RowsAsked, BranchesAsked, RestAsked}
-use Rattle.file_header.specs.Answered.{at_line}
+use Rattle.file_form.specs.Calls.{read_says, with_header}
+use Rattle.matrix_file.specs.Steps.{passed_says, lines_say, LinesAsked, RestAsked}
+use Rattle.matrix_file.proofs.BranchLines.Walk.{branches_formed}
+use Rattle.file_header.specs.Steps.{at_line}
 use Rattle.file_header.proofs.Answering.{asked_refused, asked_passed}
 
 -- a file that is too long
@@ -48,16 +49,16 @@ unfolding ask_length
 right_length file low some = rw (le-leb (length file) most_bytes low, le-leb 1 (length file) (omega arith))
 
 -- something stands behind the last line
-more_than_nothing : (b : ℕ) (bs : List ℕ) → nothing_more (parts_at line_feed (b ∷ bs)) ≡ false
+more_than_nothing : (b : ℕ) (bs : List ℕ) → nothing_more (pieces_at line_feed (b ∷ bs)) ≡ false
 unfolding nothing_more
 more_than_nothing b bs = by (eqb b line_feed) refl
   where
-    rest : (first : List ℕ) × (others : List (List ℕ)) × (parts_at line_feed bs ≡ first ∷ others)
-    rest = parts_some line_feed bs
+    rest : (first : List ℕ) × (others : List (List ℕ)) × (pieces_at line_feed bs ≡ first ∷ others)
+    rest = pieces_some line_feed bs
 
-    by : (t : Bool) → eqb b line_feed ≡ t → nothing_more (parts_at line_feed (b ∷ bs)) ≡ false
-    by true e = ap nothing_more (parts_at_lem line_feed b bs e ∙ ap (◌∷◌ []) rest.2)
-    by false e = ap nothing_more (parts_other line_feed b bs e ∙ ap (before_first b) rest.2)
+    by : (t : Bool) → eqb b line_feed ≡ t → nothing_more (pieces_at line_feed (b ∷ bs)) ≡ false
+    by true e = ap nothing_more (pieces_at_lem line_feed b bs e ∙ ap (◌∷◌ []) rest.2)
+    by false e = ap nothing_more (pieces_other line_feed b bs e ∙ ap (before_first b) rest.2)
 
 -- the file goes on
 pub goes_on : (rest : List ℕ) → (length rest ≡ 0 → ⊥) → Err FileGoesOn ≡ ask (nothing_more (lines_of rest)) FileGoesOn (Ok tt)
@@ -67,7 +68,7 @@ goes_on (byte ∷ bytes) h = sym (ap (λ x. ask x FileGoesOn (Ok tt)) (more_than
 
 -- it ends
 pub ends : (rest : List ℕ) → length rest ≡ 0 → Ok tt ≡ ask (nothing_more (lines_of rest)) FileGoesOn (Ok tt)
-unfolding lines_of nothing_more parts_at
+unfolding lines_of nothing_more pieces_at
 ends [] h = refl
 ends (byte ∷ bytes) h = absurd (omega arith)
 
@@ -77,19 +78,19 @@ after_branches job = ask_end (on_line 0 (ask_tree job.kind job.n job.ancestors) 
 
 -- the header or a refusal on a line, and of what the file's lines bring the header alone
 header_says : (line : ℕ) (asked : Asked) (job : Job)
-    → passed_says (header_of job) (at_line line asked) ≡ with_header (on_line line asked (value job))
+    → passed_says job.header (at_line line asked) ≡ with_header (on_line line asked (value job))
 header_says line (Ok _) job = refl
 header_says line (Err refusal) job = refl
 
 -- what stands behind the rows of a file, once its `C` lines have been asked
 module _ (rest : List ℕ) (line : ℕ) (header : Header) (count : ℕ) (c : count ≡ branch_count header.kind header.n)
-    (answer : Result (List ℕ) Refused) (asked : BranchesAsked rest count line answer) where
+    (answer : Result (List ℕ) Refused) (asked : LinesAsked branch_sort rest count line answer) where
   -- what they bring, of a job with this header
-  branches_say : (job : Job) → header_of job ≡ header → lines_say answer (line + count) (after_branches job) ≡ ask_after job line (lines_of rest)
+  branches_say : (job : Job) → job.header ≡ header → lines_say answer (line + count) (after_branches job) ≡ ask_after job line (lines_of rest)
   unfolding ask_after
   branches_say job h =
       asked.says (after_branches job)
-      ∙ ap (λ k. ask_branches line 2 k (lines_of rest) (after_branches job)) (c ∙ ap (λ said. branch_count said.kind said.n) (sym h))
+      ∙ ap (λ k. ask_lines branch_sort [] line k (lines_of rest) (after_branches job)) (c ∙ ap (λ said. branch_count said.kind said.n) (sym h))
 
   -- they are refused
   pub branches-refused : (e : Refused) → answer ≡ Err e → RestAsked rest line header (Err e)
@@ -101,7 +102,7 @@ module _ (rest : List ℕ) (line : ℕ) (header : Header) (count : ℕ) (c : cou
   -- they end, and the end of the file was asked
   module _ (behind : List ℕ) (a : answer ≡ Ok behind) (end : Asked) (q : end ≡ ask (nothing_more (lines_of behind)) FileGoesOn (Ok tt)) where
     -- the end decides, and then the branching
-    end_decides : (job : Job) → header_of job ≡ header
+    end_decides : (job : Job) → job.header ≡ header
         → ask_after job line (lines_of rest) ≡ on_line (line + count) end (on_line 0 (ask_tree job.kind job.n job.ancestors) (value job))
     unfolding ask_end
     end_decides job h =
@@ -116,7 +117,7 @@ module _ (rest : List ℕ) (line : ℕ) (header : Header) (count : ℕ) (c : cou
 
     -- the `C` lines have the right form
     pub branches-formed : BranchesFormed (branch_count header.kind header.n) rest
-    branches-formed = rw c at (asked.ends behind a).1
+    branches-formed = rw c at (branches_formed rest count line answer asked behind a (job_of header []))
 
     -- it ends: the branching decides
     pub tree_decides : {yes : Unit {0}} → at_line (line + count) end ≡ Ok yes → (tree : Asked)
@@ -138,7 +139,8 @@ module _ (rest : List ℕ) (line : ℕ) (header : Header) (count : ℕ) (c : cou
 
 -- what stands behind the header of a file, once its rows have been asked
 module _ (file : List ℕ) (header : Header) (passed : ℕ) (p : passed ≡ header_lines header) (rows : List ℕ)
-    (r : lines_of rows ≡ drop passed (lines_of file)) (answer : Result (List ℕ) Refused) (asked : RowsAsked rows header (passed + 1) answer) where
+    (r : lines_of rows ≡ drop passed (lines_of file)) (answer : Result (List ℕ) Refused)
+    (asked : LinesAsked (row_sort header) rows header.n (passed + 1) answer) where
   -- the job that its lines say
   abbrev job : Job
   job = job_of header (lines_of file)
@@ -148,7 +150,7 @@ module _ (file : List ℕ) (header : Header) (passed : ℕ) (p : passed ≡ head
   unfolding ask_behind
   rows_say =
       asked.says (ask_after job)
-      ∙ ap₂ (λ k lines. ask_rows header [] (k + 1) header.n lines (ask_after job)) p (r ∙ ap (λ k. drop k (lines_of file)) p)
+      ∙ ap₂ (λ k lines. ask_lines (row_sort header) [] (k + 1) header.n lines (ask_after job)) p (r ∙ ap (λ k. drop k (lines_of file)) p)
 
   -- the rows are refused
   pub rows-refused : (e : Refused) → answer ≡ Err e → passed_says header (Err e) ≡ with_header (ask_behind header (lines_of file))

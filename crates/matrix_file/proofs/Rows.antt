@@ -1,2 +1,2 @@
--- The rows of a file: the form of a name, and the walks that put the rows' questions.
+-- The rows of a file: the walk that puts their questions.
 pub mod RowsWalk

@@ -6,10 +6,10 @@ ghost use Rattle.matrix_form.specs.Shape.{most_taxa};
 ghost use Rattle.matrix_form.specs.Outcomes.{ask};
 ghost use Rattle.file_form.specs.Lines.{lines_of};
 ghost use Rattle.file_form.specs.Header.{header_lines};
+ghost use Rattle.file_form.specs.Rows.{row_sort};
 ghost use Rattle.file_form.specs.Reading.{nothing_more, ask_length, ask_behind, read_answer};
-ghost use Rattle.file_form.specs.Report.{read_says, with_header};
-ghost use Rattle.file_lines.specs.Asked.{left_of};
-ghost use Rattle.matrix_file.specs.Walk.{behind_rows_most, passed_says, RowsAsked, RestAsked};
+ghost use Rattle.file_form.specs.Calls.{read_says, with_header};
+ghost use Rattle.matrix_file.specs.Steps.{behind_rows_most, passed_says, left_of, LinesAsked, RestAsked};
 
 use crate::behind::behind_lines;
 use crate::branches::{ask_branches, ask_tree, branch_count};
@@ -19,7 +19,7 @@ use file_form::{MOST_BYTES, TAB};
 use file_header::answer::on_line;
 use file_header::header::{ask_header, header_lines};
 use file_lines::rows::ask_row;
-use file_text::bytes::{first_line, first_part};
+use file_text::bytes::{first_line, first_piece};
 use filled::Filled;
 use matrix::MOST_TAXA;
 use matrix_form::refusal::Refusal;
@@ -29,7 +29,7 @@ use matrix_form::refusal::Refusal;
 // Kept: no plainer, `split_inclusive` would hand out lines with their line feed, but not what stands behind the last of them.
 fn ask_rows(rows: &[u8], header: Header, first: usize) -> Result<&[u8], Refused>
     requires { (header.n ≤ most_taxa) × (first ≤ most_taxa) }
-    ensures { RowsAsked rows.now header first (left_of result) }
+    ensures { LinesAsked (row_sort header) rows.now header.n first (left_of result) }
 {
     let mut names = Filled::<&[u8], MOST_TAXA>::none(&[]);
     let mut rest = rows;
@@ -41,7 +41,7 @@ fn ask_rows(rows: &[u8], header: Header, first: usize) -> Result<&[u8], Refused>
             });
         };
         on_line(first + done, ask_row(line, header, names.as_slice()))?;
-        names.push(first_part(line, TAB));
+        names.push(first_piece(line, TAB));
         rest = behind;
     }
     Ok(rest)

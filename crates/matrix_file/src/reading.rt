@@ -2,7 +2,7 @@
 ghost use Rattle.std.specs.Prelude.{◌≡◌, true, length};
 ghost use Rattle.matrix_form.specs.Outcomes.{value};
 ghost use Rattle.file_form.specs.Reading.{job_in, read_answer};
-ghost use Rattle.file_form.specs.Report.{with_header, full_size, ReadDone};
+ghost use Rattle.file_form.specs.Calls.{with_header, full_size, ReadDone};
 ghost use Rattle.file_form.specs.Written.{lent, job_written};
 
 use crate::NAMES_SIZE;
@@ -14,7 +14,7 @@ use file_form::LINE_FEED;
 use file_form::answer::Refused;
 use file_form::header::Header;
 use file_header::header::header_lines;
-use file_text::bytes::behind_part;
+use file_text::bytes::behind_piece;
 use matrix::{COLUMNS, MATRIX_SIZE};
 use matrix_form::refusal::Refusal;
 use tree_records::numbers::LENT_NUMBERS;
@@ -42,7 +42,7 @@ fn write_job(
     let kind = header.kind;
     let rows = behind_lines(file, header_lines(header));
     write_matrix(matrix, rows, n);
-    write_weights(weights, behind_part(file, LINE_FEED), header);
+    write_weights(weights, behind_piece(file, LINE_FEED), header);
     write_names(names, rows, n);
     write_branches(branches, behind_lines(rows, n), branch_count(kind, n));
 }

@@ -10,13 +10,13 @@ ghost use Rattle.file_form.specs.Optional.{optional_fields};
 ghost use Rattle.file_form.specs.Weights.{weights_form, weights_said};
 ghost use Rattle.file_form.specs.Rows.{codes_in};
 ghost use Rattle.file_form.specs.Formed.{RowsFormed};
-ghost use Rattle.matrix_file.specs.Walk.{padded_in};
+ghost use Rattle.matrix_file.specs.Steps.{padded_in};
 ghost use Rattle.file_form.specs.Written.{padded};
 
 use file_form::header::Header;
 use file_form::{LINE_FEED, NAME_SIZE, TAB};
 use file_header::weights::weight;
-use file_text::bytes::first_part;
+use file_text::bytes::first_piece;
 use file_text::numbers::code;
 use matrix::{COLUMNS, LIGHTEST};
 
@@ -64,7 +64,7 @@ pub(crate) fn write_weights(weights: &mut [u8], text: &[u8], header: Header)
         weights[..header.m].fill(LIGHTEST);
         return;
     }
-    let line = first_part(text, LINE_FEED);
+    let line = first_piece(text, LINE_FEED);
     // Kept: unproved, as `write_codes`, with `weights.iter_mut()`.
     for (j, field) in line.split(|byte| *byte == TAB).skip(1).enumerate() {
         weights[j] = weight(field).unwrap_or(LIGHTEST);
@@ -78,6 +78,6 @@ pub(crate) fn write_names(names: &mut [u8], rows: &[u8], n: usize)
 {
     for (i, line) in rows.split(|byte| *byte == LINE_FEED).take(n).enumerate() {
         // Kept: unproved, as `write_matrix`, with `names.chunks_mut(NAME_SIZE)`.
-        write_name(&mut names[i * NAME_SIZE..], first_part(line, TAB));
+        write_name(&mut names[i * NAME_SIZE..], first_piece(line, TAB));
     }
 }

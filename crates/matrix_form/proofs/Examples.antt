@@ -2,17 +2,18 @@
 use Rattle.std.specs.Prelude.{Ok, Err}
 use mathlib.Core.Path.{◌≡◌, refl}
 use mathlib.Core.Bool.{true, false}
-use mathlib.Core.List.{List, [], ◌∷◌, map}
-use Prim.Native.Nat.{ℕ}
+use mathlib.Core.List.{List, [], ◌∷◌, ◌++◌, map}
+use Prim.Native.Nat.{ℕ, zero, suc}
 use lib.IntN.{ℤ, pos, negsuc}
 use lib.ListN.{replicate, set}
 use Rattle.lists.specs.Numbers.{numbers}
 use Rattle.lists.specs.Tests.{every}
-use Rattle.matrix_form.specs.Shape.{matrix_size, columns, row_start, row, in_range, last_node, is_weight, weight_at, weight_of}
-use Rattle.matrix_form.specs.Questions.{one_to, within_limits, all_in_range, rows_in_range, are_weights, ask_matrix}
-use Rattle.matrix_form.specs.Questions.{nodes_exist, htu_in_range, htus_in_range, ask_nodes}
+use Rattle.matrix_form.specs.Shape.{matrix_size, columns, row_start, row, state_at, in_range, last_node, is_weight, weight_at}
+use Rattle.matrix_form.specs.Shape.{weight_of, matrix_of, with_codes}
+use Rattle.matrix_form.specs.Questions.{one_to, within_limits, ask_code, ask_row_of, ask_rows_of, are_weights}
+use Rattle.matrix_form.specs.Questions.{ask_matrix, nodes_exist, ask_htu, ask_nodes}
 use Rattle.matrix_form.specs.Refusals.{refusal_number}
-use Rattle.matrix_form.specs.Outcomes.{Asked, ask, and_then, Outcome, value, refused, on_line, answered, asked_says, afterwards}
+use Rattle.matrix_form.specs.Outcomes.{Asked, ask, and_then, ask_each, Outcome, value, refused, on_line, answered, asked_says, afterwards}
 use Rattle.matrix_form.specs.declared.refusal.Refusal.{Refusal}
 use Rattle.matrix_form.specs.declared.refusal.Refusal.TheVariants.{FileTooLong, FileEmpty, FirstLine, BeyondLimits, LineMissing}
 use Rattle.matrix_form.specs.declared.refusal.Refusal.TheVariants.{NameForm, NameTaken, FieldCount, CodeForm, CodeRange, FileGoesOn}
@@ -71,6 +72,26 @@ examples =
       kept = refl;
     }
 
+-- a question that 0 and 1 refuse, each in its own way
+abbrev by_number : ℕ → Asked
+by_number zero = Err ListSize
+by_number (suc zero) = Err CodeRange
+by_number (suc (suc v)) = Ok tt
+
+-- a question put to each item of a list
+pub record EachExamples : Type 0 where
+  -- no item refuses none, and items that pass pass together
+  pub none : ask_each by_number [] ≡ Ok tt
+  pub passed : ask_each by_number (2 ∷ 3 ∷ []) ≡ Ok tt
+  -- the first "no" ends them, also where a later item gives another
+  pub first : ask_each by_number (2 ∷ 1 ∷ 0 ∷ []) ≡ Err CodeRange
+  pub last : ask_each by_number (2 ∷ 3 ∷ 0 ∷ []) ≡ Err ListSize
+
+-- they are as said
+pub each_examples : EachExamples
+unfolding ask_each
+each_examples = record { none = refl; passed = refl; first = refl; last = refl }
+
 -- a matrix of zeros
 abbrev zeros : List ℤ
 zeros = replicate matrix_size (pos 0)
@@ -97,7 +118,7 @@ bad_weight = set (ones columns) 0 0
 
 -- a matrix of zeros of some size, asked for two taxa and one character
 abbrev sized : ℕ → Asked
-sized size = ask_matrix (replicate size (pos 0)) (ones columns) 2 1
+sized size = ask_matrix (matrix_of (replicate size (pos 0)) (ones columns)) 2 1
 
 -- what a matrix and its items are counted by
 pub record SizeExamples : Type 0 where
@@ -112,15 +133,18 @@ pub record SizeExamples : Type 0 where
       ≡ true ∷ true ∷ false ∷ false ∷ false ∷ []
   -- a code is from -999 to 999
   pub codes : map in_range (pos 999 ∷ negsuc 998 ∷ pos 1000 ∷ negsuc 999 ∷ []) ≡ true ∷ true ∷ false ∷ false ∷ []
-  -- each row begins 128 places behind the one before it
+  -- each row begins 128 entries behind the one before it
   pub begins : map row_start (1 ∷ 2 ∷ 126 ∷ []) ≡ 0 ∷ 128 ∷ 16000 ∷ []
+  -- a code stands in its node's row and its character's column, and none behind the end of the list
+  pub codes_at : map (state_at row_2 2) (1 ∷ 2 ∷ []) ++ map (λ (v : ℕ). state_at row_2 v 1) (1 ∷ 127 ∷ [])
+      ≡ pos 1000 ∷ pos 0 ∷ pos 0 ∷ pos 0 ∷ []
   -- the last row of the taxa is asked, and no row behind it
-  pub last_row : ask_matrix row_2 (ones columns) 2 1 ≡ Err CodeRange
-  pub behind : ask_matrix row_2 (ones columns) 1 1 ≡ Ok tt
+  pub last_row : ask_matrix (matrix_of row_2 (ones columns)) 2 1 ≡ Err CodeRange
+  pub behind : ask_matrix (matrix_of row_2 (ones columns)) 1 1 ≡ Ok tt
 
 -- they are as said
 pub size_examples : SizeExamples
-unfolding numbers every row in_range one_to within_limits all_in_range rows_in_range is_weight are_weights ask_matrix
+unfolding numbers every row in_range one_to within_limits ask_each ask_code ask_row_of ask_rows_of is_weight are_weights ask_matrix
 size_examples =
     record {
       counted = refl;
@@ -130,6 +154,7 @@ size_examples =
       limits = refl;
       codes = refl;
       begins = refl;
+      codes_at = refl;
       last_row = refl;
       behind = refl;
     }
@@ -139,15 +164,16 @@ pub record NodeExamples : Type 0 where
   -- the last node is 2n-2, and node 1 for n = 1
   pub last : map last_node (1 ∷ 2 ∷ 3 ∷ 64 ∷ []) ≡ 1 ∷ 2 ∷ 4 ∷ 126 ∷ []
   -- an HTU exists, node 5 does not: 13, before the 10 of the HTU's row; an HTU that is not named is not read
-  pub htu : ask_nodes zeros (ones columns) 3 1 (1 ∷ 4 ∷ []) ≡ Ok tt
-  pub beyond : ask_nodes bad_htu (ones columns) 3 1 (4 ∷ 5 ∷ []) ≡ Err NotThere
-  pub htu_row : ask_nodes bad_htu (ones columns) 3 1 (1 ∷ 4 ∷ []) ≡ Err CodeRange
-  pub unread : ask_nodes bad_htu (ones columns) 3 1 (1 ∷ 3 ∷ []) ≡ Ok tt
+  pub htu : ask_nodes (matrix_of zeros (ones columns)) 3 1 (1 ∷ 4 ∷ []) ≡ Ok tt
+  pub beyond : ask_nodes (matrix_of bad_htu (ones columns)) 3 1 (4 ∷ 5 ∷ []) ≡ Err NotThere
+  pub htu_row : ask_nodes (matrix_of bad_htu (ones columns)) 3 1 (1 ∷ 4 ∷ []) ≡ Err CodeRange
+  pub unread : ask_nodes (matrix_of bad_htu (ones columns)) 3 1 (1 ∷ 3 ∷ []) ≡ Ok tt
 
 -- they are as said
 pub node_examples : NodeExamples
-unfolding numbers every row in_range last_node one_to within_limits all_in_range rows_in_range is_weight are_weights ask_matrix
-    nodes_exist htu_in_range htus_in_range ask_nodes
+unfolding numbers every row in_range last_node one_to within_limits ask_each ask_code ask_row_of ask_rows_of is_weight are_weights
+    ask_matrix
+    nodes_exist ask_htu ask_nodes
 node_examples = record { last = refl; htu = refl; beyond = refl; htu_row = refl; unread = refl }
 
 -- weights, and their questions among those on a matrix of two taxa and one character
@@ -159,17 +185,21 @@ pub record WeightExamples : Type 0 where
   -- each character has its own weight, and one without has weight 1
   pub own : map (weight_of (3 ∷ 2 ∷ [])) (1 ∷ 2 ∷ 3 ∷ []) ≡ 3 ∷ 2 ∷ 1 ∷ []
   -- 128 weights pass, fewer and more are 12
-  pub full : ask_matrix zeros (ones 128) 2 1 ≡ Ok tt
-  pub fewer : ask_matrix zeros (ones 127) 2 1 ≡ Err ListSize
-  pub more : ask_matrix zeros (ones 129) 2 1 ≡ Err ListSize
+  pub full : ask_matrix (matrix_of zeros (ones 128)) 2 1 ≡ Ok tt
+  pub fewer : ask_matrix (matrix_of zeros (ones 127)) 2 1 ≡ Err ListSize
+  pub more : ask_matrix (matrix_of zeros (ones 129)) 2 1 ≡ Err ListSize
   -- 4 comes before 16 and before 10, and 16 before 10
-  pub limits_first : ask_matrix zeros bad_weight 65 1 ≡ Err BeyondLimits
-  pub limits_before : ask_matrix bad_code (ones columns) 65 1 ≡ Err BeyondLimits
-  pub weights_before : ask_matrix bad_code bad_weight 2 1 ≡ Err WeightForm
+  pub limits_first : ask_matrix (matrix_of zeros bad_weight) 65 1 ≡ Err BeyondLimits
+  pub limits_before : ask_matrix (matrix_of bad_code (ones columns)) 65 1 ≡ Err BeyondLimits
+  pub weights_before : ask_matrix (matrix_of bad_code bad_weight) 2 1 ≡ Err WeightForm
+  -- with other codes these are asked, and the weights as before
+  pub other_codes : ask_matrix (with_codes (matrix_of bad_code (ones columns)) zeros) 2 1 ≡ Ok tt
+  pub same_weights : ask_matrix (with_codes (matrix_of zeros bad_weight) bad_code) 2 1 ≡ Err WeightForm
 
 -- they are as said
 pub weight_examples : WeightExamples
-unfolding numbers every row in_range one_to within_limits all_in_range rows_in_range is_weight are_weights weight_at weight_of ask_matrix
+unfolding numbers every row in_range one_to within_limits ask_each ask_code ask_row_of ask_rows_of is_weight are_weights weight_at
+    weight_of ask_matrix
 weight_examples =
     record {
       known = refl;
@@ -181,4 +211,6 @@ weight_examples =
       limits_first = refl;
       limits_before = refl;
       weights_before = refl;
+      other_codes = refl;
+      same_weights = refl;
     }

@@ -28,7 +28,7 @@ module _ (codes : List ℤ) (m count : ℕ) where
   unfolding rows_of
   length-rows_of = length_map_numbers (row codes m) 1 count
 
-  -- the row at a place
+  -- the row at an index
   pub get_or-rows_of : (i : ℕ) → i < count → get_or (rows_of codes m count) i [] ≡ row codes m (suc i)
   unfolding rows_of
   get_or-rows_of i h = map-numbers (row codes m) [] 1 count i h ∙ ap (row codes m) (omega arith)

@@ -1,6 +1,6 @@
 -- Asking in order, and what an input brings (document 01, "The questions put to an input"): what was asked for, or one refusal number with
 -- a line.
-use Rattle.std.specs.Prelude.{◌≡◌, Bool, true, false, ℕ, Result, Ok, Err, MatchResult}
+use Rattle.std.specs.Prelude.{◌≡◌, Bool, true, false, List, [], ◌∷◌, ℕ, Result, Ok, Err, MatchResult}
 use Rattle.matrix_form.specs.Refusals.{refusal_number}
 use Rattle.matrix_form.specs.declared.refusal.Refusal.{Refusal}
 
@@ -17,6 +17,16 @@ ask false refusal rest = Err refusal
 abbrev pub and_then : Asked → Asked → Asked
 and_then (Ok _) rest = rest
 and_then (Err refusal) rest = Err refusal
+
+-- a question that is left out in a case
+abbrev pub unless : Bool → Asked → Asked
+unless true question = Ok tt
+unless false question = question
+
+-- a question put to each item of a list in turn: the first "no" ends them
+unfoldable pub ask_each : {A : Type 0} → (A → Asked) → List A → Asked
+ask_each question [] = Ok tt
+ask_each question (item ∷ items) = and_then (question item) (ask_each question items)
 
 -- what an input brings, in document 01's terms: what was asked for, or the number of the refusal and the line
 pub data Outcome (A : Type 0) : Type 0 where

@@ -8,7 +8,7 @@ use native.Mathlib.Omega.{arith}
 use lib.IntN.{ℤ}
 use lib.ListN.{length}
 use Rattle.difference_form.specs.Rows.{node_difference, difference, unweighted, most_difference}
-use Rattle.matrix_form.specs.Shape.{row, weight_at}
+use Rattle.matrix_form.specs.Shape.{row, weight_at, MatrixLists}
 use Rattle.matrix_form.specs.Questions.{LentMatrix, LentWeights, ask_matrix}
 use Rattle.matrix_form.specs.declared.refusal.Refusal.{Refusal}
 use Rattle.matrix_form.proofs.Answering.{answers-passed}
@@ -17,40 +17,48 @@ use Rattle.difference_form.proofs.Laws.Rows.{difference-sym, difference_limit}
 use Rattle.difference_form.proofs.Laws.Weights.{difference-weights, difference-alike}
 use Rattle.prim_form.specs.Network.{network}
 use Rattle.prim_form.specs.Rival.{IsTaxon, Connected, Shortest, links_length}
-use Rattle.prim.specs.Answers.{Holds, NetworkAnswer}
+use Rattle.prim.specs.Calls.{Holds, NetworkAnswer}
+use Rattle.prim.specs.Growing.{Near}
 use Rattle.prim.specs.declared.answer.Network.{Network}
 use Rattle.prim_form.proofs.Shortest.{shortest}
 use Rattle.prim_form.proofs.Agreement.{network_agrees}
 
 -- two taxa of a lent matrix differ by at most 2,301,696
-pub taxa-most : (codes : List ℤ) (weights : List ℕ) (n m x y : ℕ) → LentMatrix codes n m → LentWeights weights m → IsTaxon n x
-    → IsTaxon n y → node_difference (difference weights) (row codes m) x y ≤ most_difference
+pub taxa-most : (lists : MatrixLists) (n m x y : ℕ) → LentMatrix lists.codes n m → LentWeights lists.weights m → IsTaxon n x
+    → IsTaxon n y → node_difference (difference lists.weights) (row lists.codes m) x y ≤ most_difference
 unfolding node_difference
-taxa-most codes weights n m x y lent weighted tx ty =
-    let size = row-length codes m x lent.full lent.characters tx.0 (omega (arith, tx.1, lent.taxa)) in
-    difference_limit weights (row codes m x) (row codes m y) (rw size weighted.known) (lent.known x tx.0 tx.1)
+taxa-most lists n m x y lent weighted tx ty =
+    let size = row-length lists.codes m x lent.full lent.characters tx.0 (omega (arith, tx.1, lent.taxa)) in
+    difference_limit lists.weights (row lists.codes m x) (row lists.codes m y) (rw size weighted.known) (lent.known x tx.0 tx.1)
     (lent.known y ty.0 ty.1) (omega (arith, size, lent.characters))
 
--- the difference of two taxa is the same either way round
-pub taxa-sym : (codes : List ℤ) (weights : List ℕ) (m x y : ℕ)
-    → node_difference (difference weights) (row codes m) x y ≡ node_difference (difference weights) (row codes m) y x
-unfolding node_difference
-taxa-sym codes weights m x y = difference-sym weights (row codes m x) (row codes m y)
+-- so none is far from row 1
+pub near_row_one : (lists : MatrixLists) (n m : ℕ) → LentMatrix lists.codes n m → LentWeights lists.weights m
+    → Near (node_difference (difference lists.weights) (row lists.codes m)) n
+near_row_one lists n m lent weighted v low high =
+    let some = lent.taxon in taxa-most lists n m v 1 lent weighted (low, high) (omega arith)
 
-module _ (codes : List ℤ) (weights : List ℕ) (n m : ℕ) where
+-- the difference of two taxa is the same either way round
+pub taxa-sym : (lists : MatrixLists) (m x y : ℕ)
+    → node_difference (difference lists.weights) (row lists.codes m) x y
+    ≡ node_difference (difference lists.weights) (row lists.codes m) y x
+unfolding node_difference
+taxa-sym lists m x y = difference-sym lists.weights (row lists.codes m x) (row lists.codes m y)
+
+module _ (lists : MatrixLists) (n m : ℕ) where
   -- of any matrix, the Prim Network is a connected network, of length its total, and no connected network is shorter
-  pub matrix_shortest : Shortest (node_difference (difference weights) (row codes m)) n
-  matrix_shortest = shortest (node_difference (difference weights) (row codes m)) (taxa-sym codes weights m) n
+  pub matrix_shortest : Shortest (node_difference (difference lists.weights) (row lists.codes m)) n
+  matrix_shortest = shortest (node_difference (difference lists.weights) (row lists.codes m)) (taxa-sym lists m) n
 
   -- where the questions pass, a network is handed back that holds the Prim Network
-  pub answer_holds : (r : Result Network Refusal) → NetworkAnswer codes weights n m r → ask_matrix codes weights n m ≡ Ok tt
-      → IsOkAnd r (Holds (network (node_difference (difference weights) (row codes m)) n))
-  answer_holds = answers-passed (ask_matrix codes weights n m) (Holds (network (node_difference (difference weights) (row codes m)) n))
+  pub answer_holds : (r : Result Network Refusal) → NetworkAnswer lists n m r → ask_matrix lists n m ≡ Ok tt
+      → IsOkAnd r (Holds (network (node_difference (difference lists.weights) (row lists.codes m)) n))
+  answer_holds = answers-passed (ask_matrix lists n m) (Holds (network (node_difference (difference lists.weights) (row lists.codes m)) n))
 
   -- and no connected network of the taxa is shorter than its total
-  pub answer_least : (r : Result Network Refusal) → NetworkAnswer codes weights n m r → ask_matrix codes weights n m ≡ Ok tt
+  pub answer_least : (r : Result Network Refusal) → NetworkAnswer lists n m r → ask_matrix lists n m ≡ Ok tt
       → IsOkAnd r (λ found. (links : List (ℕ × ℕ)) → Connected n links
-      → found.total ≤ links_length (node_difference (difference weights) (row codes m)) links)
+      → found.total ≤ links_length (node_difference (difference lists.weights) (row lists.codes m)) links)
   answer_least (Ok found) a pass = λ links c. rw (a.1).total (matrix_shortest.least links c)
   answer_least (Err refusal) a pass = cc
 
@@ -71,8 +79,9 @@ network-weights codes v w n m same =
     (λ xs ys few. difference-weights v w xs ys (λ i below. same i (omega arith)))
 
 -- where they are all 1 it is document 01's, by the difference without weights
-pub network-alike : (codes : List ℤ) (weights : List ℕ) (n m : ℕ) → ((i : ℕ) → i < m → weight_at weights i ≡ 1)
-    → network (node_difference (difference weights) (row codes m)) n ≡ network (node_difference unweighted (row codes m)) n
-network-alike codes weights n m alike =
-    rows_decide (difference weights) unweighted codes n m
-    (λ xs ys few. difference-alike weights xs ys (λ i below. alike i (omega arith)))
+pub network-alike : (lists : MatrixLists) (n m : ℕ) → ((i : ℕ) → i < m → weight_at lists.weights i ≡ 1)
+    → network (node_difference (difference lists.weights) (row lists.codes m)) n
+    ≡ network (node_difference unweighted (row lists.codes m)) n
+network-alike lists n m alike =
+    rows_decide (difference lists.weights) unweighted lists.codes n m
+    (λ xs ys few. difference-alike lists.weights xs ys (λ i below. alike i (omega arith)))

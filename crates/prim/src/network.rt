@@ -1,18 +1,20 @@
 // The Prim Network of a lent matrix. Of each unplaced taxon the link is kept that would place it: to the placed taxon nearest to it. When a
 // taxon has been placed, each one that is still unplaced is compared with it once.
-ghost use Rattle.std.specs.Prelude.{◌≡◌, [], ◌+◌, ◌<◌, ◌^◌, map, filter_map, option_and_then};
-ghost use Rattle.difference.specs.Nodes.{between};
+ghost use Rattle.std.specs.Prelude.{◌≡◌, [], ◌≤◌, map, filter_map, option_and_then};
+ghost use Rattle.difference.specs.Steps.{between};
 ghost use Rattle.lists.specs.Numbers.{numbers};
 ghost use Rattle.lists.specs.Least.{least_item};
-ghost use Rattle.matrix_form.specs.Questions.{LentMatrix, LentWeights};
+ghost use Rattle.matrix_form.specs.Shape.{most_taxa};
 ghost use Rattle.prim_form.specs.Network.{network};
-ghost use Rattle.prim.specs.Answers.{Holds, NetworkAnswer};
-ghost use Rattle.prim.specs.Growing.{WithLink, first_link, moved_link, link_length};
+ghost use Rattle.prim.specs.Calls.{Holds, NetworkOf, NetworkAnswer};
+ghost use Rattle.prim.specs.Growing.{WithLink, Near, first_link, moved_link, link_length};
+ghost use Rattle.matrix.specs.Lent.{lent_lists};
 
 use crate::answer::{MOST_LINKS, Network};
 use difference::nodes::Nodes;
 use filled::Filled;
 use matrix::lent::Lent;
+use matrix::questions::within_limits;
 use matrix_form::refusal::Refusal;
 use prim_form::answer::Link;
 use std::array;
@@ -92,22 +94,18 @@ impl Default for Network {
 
 impl Network {
     // Puts a link behind those of the network.
-    #[tactic(auto, using(crate::proofs::Holding::pushed_holds))]
     fn push(&mut self, link: Link)
-        requires { (self.old.links.count < 63) × (self.old.total + link.length < 2 ^ 64) }
         ensures { WithLink self.old link self.new }
     {
         self.links.push(link);
-        self.total += link.length;
+        self.total = self.total.wrapping_add(link.length);
     }
 }
 
-// Kept: no plainer, this one function asks for a matrix that passed: a view with the fact would be made in `network`, for this call alone.
-// The Prim Network of a matrix that no question refuses.
+// The Prim Network of 1 to 64 taxa, if none of them is too far from row 1 for the total to be counted.
 fn grow(nodes: &Nodes) -> Network
-    requires { LentMatrix nodes.now.lent.matrix.now nodes.now.lent.n nodes.now.lent.m
-        × LentWeights nodes.now.lent.weights.now nodes.now.lent.m }
-    ensures { Holds (network (between nodes.now) nodes.now.lent.n) result }
+    requires { (1 ≤ nodes.now.lent.n) × (nodes.now.lent.n ≤ most_taxa) }
+    ensures { Near (between nodes.now) nodes.now.lent.n → Holds (network (between nodes.now) nodes.now.lent.n) result }
 {
     let mut waiting = start(nodes);
     let mut network = Network::default();
@@ -119,11 +117,22 @@ fn grow(nodes: &Nodes) -> Network
     network
 }
 
-// The Prim Network of a lent matrix, by the weights of its characters.
+// The Prim Network of a lent matrix that no question refuses.
+// Kept: interface, a call that could not fail still cannot: beyond its limits it answers no links.
+pub fn network_of(lent: &Lent) -> Network
+    ensures { NetworkOf (lent_lists lent.now) lent.now.n lent.now.m result }
+{
+    if !within_limits(lent.n, lent.m) {
+        return Network::default();
+    }
+    grow(&Nodes { lent: *lent })
+}
+
+// The Prim Network of a lent matrix, by the weights of its characters, with its questions.
 #[tactic(auto, using(matrix_form::proofs::Passing::matrix_passed, matrix_form::proofs::Passing::weights_passed))]
 pub fn network(lent: &Lent) -> Result<Network, Refusal>
-    ensures { NetworkAnswer lent.now.matrix.now lent.now.weights.now lent.now.n lent.now.m result }
+    ensures { NetworkAnswer (lent_lists lent.now) lent.now.n lent.now.m result }
 {
     lent.ask()?;
-    Ok(grow(&Nodes { lent: *lent }))
+    Ok(network_of(lent))
 }

@@ -10,6 +10,7 @@ use Rattle.lists.proofs.Sums.{sum_most}
 use Rattle.lists.specs.Sums.{sum_over}
 use Rattle.prim_form.specs.Network.{Link, network_length, network}
 use Rattle.prim_form.specs.Rival.{Reached, start, step, links_length, IsTaxon, Connected, link_ends}
+use Rattle.prim_form.proofs.Further.{connected_iff}
 use Rattle.prim_form.proofs.Placing.{Grown, complete, follows, network-grown, network-length, network-link}
 use Rattle.prim_form.proofs.Unplaced.{decide_mem, IsPlaced, not-placed, not-unplaced, placed-taxon, added-taxon}
 
@@ -74,10 +75,10 @@ mem-ends l links (Memᴰ.tail {xs = ls} m) = Memᴰ.tail (mem-ends l ls m)
 module _ (d : ℕ → ℕ → ℕ) (n : ℕ) where
   -- the Prim Network is a connected network
   pub network-connected : Connected n (link_ends (network d n))
-  network-connected = record {
-    between = grown-between network-grown (λ x m. absurd (Memᴰ.not-nil m));
-    reached = grown-reached network-grown (λ x. x ≡ 1) (link_ends (network d n)) (λ e m. m) (λ x m. start (Memᴰ.eq_of_singleton m));
-  }
+  network-connected = connected_iff.1 (
+    grown-between network-grown (λ x m. absurd (Memᴰ.not-nil m)),
+    grown-reached network-grown (λ x. x ≡ 1) (link_ends (network d n)) (λ e m. m) (λ x m. start (Memᴰ.eq_of_singleton m)),
+  )
 
   -- the sum of its links' differences is the total
   pub network_sum : links_length d (link_ends (network d n)) ≡ network_length (network d n)
@@ -85,7 +86,7 @@ module _ (d : ℕ → ℕ → ℕ) (n : ℕ) where
 
   -- both ends of a link are taxa
   pub network-between : (l : Link) → Memᴰ l (network d n) → IsTaxon n l.taxon × IsTaxon n l.joined
-  network-between l m = network-connected.between l.taxon l.joined (mem-ends l (network d n) m)
+  network-between l m = (connected_iff.0 network-connected).0 l.taxon l.joined (mem-ends l (network d n) m)
 
   -- the total is at most n-1 times a bound of the differences of taxa
   pub network_total_le : (bound : ℕ) → ((x y : ℕ) → IsTaxon n x → IsTaxon n y → d x y ≤ bound)

@@ -5,6 +5,7 @@ use Prim.Native.Nat.{ℕ, ◌-◌}
 use lib.IntN.{ℤ, pos, negsuc}
 use lib.ListN.{length, replicate}
 use Rattle.matrix_form.specs.Shape.{row, columns}
+use Rattle.matrix_form.proofs.Sample.{rows_abcd}
 use Rattle.difference_form.specs.Rows.{node_difference, difference}
 use Rattle.difference_form.specs.Rows
 use Rattle.lists.specs.Filters
@@ -33,15 +34,6 @@ of n m rows = by (replicate columns 1) n m rows
 abbrev joins : ℕ → ℕ → ℕ → Link
 joins v x l = record { taxon = v; joined = x; length = l }
 
--- document 01's matrix
-abbrev example : List (List ℤ)
-example =
-    (pos 0 ∷ pos 0 ∷ pos 0 ∷ [])
-    ∷ (pos 2 ∷ pos 1 ∷ pos 0 ∷ [])
-    ∷ (pos 2 ∷ pos 3 ∷ pos 1 ∷ [])
-    ∷ (negsuc 0 ∷ pos 1 ∷ pos 2 ∷ [])
-    ∷ []
-
 -- rows of one code
 abbrev ones : List (List ℤ)
 ones = (pos 0 ∷ []) ∷ (pos 1 ∷ []) ∷ (negsuc 0 ∷ []) ∷ []
@@ -53,14 +45,14 @@ twos = (pos 0 ∷ pos 0 ∷ []) ∷ (pos 4 ∷ pos 0 ∷ []) ∷ (pos 2 ∷ pos 
 -- networks with a tie of each kind
 pub record Examples : Type 0 where
   -- document 01: B joins A at 3, C joins B at 3, D joins A at 4; the total is 10
-  pub document : of 4 3 example ≡ joins 2 1 3 ∷ joins 3 2 3 ∷ joins 4 1 4 ∷ []
-  pub sum : network_length (of 4 3 example) ≡ 10
+  pub document : of 4 3 rows_abcd ≡ joins 2 1 3 ∷ joins 3 2 3 ∷ joins 4 1 4 ∷ []
+  pub sum : network_length (of 4 3 rows_abcd) ≡ 10
   -- with weights 1, 3 and 2: B joins A at 5, D joins B at 7, C joins B at 8; the total is 20
-  pub weighted : by (1 ∷ 3 ∷ 2 ∷ []) 4 3 example ≡ joins 2 1 5 ∷ joins 4 2 7 ∷ joins 3 2 8 ∷ []
-  pub heavier : network_length (by (1 ∷ 3 ∷ 2 ∷ []) 4 3 example) ≡ 20
+  pub weighted : by (1 ∷ 3 ∷ 2 ∷ []) 4 3 rows_abcd ≡ joins 2 1 5 ∷ joins 4 2 7 ∷ joins 3 2 8 ∷ []
+  pub heavier : network_length (by (1 ∷ 3 ∷ 2 ∷ []) 4 3 rows_abcd) ≡ 20
   -- one taxon has no link, two have one
-  pub one : of 1 3 example ≡ []
-  pub two : of 2 3 example ≡ joins 2 1 3 ∷ []
+  pub one : of 1 3 rows_abcd ≡ []
+  pub two : of 2 3 rows_abcd ≡ joins 2 1 3 ∷ []
   -- rows 2 and 3 are equally near to row 1: row 2 is placed first
   pub lowest : of 3 1 ones ≡ joins 2 1 1 ∷ joins 3 1 1 ∷ []
   -- row 4 is equally near to rows 2 and 3: it joins row 3, which was placed before row 2

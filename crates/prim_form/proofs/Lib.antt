@@ -3,6 +3,7 @@ pub mod Examples
 pub mod Unplaced
 pub mod Placing
 pub mod Agreement
+pub mod Further
 pub mod Connected
 pub mod Links
 pub mod Shortest

@@ -8,6 +8,7 @@ use native.Mathlib.Omega.{arith}
 use Rattle.lists.specs.Sums.{sum_over}
 use Rattle.prim_form.specs.Network.{network_length, grow, network}
 use Rattle.prim_form.specs.Rival.{Joins, Reached, links_length, IsTaxon, Connected, Shortest}
+use Rattle.prim_form.proofs.Further.{connected_iff}
 use Rattle.prim_form.proofs.Links.{Enlarged, Leaving, Spared, exchange, Reached_mono, others, of_others, links_length-others}
 use Rattle.prim_form.proofs.Placing.{Step, done, placing, placing-step, grow-done, grow-next}
 use Rattle.prim_form.proofs.Connected.{network-connected, network_sum}
@@ -70,7 +71,7 @@ module _ (d : ℕ → ℕ → ℕ) (symmetric : (x y : ℕ) → d x y ≡ d y x)
   network-least links c =
       rest-least (n - 1) [] links
       (record {
-        between = c.between;
+        between = (connected_iff.0 c).0;
         reached = λ v t. Reached_mono (λ x e. Memᴰ.head e) (λ x y k. k) (c.reached v t);
       })
 

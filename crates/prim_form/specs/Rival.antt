@@ -1,6 +1,7 @@
 -- What the Prim Network is compared with (document 01, "The three rivals"): any list of links between taxa over which
--- every taxon can be reached from row 1. Rings, repeats and a taxon linked to itself are allowed.
-use Rattle.std.specs.Prelude.{◌≡◌, ◌⊎◌, ℕ, ◌≤◌}
+-- every taxon can be reached from row 1. Rings, repeats and a taxon linked to itself are allowed. Such networks are stated with further
+-- nodes besides the taxa; the Prim Network's rivals have none.
+use Rattle.std.specs.Prelude.{◌≡◌, ◌⊎◌, ℕ, ◌+◌, ◌≤◌}
 use mathlib.Core.List.{List, Memᴰ, map}
 use Rattle.lists.specs.Sums.{sum_over}
 use Rattle.prim_form.specs.Network.{Link, network, network_length}
@@ -24,10 +25,19 @@ module _ {A : Type 0} where
 abbrev pub IsTaxon : ℕ → ℕ → Type 0
 IsTaxon n v = (1 ≤ v) × (v ≤ n)
 
--- a connected network of n taxa: each link is between two taxa, and every taxon can be reached from row 1
-pub record Connected (n : ℕ) (links : List (ℕ × ℕ)) : Type 0 where
-  pub between : (x y : ℕ) → Memᴰ (x, y) links → IsTaxon n x × IsTaxon n y
+-- v is one of the nodes of n taxa and `count` further nodes, which are numbered on: n+1, n+2, ..
+abbrev pub IsNode : ℕ → ℕ → ℕ → Type 0
+IsNode n count v = IsTaxon (n + count) v
+
+-- a connected network of n taxa and `count` further nodes: each link is between two nodes, and every taxon can be reached from row 1.
+-- A further node that cannot be reached is allowed as well
+pub record ConnectedWith (n count : ℕ) (links : List (ℕ × ℕ)) : Type 0 where
+  pub between : (x y : ℕ) → Memᴰ (x, y) links → IsNode n count x × IsNode n count y
   pub reached : (v : ℕ) → IsTaxon n v → Reached (λ x. x ≡ 1) links v
+
+-- document 01's rivals have no further nodes
+abbrev pub Connected : ℕ → List (ℕ × ℕ) → Type 0
+Connected n links = ConnectedWith n 0 links
 
 -- the ends of the Prim Network's links
 unfoldable pub link_ends : List Link → List (ℕ × ℕ)

@@ -10,7 +10,7 @@ ghost use Rattle.std.specs.Prelude.{◌≤◌};
 use file_form::NAME_SIZE;
 use file_form::answer::Refused;
 use file_form::header::{Header, Kind};
-use input::{MOST_CASES, MOST_READ, kept, read_counted};
+use input::{MOST_CASES, MOST_READ, read_counted, unchanged};
 use matrix::questions::in_range;
 use matrix::refusal::number;
 use matrix::rows::row;
@@ -128,10 +128,10 @@ fn print_answer(rt: &impl Print, answer: Result<Header, Refused>, lists: &Lists)
         Err(refused) => println!(rt; "R\t{}\t{}", number(refused.refusal), refused.line)?,
         Ok(header) => print_accepted(rt, &header, lists)?,
     }
-    let codes = kept(lists.matrix, &NO_CODE);
-    let weights = kept(lists.weights, &NO_BYTE);
-    let names = kept(lists.names, &NO_BYTE);
-    let numbers = kept(lists.branches, &NO_NUMBER);
+    let codes = unchanged(lists.matrix, &NO_CODE);
+    let weights = unchanged(lists.weights, &NO_BYTE);
+    let names = unchanged(lists.names, &NO_BYTE);
+    let numbers = unchanged(lists.branches, &NO_NUMBER);
     println!(rt; "k\t{codes}\t{weights}\t{names}\t{numbers}")
 }
 

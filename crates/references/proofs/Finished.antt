@@ -20,30 +20,33 @@ use Rattle.wagner.specs.Steps.{length_in}
 use Rattle.wagner.proofs.Lengths.{records_agree, length_in-plain, built-branches}
 use Rattle.wagner.proofs.Finished.{built_passes}
 use Rattle.references.specs.Written.{code_difference, records_say, RecordsWritten}
+use Rattle.matrix_form.specs.Shape.{MatrixLists, with_codes}
 
 -- the Wagner tree of a lent matrix with its weights
-module _ (order : Order) (codes : List ℤ) (weights : List ℕ) (n m : ℕ) (lent : LentMatrix codes n m)
-    (weighted : LentWeights weights m) where
+module _ (order : Order) (lists : MatrixLists) (n m : ℕ) (lent : LentMatrix lists.codes n m)
+    (weighted : LentWeights lists.weights m) where
   -- the build, and the matrix after it
   abbrev ours : Built
-  ours = wagner_in order codes weights n m
+  ours = wagner_in order lists n m
 
   abbrev after : List ℤ
-  after = matrix_after codes n ours
+  after = matrix_after lists.codes n ours
 
   -- what the call writes are the branches of the finished tree, over the first 2n-3 records
   pub built_written : (old new : List Branch) (r : Asked) → length old ≡ branches_size
-      → RecordsWritten after weights n m ours.tree old new r
-      → (r ≡ Ok tt) × (new ≡ over 0 (wagner_branches (difference weights) n ours) old)
+      → RecordsWritten (with_codes lists after) n m ours.tree old new r
+      → (r ≡ Ok tt) × (new ≡ over 0 (wagner_branches (difference lists.weights) n ours) old)
   unfolding records_say
   built_written old new r size written =
-      let passes : ask_records after weights n m ours.tree (length old) ≡ Ok tt =
-      rw size (built_passes order codes weights n m lent weighted) in
-      let says : records_say after weights n m ours.tree (length old) ≡ value tt = rw passes in
-      let records : new ≡ with_records (code_difference after weights m) n ours.tree old = rw says at written.records in
-      (written.says ∙ passes, records ∙ same ∙ built-branches order codes weights n m lent old size)
+      let passes : ask_records (with_codes lists after) n m ours.tree (length old) ≡ Ok tt =
+      rw size (built_passes order lists n m lent weighted) in
+      let says : records_say (with_codes lists after) n m ours.tree (length old) ≡ value tt = rw passes in
+      let records : new ≡ with_records (code_difference (with_codes lists after) m) n ours.tree old = rw says at written.records in
+      (written.says ∙ passes, records ∙ same ∙ built-branches order lists n m lent old size)
     where
-      same : with_records (code_difference after weights m) n ours.tree old ≡ with_records (length_in after weights m) n ours.tree old
+      same : with_records (code_difference (with_codes lists after) m) n ours.tree old
+          ≡ with_records (length_in (with_codes lists after) m) n ours.tree old
       same =
-          records_agree (code_difference after weights m) (length_in after weights m) n ours.tree old size
-          (λ v low h high. unfold code_difference in sym (length_in-plain after weights m v (ancestor ours.tree v) lent.characters))
+          records_agree (code_difference (with_codes lists after) m) (length_in (with_codes lists after) m) n ours.tree old size
+          (λ v low h high. unfold code_difference in sym (length_in-plain (with_codes lists after) m v (ancestor ours.tree v)
+          lent.characters))

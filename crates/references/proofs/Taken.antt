@@ -12,6 +12,7 @@ use Rattle.matrix_form.specs.declared.refusal.Refusal.TheVariants.{ListSize}
 use Rattle.tree_form.specs.declared.branch.Branch.{Branch}
 use Rattle.tree_form.specs.Asking.{branches_size, ask_branching}
 use Rattle.fit_form.specs.Calls.{lists_full, ask_fit}
+use Rattle.matrix_form.specs.Shape.{MatrixLists}
 
 -- whichever of two sizes is wrong, it is 12
 either_size : (full : Bool) → ask full ListSize (Err ListSize) ≡ Err ListSize
@@ -19,8 +20,8 @@ either_size true = refl
 either_size false = refl
 
 -- a list of another size than 125 is 12
-pub other-size : (codes : List ℤ) (weights : List ℕ) (n m : ℕ) (lent : List Branch) (low high chosen : List ℤ)
-    → (length lent ≡ branches_size → ⊥) → ask_fit codes weights n m lent low high chosen ≡ Err ListSize
+pub other-size : (lists : MatrixLists) (n m : ℕ) (lent : List Branch) (low high chosen : List ℤ)
+    → (length lent ≡ branches_size → ⊥) → ask_fit lists n m lent low high chosen ≡ Err ListSize
 unfolding ask_fit ask_branching
-other-size codes weights n m lent low high chosen other =
+other-size lists n m lent low high chosen other =
     rw (ne_eqb _ _ other) (either_size (lists_full (length low) (length high) (length chosen)))

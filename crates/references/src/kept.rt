@@ -1,5 +1,6 @@
 // A placement on a tree that the caller keeps.
 ghost use Rattle.references.specs.Kept.{PlacementKept};
+ghost use Rattle.matrix_form.specs.Shape.{matrix_of};
 
 use branching::tree::Tree;
 use matrix_form::refusal::Refusal;
@@ -17,7 +18,7 @@ pub fn place_in(
     m: usize,
     b: usize,
 ) -> Result<Placement, Refusal>
-    ensures { PlacementKept matrix.old matrix.new weights.now n m tree.old tree.new b result }
+    ensures { PlacementKept (matrix_of matrix.old weights.now) matrix.new n m tree.old tree.new b result }
 {
     let placed = tree
         .place(matrix, weights, n, m, b)

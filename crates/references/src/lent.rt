@@ -1,5 +1,6 @@
 // The fit of a branching that is lent as a list of branch records.
 ghost use Rattle.fit_form.specs.Handing.{FitAnswer};
+ghost use Rattle.matrix.specs.Lent.{lent_lists};
 
 use fit_form::whole::Fit;
 use fitting::calls::fit;
@@ -18,7 +19,7 @@ pub fn fit_lent(
     high: &mut [i32],
     chosen: &mut [i32],
 ) -> Result<Fit, Refusal>
-    ensures { FitAnswer lent.now.matrix.now lent.now.weights.now lent.now.n lent.now.m records.now
+    ensures { FitAnswer (lent_lists lent.now) lent.now.n lent.now.m records.now
         low.old low.new high.old high.new chosen.old chosen.new result }
 {
     let Ok(whole) = <&[Branch; BRANCHES]>::try_from(records) else {

@@ -19,9 +19,9 @@ use Rattle.tree_form.specs.Ancestors.{ancestor, descendants}
 use Rattle.tree_form.specs.Nodes.{has_ancestor, in_tree, nodes_in, other_nodes, taxa_placed}
 use Rattle.tree_form.specs.Growing.{descendant_count, descendants_wanted, climbs, row_one_alone, nodes_only, htus_in, ancestors_in}
 use Rattle.tree_form.specs.Growing.{descendants_right, all_climb, grown, growing_tree}
-use Rattle.tree_form.specs.Hanging.{no_branches, linked, hung, next_htu}
+use Rattle.tree_form.specs.Hanging.{only_row_one, linked, hung, next_htu}
 use Rattle.tree_form.specs.Branches.{tree_length}
-use Rattle.tree_form.specs.RowLengths.{node_interval, length_under}
+use Rattle.tree_form.specs.RowLengths.{length_under}
 use Rattle.tree_form.specs.Placing.{median_row, from_interval, nearest_interval, link_first, hang, place_on, place}
 use Rattle.tree_form.specs.Rival.{hung_length}
 use Rattle.rivals.specs.Accepted.{HandedIn}
@@ -38,11 +38,11 @@ rows =
 
 -- D alone is linked to A
 abbrev two : List ℕ
-two = set no_branches 4 1
+two = set only_row_one 4 1
 
 -- then B is hung on D through #1
 abbrev three : List ℕ
-three = set (set (set no_branches 4 6) 2 6) 6 1
+three = set (set (set only_row_one 4 6) 2 6) 6 1
 
 -- then C on #1 through #2
 abbrev four : List ℕ
@@ -58,19 +58,19 @@ second = pos 0 ∷ pos 0 ∷ pos 0 ∷ []
 
 -- the tree of two taxa is handed in, without HTUs
 pub handed_two : HandedIn 5 3 two []
-unfolding no_branches numbers keep every last_node ancestor descendants has_ancestor in_tree nodes_in other_nodes taxa_placed descendant_count
+unfolding only_row_one numbers keep every last_node ancestor descendants has_ancestor in_tree nodes_in other_nodes taxa_placed descendant_count
     descendants_wanted climbs row_one_alone nodes_only htus_in ancestors_in descendants_right all_climb grown growing_tree has_codes all_in_range
     in_range
 handed_two =
-    record { places = refl; growing = refl; count = refl; codes = record { full = refl; known = refl }; intervals = refl }
+    record { sized = refl; growing = refl; count = refl; codes = record { full = refl; known = refl }; intervals = refl }
 
 -- the tree of four taxa with the rows of its two HTUs
 pub handed_four : HandedIn 5 3 four (first ∷ second ∷ [])
-unfolding no_branches numbers keep every last_node ancestor descendants has_ancestor in_tree nodes_in other_nodes taxa_placed descendant_count
+unfolding only_row_one numbers keep every last_node ancestor descendants has_ancestor in_tree nodes_in other_nodes taxa_placed descendant_count
     descendants_wanted climbs row_one_alone nodes_only htus_in ancestors_in descendants_right all_climb grown growing_tree has_codes all_in_range
     in_range
 handed_four =
-    record { places = refl; growing = refl; count = refl; codes = record { full = refl; known = refl }; intervals = refl }
+    record { sized = refl; growing = refl; count = refl; codes = record { full = refl; known = refl }; intervals = refl }
 
 -- all characters weigh 1
 abbrev alike : List ℕ
@@ -78,14 +78,14 @@ alike = 1 ∷ 1 ∷ 1 ∷ []
 
 -- our placement of a taxon on a tree, with the rows of its HTUs
 unfoldable pub placement : List ℕ → List (List ℤ) → ℕ → Placement
-unfolding no_branches numbers keep last_node ancestor has_ancestor in_tree nodes_in other_nodes taxa_placed apart lower higher median medians
-    part weight_at difference interval_by node_difference node_interval median_row from_interval first_least least_of nearest_interval link_first hang place_on place
+unfolding only_row_one numbers keep last_node ancestor has_ancestor in_tree nodes_in other_nodes taxa_placed apart lower higher median medians
+    part weight_at difference interval_by node_difference median_row from_interval first_least least_of nearest_interval link_first hang place_on place
     linked hung next_htu row_of
-placement tree htus b = (place (difference alike) 5 tree (rows ++ htus) b).placement
+placement tree htus b = (place (difference alike) (row_of (rows ++ htus)) 5 tree b).placement
 
 -- the length with E hung on the interval of a node through an HTU with some codes
 unfoldable pub length_with : ℕ → List ℤ → ℕ
-unfolding no_branches numbers keep ancestor has_ancestor in_tree nodes_in other_nodes taxa_placed apart part weight_at difference node_difference tree_length
+unfolding only_row_one numbers keep ancestor has_ancestor in_tree nodes_in other_nodes taxa_placed apart part weight_at difference node_difference tree_length
     length_under hung next_htu hung_length sum_over row_of
 length_with c r = hung_length (difference alike) 5 four (rows ++ (first ∷ second ∷ [])) 5 c r
 

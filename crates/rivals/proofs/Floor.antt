@@ -20,6 +20,7 @@ use Rattle.consistency_form.proofs.Division.{quotient_most}
 use Rattle.rivals.specs.Accepted.{Accepted, file_read, matrix_lent}
 use Rattle.rivals.proofs.Rows.{accepted_rows}
 use Rattle.rivals.proofs.Demand.{taxa-limits}
+use Rattle.matrix_form.specs.Shape.{MatrixLists}
 
 module _ (n m : ℕ) (weights : List ℕ) (rows : List (List ℤ)) (matrix : Accepted n m weights rows) where
   -- no total of any branching of the taxa and any assignment is below the floor
@@ -46,6 +47,6 @@ pub floor_of_every_file : (file : List ℕ) (job : Job) → read_answer file ≡
 floor_of_every_file file job e = floor_lowest job.n job.m job.weights job.rows (file_read file job e)
 
 -- for every lent matrix that passes 12, 4, 16 and the taxa's 10
-pub floor_of_every_lent_matrix : (codes : List ℤ) (weights : List ℕ) (n m : ℕ) → ask_matrix codes weights n m ≡ Ok tt
-    → FloorNeverPasses (weighing weights).step (rows_of codes m n) n m
-floor_of_every_lent_matrix codes weights n m e = floor_lowest n m weights (rows_of codes m n) (matrix_lent codes weights n m e)
+pub floor_of_every_lent_matrix : (lists : MatrixLists) (n m : ℕ) → ask_matrix lists n m ≡ Ok tt
+    → FloorNeverPasses (weighing lists.weights).step (rows_of lists.codes m n) n m
+floor_of_every_lent_matrix lists n m e = floor_lowest n m lists.weights (rows_of lists.codes m n) (matrix_lent lists n m e)

@@ -4,12 +4,12 @@ use mathlib.Core.Path.{◌≡◌, refl, sym, ◌∙◌}
 use mathlib.Core.Logic.{◌↔◌, ◌⊎◌, inl, inr}
 use mathlib.Core.Bool.{true}
 use mathlib.Core.List.{List, ◌∷◌, ◌++◌}
-use Prim.Native.Nat.{ℕ, ◌+◌, ◌≤◌}
+use Prim.Native.Nat.{ℕ, ◌+◌, ◌-◌, ◌*◌, ◌≤◌, ◌<◌}
 use native.Mathlib.Omega.{arith}
 use lib.IntN.{ℤ}
 use lib.ListN.{length, drop}
 use Rattle.std.specs.Prelude.{Ok}
-use Rattle.matrix_form.specs.Shape.{last_node}
+use Rattle.matrix_form.specs.Shape.{last_node, MatrixLists}
 use Rattle.matrix_form.specs.NodeRows.{row_of, rows_of}
 use Rattle.matrix_form.specs.Questions.{ask_matrix}
 use Rattle.file_form.specs.Job.{Job}
@@ -22,7 +22,7 @@ use Rattle.tree_form.specs.declared.placement.Placement.{Placement}
 use Rattle.tree_form.specs.Ancestors.{ancestor}
 use Rattle.tree_form.specs.Nodes.{Unplaced}
 use Rattle.tree_form.specs.Growing.{branching}
-use Rattle.tree_form.specs.Hanging.{no_branches, linked}
+use Rattle.tree_form.specs.Hanging.{only_row_one, linked}
 use Rattle.tree_form.specs.RowLengths.{length_under}
 use Rattle.tree_form.specs.Placing.{place}
 use Rattle.tree_form.specs.Rival.{hung_length}
@@ -31,7 +31,7 @@ use Rattle.tree_form.specs.declared.order.Order.TheVariants.{Closest}
 use Rattle.wagner_form.specs.Build.{Built, wagner}
 use Rattle.fit_form.specs.Sets.{In}
 use Rattle.fit_form.specs.Assignments.{character, IsAssignment, IsLeast, Occurs, total}
-use Rattle.fit_form.specs.Fit.{chosen_state, range, fitted_total}
+use Rattle.fit_form.specs.Fit.{chosen_state, range, fitted_length, fitted_total, marked}
 use Rattle.rivals.specs.Accepted.{Accepted, file_read, matrix_lent, HandedIn}
 use Rattle.rivals.specs.Demand.{NoRivalDoesBetter, EachIsLeast, more, BuildIsLeast, one_taxon, several_taxa}
 use Rattle.rivals.proofs.Demand.{no_rival}
@@ -42,9 +42,9 @@ pub for_every_file : (file : List ℕ) (job : Job) → read_answer file ≡ valu
 for_every_file file job e = no_rival job.n job.m job.weights job.rows (file_read file job e)
 
 -- for every lent matrix that passes 12, 4, 16 and the taxa's 10
-pub for_every_lent_matrix : (codes : List ℤ) (weights : List ℕ) (n m : ℕ) → ask_matrix codes weights n m ≡ Ok tt
-    → NoRivalDoesBetter (weighing weights) n m (rows_of codes m n)
-for_every_lent_matrix codes weights n m e = no_rival n m weights (rows_of codes m n) (matrix_lent codes weights n m e)
+pub for_every_lent_matrix : (lists : MatrixLists) (n m : ℕ) → ask_matrix lists n m ≡ Ok tt
+    → NoRivalDoesBetter (weighing lists.weights) n m (rows_of lists.codes m n)
+for_every_lent_matrix lists n m e = no_rival n m lists.weights (rows_of lists.codes m n) (matrix_lent lists n m e)
 
 -- of placements in turn in the order `closest`, the next one adds no more than any taxon that is not placed, hung on any interval through
 -- an HTU with any m whole numbers
@@ -56,7 +56,7 @@ no_taxon_adds_less (more taxon placed chosen least closest others) = (closest re
 
 -- a build in the order `closest` is of one taxon, or it is a first link and then placements in turn
 first_and_later : {d : List ℤ → List ℤ → ℕ} {n m : ℕ} {rows : List (List ℤ)} {built : Built} → BuildIsLeast Closest d n m rows built
-    → (n ≡ 1) ⊎ ((b : ℕ) × EachIsLeast Closest d n m (linked no_branches b) rows (drop 1 built.placements)
+    → (n ≡ 1) ⊎ ((b : ℕ) × EachIsLeast Closest d n m (linked only_row_one b) rows (drop 1 built.placements)
     built.tree built.rows)
 first_and_later (one_taxon one) = inl one
 first_and_later (several_taxa b chosen each) = inr (b, each)
@@ -82,13 +82,14 @@ module _ (n m : ℕ) (weights : List ℕ) (rows : List (List ℤ)) (matrix : Acc
   module _ (tree : List ℕ) (htus : List (List ℤ)) (handed : HandedIn n m tree htus) (b : ℕ) (unplaced : Unplaced n tree b) where
     -- our placement adds its interval difference to the length of the tree
     pub our_placement_adds :
-        length_under (difference weights) n (place (difference weights) n tree (rows ++ htus) b).tree (place (difference weights) n tree (rows ++ htus) b).rows
-        ≡ length_under (difference weights) n tree (rows ++ htus) + (place (difference weights) n tree (rows ++ htus) b).placement.added
+        length_under (difference weights) n (place (difference weights) (row_of (rows ++ htus)) n tree b).tree
+        ((rows ++ htus) ++ (place (difference weights) (row_of (rows ++ htus)) n tree b).made)
+        ≡ length_under (difference weights) n tree (rows ++ htus) + (place (difference weights) (row_of (rows ++ htus)) n tree b).placement.added
     our_placement_adds = (claim.placement tree htus handed b unplaced).adds
 
     -- no hanging of the taxon on any interval through an HTU with any m whole numbers adds less
     pub no_hanging_adds_less : (c : ℕ) → 1 ≤ ancestor tree c → (r : List ℤ) → length r ≡ m
-        → length_under (difference weights) n tree (rows ++ htus) + (place (difference weights) n tree (rows ++ htus) b).placement.added
+        → length_under (difference weights) n tree (rows ++ htus) + (place (difference weights) (row_of (rows ++ htus)) n tree b).placement.added
         ≤ hung_length (difference weights) n tree (rows ++ htus) b c r
     no_hanging_adds_less = (claim.placement tree htus handed b unplaced).least
 
@@ -100,7 +101,7 @@ module _ (n m : ℕ) (weights : List ℕ) (rows : List (List ℤ)) (matrix : Acc
   pub our_closest_build :
       (n ≡ 1)
       ⊎ ((b : ℕ)
-      × EachIsLeast Closest (difference weights) n m (linked no_branches b) rows (drop 1 (wagner (difference weights) Closest n rows).placements)
+      × EachIsLeast Closest (difference weights) n m (linked only_row_one b) rows (drop 1 (wagner (difference weights) Closest n rows).placements)
       (wagner (difference weights) Closest n rows).tree (wagner (difference weights) Closest n rows).rows)
   our_closest_build = first_and_later (claim.build Closest)
 
@@ -136,3 +137,9 @@ module _ (n m : ℕ) (weights : List ℕ) (rows : List (List ℤ)) (matrix : Acc
             here = our_states_least.assigns.keeps v j p q r l ∙ sym e;
           }),
         )
+
+    -- the branch of a node has the mark `+` exactly if its length under our chosen states is above 0
+    pub mark_above_zero : (v : ℕ) → 2 ≤ v → v ≤ 2 * n - 2
+        → (marked (weighing weights).step tree rows n m v ≡ true) ↔ (0 < fitted_length (weighing weights).step tree rows n m v)
+    unfolding fitted_length
+    mark_above_zero v first last = ((claim.fit tree whole).marks v first last).plus

@@ -3,6 +3,7 @@ pub mod Rows
 pub mod Placements
 pub mod Demand
 pub mod Floor
+pub mod Branches
 pub mod Own
 pub mod Lent
 pub mod Reading

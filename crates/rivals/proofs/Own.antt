@@ -9,7 +9,7 @@ use Rattle.matrix_form.specs.Outcomes.{value}
 use Rattle.file_form.specs.Job.{Job, JobWithinLimits}
 use Rattle.file_form.specs.Branches.{branch_count, branched}
 use Rattle.file_form.specs.Reading.{read_answer}
-use Rattle.file_form.specs.Report.{ReadDone}
+use Rattle.file_form.specs.Calls.{ReadDone}
 use Rattle.file_form.specs.Written.{LentLists}
 use Rattle.file_form.specs.declared.header.Header.{Header}
 use Rattle.file_form.specs.declared.header.Kind.TheVariants.{Own}

@@ -1,22 +1,23 @@
 -- Placements on trees handed in, and those of our own build.
 use mathlib.Core.Path.{◌≡◌, sym, ◌∙◌}
 use mathlib.Core.Bool.{false, true≢false}
-use mathlib.Core.List.{List, ◌++◌}
+use mathlib.Core.List.{List, ◌++◌, append-nil}
 use Prim.Native.Nat.{ℕ, zero, suc, ◌+◌, ◌-◌, ◌≤◌}
 use native.Mathlib.Omega.{arith}
 use lib.IntN.{ℤ}
 use lib.ListN.{length, length-append}
+use Rattle.matrix_form.specs.NodeRows.{row_of}
 use Rattle.lists.specs.Numbers.{numbers}
 use Rattle.lists.proofs.Least.{least_of_le}
 use Rattle.difference_form.specs.Rows.{difference}
 use Rattle.tree_form.specs.Growing.{row_one_alone}
 use Rattle.tree_form.specs.Facts.{GrowingTree, alone, several, Grown}
 use Rattle.tree_form.specs.Nodes.{nodes_out, Unplaced, taxa_placed}
-use Rattle.tree_form.specs.Hanging.{no_branches}
-use Rattle.tree_form.proofs.Nodes.{no_branches-none, no_branches-places}
+use Rattle.tree_form.specs.Hanging.{only_row_one}
+use Rattle.tree_form.proofs.Nodes.{only_row_one-none, only_row_one-size}
 use Rattle.tree_form.proofs.Test.{alone_iff, growing-fact, growing-placed}
 use Rattle.tree_form.specs.Placing.{link_first, place}
-use Rattle.tree_form.proofs.Placing.{place-first}
+use Rattle.tree_form.proofs.Placing.{made-first, place-first}
 use Rattle.tree_form.specs.Ancestors.{ancestor}
 use Rattle.tree_form.specs.RowLengths.{length_under}
 use Rattle.tree_form.specs.Rival.{hung_length, PlacementIsLeast}
@@ -47,7 +48,7 @@ has_several more-than-row-1 (several g) = g.at_least_two
 module _ (weights : List ℕ) (n m : ℕ) (taxa : 1 ≤ n) (most : n ≤ 64) where
   -- a growing tree of at least two taxa, with a row for each node: a placement on it is least
   growth_least : (k : ℕ) (tree : List ℕ) (rows : List (List ℤ)) → Growth n m k tree rows → 2 ≤ k → (b : ℕ) → Unplaced n tree b
-      → PlacementIsLeast (difference weights) n m tree rows b (place (difference weights) n tree rows b)
+      → PlacementIsLeast (difference weights) n m tree rows b (place (difference weights) (row_of rows) n tree b)
   growth_least k tree rows g two b u =
       let full : length rows ≡ n + k - 2 = omega (arith, g.full) in
       placement-least weights n m k tree rows (several_of two g.growing) g.room full g.each b u
@@ -58,7 +59,7 @@ module _ (weights : List ℕ) (n m : ℕ) (taxa : 1 ≤ n) (most : n ≤ 64) whe
   handed_growth rows a tree htus h =
       record {
         growing = growing-fact tree n taxa h.growing;
-        room = omega (arith, h.places);
+        room = omega (arith, h.sized);
         full = omega (arith, length-append rows htus, a.count, h.count);
         each = rows_sized m (rows ++ htus) (rows_append m rows htus a.codes h.codes);
       }
@@ -66,22 +67,22 @@ module _ (weights : List ℕ) (n m : ℕ) (taxa : 1 ≤ n) (most : n ≤ 64) whe
   -- so a placement on a tree handed in is least
   pub handed-least : (rows : List (List ℤ)) → MatrixRows n m weights rows → (tree : List ℕ) (htus : List (List ℤ)) → HandedIn n m tree htus
       → (b : ℕ) → Unplaced n tree b
-      → PlacementIsLeast (difference weights) n m tree (rows ++ htus) b (place (difference weights) n tree (rows ++ htus) b)
+      → PlacementIsLeast (difference weights) n m tree (rows ++ htus) b (place (difference weights) (row_of (rows ++ htus)) n tree b)
   handed-least rows a tree htus h b u =
       let growth = handed_growth rows a tree htus h in
       growth_least _ tree (rows ++ htus) growth (has_several h.intervals growth.growing) b u
 
   -- by closeness, no hanging of any taxon that is not placed adds less than the placement of the next one
   closest_least : (k : ℕ) (tree : List ℕ) (rows : List (List ℤ)) → Growth n m k tree rows → 2 ≤ k
-      → NoTaxonAddsLess (difference weights) n m tree rows (place (difference weights) n tree rows (by_closeness (difference weights) n tree rows))
+      → NoTaxonAddsLess (difference weights) n m tree rows (place (difference weights) (row_of rows) n tree (by_closeness (difference weights) n tree rows))
   closest_least k tree rows g two = record { least = λ b u c inside r long. least b u c inside r long }
     where
       least : (b : ℕ) → Unplaced n tree b → (c : ℕ) → 1 ≤ ancestor tree c → (r : List ℤ) → length r ≡ m
-          → length_under (difference weights) n tree rows + (place (difference weights) n tree rows (by_closeness (difference weights) n tree rows)).placement.added
+          → length_under (difference weights) n tree rows + (place (difference weights) (row_of rows) n tree (by_closeness (difference weights) n tree rows)).placement.added
           ≤ hung_length (difference weights) n tree rows b c r
       least b u c inside r long =
-          let next : (place (difference weights) n tree rows (by_closeness (difference weights) n tree rows)).placement.added
-          ≤ (place (difference weights) n tree rows b).placement.added =
+          let next : (place (difference weights) (row_of rows) n tree (by_closeness (difference weights) n tree rows)).placement.added
+          ≤ (place (difference weights) (row_of rows) n tree b).placement.added =
           rw (closeness_least (difference weights) n tree rows)
           (least_of_le (adds (difference weights) n tree rows) (nodes_out tree (numbers 1 n)) b (taxon-unplaced n tree b u)) in
           omega (arith, next, (growth_least k tree rows g two b u).least c inside r long)
@@ -93,7 +94,7 @@ module _ (weights : List ℕ) (n m : ℕ) (taxa : 1 ≤ n) (most : n ≤ 64) whe
 
     -- in the order `closest`, none adds less than its placement
     next-least : (k : ℕ) (tree : List ℕ) (rows : List (List ℤ)) → Growth n m k tree rows → 2 ≤ k → order ≡ Closest
-        → NoTaxonAddsLess (difference weights) n m tree rows (place (difference weights) n tree rows (next n tree rows))
+        → NoTaxonAddsLess (difference weights) n m tree rows (place (difference weights) (row_of rows) n tree (next n tree rows))
     unfolding next_by
     next-least k tree rows g two is = rw is (closest_least k tree rows g two)
 
@@ -109,31 +110,32 @@ module _ (weights : List ℕ) (n m : ℕ) (taxa : 1 ≤ n) (most : n ≤ 64) whe
         let b : ℕ = next n tree rows in
         let chosen : Unplaced n tree b =
         order_chooses (difference weights) order n tree rows (omega (arith, growing-placed tree n taxa g.growing)) in
-        more b (place (difference weights) n tree rows b) chosen (growth_least k tree rows g two b chosen) (next-least k tree rows g two)
+        more b (place (difference weights) (row_of rows) n tree b) chosen (growth_least k tree rows g two b chosen) (next-least k tree rows g two)
         (each-least count (suc k) _ _ (place_growth (difference weights) n m k tree rows g (difference_laws weights m) b chosen) (omega arith) (omega arith))
 
     -- a whole build, so many placements from row 1 alone
-    build_least : (count : ℕ) (rows : List (List ℤ)) → Growth n m 1 no_branches rows → count + 1 ≡ n
-        → BuildIsLeast order (difference weights) n m rows (build_on (difference weights) next n count no_branches rows)
+    build_least : (count : ℕ) (rows : List (List ℤ)) → Growth n m 1 only_row_one rows → count + 1 ≡ n
+        → BuildIsLeast order (difference weights) n m rows (build_on (difference weights) next n count only_row_one rows)
     unfolding build_on link_first
     build_least zero rows g e = one_taxon (sym e)
     build_least (suc count) rows g e =
-        let b : ℕ = next n no_branches rows in
-        let chosen : Unplaced n no_branches b =
-        order_chooses (difference weights) order n no_branches rows (omega (arith, growing-placed no_branches n taxa g.growing)) in
-        let first = place-first (difference weights) n no_branches rows b no_branches-none in
-        let after = rw first at (place_growth (difference weights) n m 1 no_branches rows g (difference_laws weights m) b chosen) in
-        rw first (several_taxa b chosen (each-least count 2 _ _ after (omega arith) (omega arith)))
+        let b : ℕ = next n only_row_one rows in
+        let chosen : Unplaced n only_row_one b =
+        order_chooses (difference weights) order n only_row_one rows (omega (arith, growing-placed only_row_one n taxa g.growing)) in
+        let first = place-first (difference weights) n only_row_one (row_of rows) b only_row_one-none in
+        let none = made-first (difference weights) n only_row_one (row_of rows) b only_row_one-none in
+        let after = rw (none, append-nil rows, first) at (place_growth (difference weights) n m 1 only_row_one rows g (difference_laws weights m) b chosen) in
+        rw (none, append-nil rows, first) (several_taxa b chosen (each-least count 2 _ _ after (omega arith) (omega arith)))
 
     -- the build of the Wagner tree
     pub wagner-least : (rows : List (List ℤ)) → MatrixRows n m weights rows
         → BuildIsLeast order (difference weights) n m rows (wagner (difference weights) order n rows)
     unfolding wagner build
     wagner-least rows a =
-        let start : Growth n m 1 no_branches rows =
+        let start : Growth n m 1 only_row_one rows =
         record {
-          growing = alone no_branches-none;
-          room = rw no_branches-places (omega arith);
+          growing = alone only_row_one-none;
+          room = rw only_row_one-size (omega arith);
           full = omega (arith, a.count);
           each = rows_sized m rows a.codes;
         } in

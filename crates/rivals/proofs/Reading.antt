@@ -15,7 +15,7 @@ use Rattle.matrix_form.specs.Shape.{matrix_size, columns, weight_at}
 use Rattle.matrix_form.proofs.Passing.{matrix_passes}
 use Rattle.file_form.specs.Job.{Job, JobWithinLimits}
 use Rattle.file_form.specs.declared.header.Header.{Header}
-use Rattle.file_form.specs.Report.{ReadDone}
+use Rattle.file_form.specs.Calls.{ReadDone}
 use Rattle.file_form.specs.Written.{matrix_written, weights_written, LentLists}
 use Rattle.file_form.specs.declared.answer.Refused.{Refused}
 use Rattle.std.specs.Prelude.{Result, Ok}
@@ -75,7 +75,7 @@ no_rival_read file old new r header done e =
     let job = accepting.job in
     let lent = job_lent job accepting.within old.matrix accepting.sizes.0 in
     let weighed = job_weighed job accepting.within old.weights accepting.sizes.1 in
-    let claim = no_rival _ _ _ _ (matrix_lent _ _ _ _ ((matrix_passes _ _ _ _).1 (lent, weighed))) in
+    let claim = no_rival _ _ _ _ (matrix_lent _ _ _ ((matrix_passes _ _ _).1 (lent, weighed))) in
     subst (λ (said : Header). NoRivalDoesBetter (weighing new.weights) said.n said.m (rows_of new.matrix said.m said.n))
     accepting.says
     (subst⁻¹

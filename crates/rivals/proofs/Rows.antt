@@ -13,7 +13,7 @@ use Rattle.matrix_form.proofs.NodeRows.{row_of-rows_of, length-rows_of}
 use Rattle.tree_form.proofs.RowLengths.{OfLength}
 use Rattle.matrix_form.specs.NodeRows.{row_of, rows_of}
 use Rattle.lists.specs.Tests.{every}
-use Rattle.matrix_form.specs.Shape.{row, is_weight}
+use Rattle.matrix_form.specs.Shape.{row, is_weight, MatrixLists}
 use Rattle.matrix_form.specs.Questions.{within_limits, all_in_range, are_weights, ask_matrix, LentMatrix}
 use Rattle.lists.proofs.Both.{and_both}
 use Rattle.lists.proofs.Every.{every_at, every-from, every_append}
@@ -56,7 +56,7 @@ rows_read file job e =
       codes = record { full = within.rows_full; known = within.codes_in_range };
     }
 
--- the rows of nodes 1 to n, place by place
+-- the rows of nodes 1 to n, entry by entry
 pub row_at : (codes : List ℤ) (m n i : ℕ) → i < n → get_or (rows_of codes m n) i [] ≡ row codes m (i + 1)
 unfolding row_of
 row_at codes m n i h =
@@ -66,34 +66,34 @@ row_at codes m n i h =
 -- a test that each of rows 1 to n passes, the rows of these nodes pass
 rows-from : (test : List ℤ → Bool) (codes : List ℤ) (m n : ℕ) → ((v : ℕ) → 1 ≤ v → v ≤ n → test (row codes m v) ≡ true)
     → every test (rows_of codes m n) ≡ true
-rows-from test codes m n h = every-from test [] (rows_of codes m n) at_place
+rows-from test codes m n h = every-from test [] (rows_of codes m n) at_index
   where
-    at_place : (i : ℕ) → i < length (rows_of codes m n) → test (get_or (rows_of codes m n) i []) ≡ true
-    at_place i below =
+    at_index : (i : ℕ) → i < length (rows_of codes m n) → test (get_or (rows_of codes m n) i []) ≡ true
+    at_index i below =
         let small : i < n = omega (arith, length-rows_of codes m n) in
         rw (row_at codes m n i small) (h (i + 1) (omega arith) (omega arith))
 
 -- and those of a lent matrix that passes its questions
-rows-lent : (codes : List ℤ) (weights : List ℕ) (n m : ℕ) → ask_matrix codes weights n m ≡ Ok tt
-    → MatrixRows n m weights (rows_of codes m n)
+rows-lent : (lists : MatrixLists) (n m : ℕ) → ask_matrix lists n m ≡ Ok tt
+    → MatrixRows n m lists.weights (rows_of lists.codes m n)
 unfolding within_limits has_codes
-rows-lent codes weights n m e =
-    let lent = matrix_passed codes weights n m e in
+rows-lent lists n m e =
+    let lent = matrix_passed lists n m e in
     record {
-      weighed = (weights_passed codes weights n m e).known;
+      weighed = (weights_passed lists n m e).known;
       limits = and_both (true-one_to 64 n lent.taxon lent.taxa) (true-one_to 128 m lent.character lent.characters);
-      count = length-rows_of codes m n;
+      count = length-rows_of lists.codes m n;
       codes = record {
-        full = rows-from (has_codes m) codes m n (full lent);
-        known = rows-from all_in_range codes m n lent.known;
+        full = rows-from (has_codes m) lists.codes m n (full lent);
+        known = rows-from all_in_range lists.codes m n lent.known;
       };
     }
   where
-    full : LentMatrix codes n m → (v : ℕ) → 1 ≤ v → v ≤ n → has_codes m (row codes m v) ≡ true
+    full : LentMatrix lists.codes n m → (v : ℕ) → 1 ≤ v → v ≤ n → has_codes m (row lists.codes m v) ≡ true
     full lent v low high =
-        eq-eqb _ _ (row-length codes m v lent.full lent.characters low (omega (arith, lent.taxa)))
+        eq-eqb _ _ (row-length lists.codes m v lent.full lent.characters low (omega (arith, lent.taxa)))
 
 -- an accepted matrix has n rows of m codes within the limits, and m weights
 pub accepted_rows : {n m : ℕ} {weights : List ℕ} {rows : List (List ℤ)} → Accepted n m weights rows → MatrixRows n m weights rows
 accepted_rows (file_read file job e) = rows_read file job e
-accepted_rows (matrix_lent codes weights n m e) = rows-lent codes weights n m e
+accepted_rows (matrix_lent lists n m e) = rows-lent lists n m e

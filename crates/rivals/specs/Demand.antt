@@ -8,7 +8,7 @@ use Rattle.tree_form.specs.declared.branch.Branch.{Branch}
 use Rattle.tree_form.specs.Ancestors.{ancestor}
 use Rattle.tree_form.specs.Growing.{branching}
 use Rattle.tree_form.specs.Nodes.{Unplaced}
-use Rattle.tree_form.specs.Hanging.{no_branches, linked}
+use Rattle.tree_form.specs.Hanging.{only_row_one, linked}
 use Rattle.tree_form.specs.Branches.{lent_branching, ancestors_of}
 use Rattle.tree_form.specs.RowLengths.{length_under}
 use Rattle.tree_form.specs.Placing.{AfterPlacing, link_first, place}
@@ -33,16 +33,16 @@ pub data EachIsLeast (order : Order) (d : List ℤ → List ℤ → ℕ) (n m : 
   more : {tree last : List ℕ} {rows last_rows : List (List ℤ)} {placements : List Placement} (b : ℕ) (placed : AfterPlacing)
       → Unplaced n tree b → PlacementIsLeast d n m tree rows b placed
       → (order ≡ Closest → NoTaxonAddsLess d n m tree rows placed)
-      → EachIsLeast order d n m placed.tree placed.rows placements last last_rows
+      → EachIsLeast order d n m placed.tree (rows ++ placed.made) placements last last_rows
       → EachIsLeast order d n m tree rows (placed.placement ∷ placements) last last_rows
 
 -- a build from row 1 alone: no placement for n = 1; else a taxon is linked to row 1, and each placement after it is least
 pub data BuildIsLeast (order : Order) (d : List ℤ → List ℤ → ℕ) (n m : ℕ) (rows : List (List ℤ)) : Built → Type 0 where
-  one_taxon : n ≡ 1 → BuildIsLeast order d n m rows (record { tree = no_branches; rows = rows; placements = [] })
-  several_taxa : {last : List ℕ} {last_rows : List (List ℤ)} {placements : List Placement} (b : ℕ) → Unplaced n no_branches b
-      → EachIsLeast order d n m (linked no_branches b) rows placements last last_rows
+  one_taxon : n ≡ 1 → BuildIsLeast order d n m rows (record { tree = only_row_one; rows = rows; placements = [] })
+  several_taxa : {last : List ℕ} {last_rows : List (List ℤ)} {placements : List Placement} (b : ℕ) → Unplaced n only_row_one b
+      → EachIsLeast order d n m (linked only_row_one b) rows placements last last_rows
       → BuildIsLeast order d n m rows
-      (record { tree = last; rows = last_rows; placements = (link_first d no_branches rows b).placement ∷ placements })
+      (record { tree = last; rows = last_rows; placements = (link_first d (row_of rows) only_row_one b).placement ∷ placements })
 
 -- ours against the three rivals, as change is measured, for a matrix of n taxa and m characters with these rows
 pub record NoRivalDoesBetter (measure : Measure) (n m : ℕ) (rows : List (List ℤ)) : Type 0 where
@@ -50,12 +50,13 @@ pub record NoRivalDoesBetter (measure : Measure) (n m : ℕ) (rows : List (List 
   pub network : Shortest (node_difference measure.rows (row_of rows)) n
   -- our placement of a taxon on a tree handed in is a hanging on one of its intervals, adds its interval difference, and none adds less
   pub placement : (tree : List ℕ) (htus : List (List ℤ)) → HandedIn n m tree htus → (b : ℕ) → Unplaced n tree b
-      → PlacementIsLeast measure.rows n m tree (rows ++ htus) b (place measure.rows n tree (rows ++ htus) b)
+      → PlacementIsLeast measure.rows n m tree (rows ++ htus) b (place measure.rows (row_of (rows ++ htus)) n tree b)
   -- so is each placement of our Wagner tree, in either order of placing, and in the order `closest` no hanging of any taxon that is not
   -- placed adds less; the tree is a branching of all n taxa
   pub build : (order : Order) → BuildIsLeast order measure.rows n m rows (wagner measure.rows order n rows)
   pub whole : (order : Order) → branching n (wagner measure.rows order n rows).tree ≡ true
-  -- on any branching our chosen states have the least total, and a range has exactly the states of assignments of least length
+  -- on any branching our chosen states have the least total, a range has exactly the states of assignments of least length, and a mark
+  -- means what a mark says
   pub fit : (tree : List ℕ) → branching n tree ≡ true → FitIsLeast measure.step tree rows n m
   -- a branching may be lent as branch records
   pub lent_fit : (records : List Branch) → lent_branching n records ≡ true → FitIsLeast measure.step (ancestors_of n records) rows n m

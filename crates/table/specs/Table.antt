@@ -6,7 +6,7 @@ use Prim.Native.String.{String}
 use Rattle.file_form.specs.Text.{bytes}
 use Rattle.difference_form.specs.Rows.{difference, median, interval_difference}
 use Rattle.fit_form.specs.Sets.{join}
-use Rattle.fit_form.specs.declared.spans.Span.{Span}
+use Rattle.matrix_form.specs.declared.spans.Span.{Span}
 use Rattle.listing_form.specs.Listing.{output}
 
 -- the set of the states from a to b

@@ -69,7 +69,7 @@ tree_length_sum d n tree =
     (λ (t : Bool). pick (t || leb 1 (ancestor tree v)) (d v (ancestor tree v)))
     (ne_eqb v 1 (λ e. omega (arith, numbers-within 2 (2 * n - 3) v m))))
 
--- taxon b, the lower end c and the new node y are three places of the tree, none of them node 1
+-- taxon b, the lower end c and the new node y are three entries of the tree, none of them node 1
 pub record Joint (n : ℕ) (tree : List ℕ) (b c y : ℕ) : Type 0 where
   pub taxon : (b < length tree) × (2 ≤ b) × (b ≤ 2 * n - 2)
   pub lower : (c < length tree) × (2 ≤ c) × (c ≤ 2 * n - 2)

@@ -13,13 +13,14 @@ use Rattle.lists.specs.Filters.{keep}
 use Rattle.tree_form.specs.Nodes.{has_ancestor, in_tree, nodes_in, other_nodes, taxa_placed}
 use Rattle.tree_form.specs.Growing.{descendant_count, descendants_wanted, climbs, row_one_alone, nodes_only, htus_in, ancestors_in}
 use Rattle.tree_form.specs.Growing.{descendants_right, all_climb, grown, growing_tree, branching}
+use Rattle.lists.specs.Filled.{filled}
 use Rattle.tree_form.specs.Branches.{branches_read, ancestors_of, named_in_order, lent_branching}
 
 -- whether a list of ancestors is a growing tree of four taxa
 growing : List ℕ → Bool
 unfolding numbers last_node ancestor descendants has_ancestor in_tree keep nodes_in other_nodes taxa_placed every descendant_count
     descendants_wanted climbs row_one_alone nodes_only htus_in ancestors_in descendants_right all_climb grown growing_tree branching
-    branches_read ancestors_of same_numbers named_in_order lent_branching
+    branches_read ancestors_of filled same_numbers named_in_order lent_branching
 growing tree = growing_tree 4 tree
 
 -- growing trees of four taxa: row 1 alone; a link to row 1; three taxa with one HTU; all four with two HTUs

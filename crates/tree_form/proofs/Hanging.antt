@@ -46,7 +46,7 @@ module _ (n k : ℕ) (tree : List ℕ) (g : Grown n k tree) (room : 2 * n - 2 < 
   pub htu_out : ancestor tree y ≡ 0
   htu_out = by_cases (dec_le 1 (ancestor tree y)) (λ a. absurd (omega (arith, g.nodes_only y a, g.at_least_two))) (λ a. omega arith)
 
-  -- b, c and the new HTU are three places of the tree
+  -- b, c and the new HTU are three entries of the tree
   pub hung_joint : Joint n tree b c y
   hung_joint =
       let lower = g.nodes_only c inside in

@@ -14,25 +14,20 @@ use lib.Seq.{take-suc, take_all, ext_get_or}
 use Rattle.std.specs.List.{list_all, enumerate_from}
 use Rattle.lists.specs.Numbers.{numbers}
 use Rattle.lists.specs.Tests.{same_numbers}
-use Rattle.lists.specs.Filters.{keep}
 use Rattle.lists.proofs.Every.{same_numbers_iff}
 use Rattle.lists.proofs.Maps.{map-take}
 use Rattle.lists.proofs.Numbers.{length-numbers, length_map_numbers, map-numbers}
 use Rattle.lists.specs.Over.{over}
-use Rattle.lists.specs.Filled.{filled}
 use Rattle.lists.proofs.Over.{length_over, over_item, over-more, over-part}
-use Rattle.lists.proofs.Filled.{filled_at, filled-snoc, length-filled}
+use Rattle.lists.proofs.Filled.{filled-snoc, length-filled}
 use Rattle.tree_form.specs.declared.branch.Branch.{Branch}
-use Rattle.tree_form.specs.Nodes.{nodes_in, other_nodes, taxa_placed}
+use Rattle.tree_form.specs.Nodes.{other_nodes}
 use Rattle.tree_form.specs.Ancestors.{ancestor, tree_with}
-use Rattle.tree_form.specs.Growing.{row_one_alone, grown, growing_tree, branching}
+use Rattle.tree_form.specs.Growing.{branching}
 use Rattle.tree_form.specs.Facts.{Branching}
 use Rattle.tree_form.specs.Within.{branching_within}
 use Rattle.tree_form.specs.Branches.{branch_of, branch_records, with_records, branches_read}
-use Rattle.tree_form.specs.Branches.{ancestors_of, places_of, named_in_order, lent_branching}
-use Rattle.tree_form.proofs.Test.{alone_iff, branching_iff}
-use Rattle.tree_form.proofs.Whole.{growing-same}
-use Rattle.lists.proofs.Both.{same_test}
+use Rattle.tree_form.specs.Branches.{ancestors_of, named_in_order, lent_branching}
 use Rattle.tree_form.proofs.Within.{branching-plain}
 use Rattle.tree_form.proofs.Records.{records-lent, records-same}
 
@@ -81,12 +76,12 @@ over_front (suc k) [] (o ∷ old) h = ap (λ (rest : List Branch). o ∷ rest) (
 over_front (suc k) (x ∷ xs) [] h = refl
 over_front (suc k) (x ∷ xs) (o ∷ old) h = ap (λ (rest : List Branch). x ∷ rest) (over_front k xs old (omega arith))
 
--- one more node gets its place in a tree that is filled up to 127 places: the next immediate ancestor stands behind those that are there
-pub places-next : (above : List ℕ) (i : ℕ) → i < length above → length above ≤ 125
-    → set (filled 127 0 (tree_with (take i above))) (i + 2) (get_or above i 0) ≡ filled 127 0 (tree_with (take (i + 1) above))
-places-next above i h most =
-    filled-snoc 0 127 (i + 2) (tree_with (take i above)) (get_or above i 0) (omega (arith, length-take i above)) (omega arith)
-    ∙ ap (λ (rest : List ℕ). filled 127 0 (tree_with rest)) (sym (take-suc above i 0 h) ∙ ap (λ (k : ℕ). take k above) (sym (add-one i)))
+-- one more node gets its place in a tree: the next immediate ancestor stands behind those that are there
+pub entries-next : (above : List ℕ) (i : ℕ) → i < length above → length above ≤ 125
+    → set (tree_with (take i above)) (i + 2) (get_or above i 0) ≡ tree_with (take (i + 1) above)
+entries-next above i h most =
+    filled-snoc 0 127 (i + 2) (0 ∷ (0 ∷ take i above)) (get_or above i 0) (omega (arith, length-take i above)) (omega arith)
+    ∙ ap tree_with (sym (take-suc above i 0 h) ∙ ap (λ (k : ℕ). take k above) (sym (add-one i)))
 
 -- the immediate ancestors that records give
 abbrev ancestors_given : List Branch → List ℕ
@@ -97,11 +92,11 @@ abbrev pub ancestors_to : ℕ → List Branch → List ℕ
 ancestors_to i records = tree_with (take i (ancestors_given records))
 
 -- a record names the node of its place
-abbrev pub names_place : ℕ × Branch → Bool
-names_place p = eqb p.1.node (p.0 + 2)
+abbrev pub names_index : ℕ × Branch → Bool
+names_index p = eqb p.1.node (p.0 + 2)
 
--- records that stand from a place on name the nodes of their places exactly if they name these nodes in order
-pub named_from : (i : ℕ) (records : List Branch) → list_all names_place (enumerate_from i records)
+-- records that stand from an index on name the nodes of their indices exactly if they name these nodes in order
+pub named_from : (i : ℕ) (records : List Branch) → list_all names_index (enumerate_from i records)
     ≡ same_numbers (map (λ (branch : Branch). branch.node) records) (numbers (i + 2) (length records))
 unfolding same_numbers numbers
 named_from i [] = refl
@@ -111,14 +106,14 @@ named_from i (branch ∷ rest) =
     (named_from (i + 1) rest ∙ ap (λ (k : ℕ). same_numbers (map (λ (b : Branch). b.node) rest) (numbers k (length rest))) next)
 
 module _ (records : List Branch) (size : length records ≡ 125) where
-  -- one more record is read into the places
-  pub read_next : (now : List ℕ) (i : ℕ) → i < 125 → now ≡ filled 127 0 (ancestors_to i records)
-      → set now (i + 2) (get_or records i no_branch).ancestor ≡ filled 127 0 (ancestors_to (i + 1) records)
+  -- one more record is read into the entries
+  pub read_next : (now : List ℕ) (i : ℕ) → i < 125 → now ≡ ancestors_to i records
+      → set now (i + 2) (get_or records i no_branch).ancestor ≡ ancestors_to (i + 1) records
   read_next now i h inv =
       let f : Branch → ℕ = λ (branch : Branch). branch.ancestor in
       let count = length-map records f in
       ap₂ (λ (list : List ℕ) (x : ℕ). set list (i + 2) x) inv (sym (get_or-map f records i no_branch))
-      ∙ places-next (ancestors_given records) i (omega arith) (omega arith)
+      ∙ entries-next (ancestors_given records) i (omega arith) (omega arith)
 
   -- as many records as there are, or fewer, are the same read from the list
   take_min : (k : ℕ) → take (min k 125) records ≡ take k records
@@ -130,16 +125,16 @@ module _ (records : List Branch) (size : length records ≡ 125) where
       let most : 125 ≤ k = omega arith in
       rw (min-eq_right most) (take_all 125 records (omega arith) ∙ sym (take_all k records (omega arith))))
 
-  -- all are read: the places of the tree
-  pub read_all : (n count : ℕ) → count ≡ min (2 * n - 3) 125 → filled 127 0 (ancestors_to count records) ≡ places_of n records
-  unfolding places_of ancestors_of branches_read
+  -- all are read: the tree
+  pub read_all : (n count : ℕ) → count ≡ min (2 * n - 3) 125 → ancestors_to count records ≡ ancestors_of n records
+  unfolding ancestors_of branches_read
   read_all n count is =
-      ap (λ (read : List ℕ). filled 127 0 (tree_with read))
+      ap tree_with
       (sym (map-take (λ (branch : Branch). branch.ancestor) count records)
       ∙ ap ancestors_given (ap (λ (k : ℕ). take k records) is ∙ take_min (2 * n - 3)))
 
-  -- the first 2n-3 records name the nodes of their places exactly if they name them in order
-  pub named-all : (n : ℕ) → n ≤ 64 → list_all names_place (enumerate_from 0 (take (2 * n - 3) records)) ≡ named_in_order n records
+  -- the first 2n-3 records name the nodes of their indices exactly if they name them in order
+  pub named-all : (n : ℕ) → n ≤ 64 → list_all names_index (enumerate_from 0 (take (2 * n - 3) records)) ≡ named_in_order n records
   unfolding named_in_order branches_read other_nodes
   named-all n most =
       let count : length (take (2 * n - 3) records) ≡ 2 * n - 3 = omega (arith, length-take (2 * n - 3) records) in
@@ -164,45 +159,20 @@ module _ (records : List Branch) (size : length records ≡ 125) where
       go true e = absurd (short ((same_numbers_iff nodes (numbers 2 (2 * n - 3))).0 e))
       go false e = ap (λ (t : Bool). t && branching n (ancestors_of n records)) e
 
--- two lists that give every number one ancestor are both row 1 alone, or neither is
-alone-same : (old new : List ℕ) → ((v : ℕ) → ancestor old v ≡ ancestor new v) → row_one_alone old ≡ row_one_alone new
-alone-same old new same =
-    same_test (row_one_alone old) (row_one_alone new)
-    (λ e. (alone_iff new).1 (λ v. sym (same v) ∙ (alone_iff old).0 e v))
-    (λ e. (alone_iff old).1 (λ v. same v ∙ (alone_iff new).0 e v))
+-- of at most 64 taxa, the records are a branching exactly if they name the nodes in order and their tree is a branching
+pub lent-within : (n : ℕ) (records : List Branch) → n ≤ 64
+    → lent_branching n records ≡ (named_in_order n records && branching_within n (ancestors_of n records))
+unfolding lent_branching
+lent-within n records most =
+    ap (λ (t : Bool). named_in_order n records && t) (sym (branching-plain n (ancestors_of n records) most))
 
--- and both are a branching, or neither is
-pub branching-same : (n : ℕ) (old new : List ℕ) → ((v : ℕ) → ancestor old v ≡ ancestor new v) → branching n old ≡ branching n new
-unfolding branching growing_tree grown taxa_placed nodes_in numbers keep
-branching-same zero old new same = ap (λ (t : Bool). (t || false) && true) (alone-same old new same)
-branching-same (suc m) old new same =
-    let from = branching_iff old (suc m) (omega arith) in
-    let to = branching_iff new (suc m) (omega arith) in
-    same_test (branching (suc m) old) (branching (suc m) new)
-    (λ e. to.1 (growing-same (suc m) old new same (from.0 e)))
-    (λ e. from.1 (growing-same (suc m) new old (λ v. sym (same v)) (to.0 e)))
-
--- the places that records give have the ancestors that they give
-pub places-ancestors : (n : ℕ) (records : List Branch) (v : ℕ) → ancestor (places_of n records) v ≡ ancestor (ancestors_of n records) v
-unfolding places_of ancestor
-places-ancestors n records v = filled_at 0 127 (ancestors_of n records) v
-
--- of 125 records there are 127 places
-pub length-places : (n : ℕ) (records : List Branch) → length records ≡ 125 → length (places_of n records) ≡ 127
-unfolding places_of ancestors_of branches_read
-length-places n records size =
+-- 125 records give a tree with 127 entries
+length-lent : (n : ℕ) (records : List Branch) → length records ≡ 125 → length (ancestors_of n records) ≡ 127
+unfolding ancestors_of branches_read
+length-lent n records size =
     let read = length-take (2 * n - 3) records in
     let all = length-map (take (2 * n - 3) records) (λ (branch : Branch). branch.ancestor) in
-    length-filled 0 127 (ancestors_of n records) (omega arith)
-
--- of at most 64 taxa, the records are a branching exactly if they name the nodes in order and their places are a branching
-pub lent-places : (n : ℕ) (records : List Branch) → n ≤ 64
-    → lent_branching n records ≡ (named_in_order n records && branching_within n (places_of n records))
-unfolding lent_branching
-lent-places n records most =
-    ap (λ (t : Bool). named_in_order n records && t)
-    (sym (branching-plain n (places_of n records) most
-    ∙ branching-same n (places_of n records) (ancestors_of n records) (places-ancestors n records)))
+    length-filled 0 127 (0 ∷ (0 ∷ ancestors_given (take (2 * n - 3) records))) (omega arith)
 
 -- the records of a branching written over a list of 125
 module _ (d : ℕ → ℕ → ℕ) (n : ℕ) (tree : List ℕ) (old : List Branch) (size : length old ≡ 125) (most : n ≤ 64) where
@@ -237,18 +207,15 @@ module _ (d : ℕ → ℕ → ℕ) (n : ℕ) (tree : List ℕ) (old : List Branc
             same_numbers (map (λ (branch : Branch). branch.node) read) (other_nodes n)
             && branching n (tree_with (ancestors_given read))
 
-    -- and they give the tree back, if it has 127 places
-    pub written_tree : length tree ≡ 127 → places_of n (with_records d n tree old) ≡ tree
+    -- and they give the tree back, if it has 127 entries
+    pub written_tree : length tree ≡ 127 → ancestors_of n (with_records d n tree old) ≡ tree
     unfolding ancestor
-    written_tree places =
-        let long : length (with_records d n tree old) ≡ 125 = length_written in
-        let all : length (places_of n (with_records d n tree old)) ≡ 127 = length-places n (with_records d n tree old) long in
-        ext_get_or 0 (places_of n (with_records d n tree old)) tree (all ∙ sym places) (λ v h. same v)
+    written_tree sized =
+        let all : length (ancestors_of n (with_records d n tree old)) ≡ 127 = length-lent n (with_records d n tree old) length_written in
+        ext_get_or 0 (ancestors_of n (with_records d n tree old)) tree (all ∙ sym sized) (λ v h. same v)
       where
-        same : (v : ℕ) → ancestor (places_of n (with_records d n tree old)) v ≡ ancestor tree v
-        same v =
-            places-ancestors n (with_records d n tree old) v ∙ ap (λ (t : List ℕ). ancestor t v) ancestors_written
-            ∙ sym (records-same d n tree b v)
+        same : (v : ℕ) → ancestor (ancestors_of n (with_records d n tree old)) v ≡ ancestor tree v
+        same v = ap (λ (t : List ℕ). ancestor t v) ancestors_written ∙ sym (records-same d n tree b v)
 
 -- which records are a branching
-pub ruleset lending = (lent-more, lent-places)
+pub ruleset lending = (lent-more, lent-within)

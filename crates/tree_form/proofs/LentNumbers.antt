@@ -55,7 +55,7 @@ length-records_for above =
     let count = length-numbers 2 (length above) in
     length_zip record_numbers (numbers 2 (length above)) above (sym count) ∙ count
 
--- the one at place k is that of node k + 2
+-- the one at index k is that of node k + 2
 pub get_or-records_for : (above : List ℕ) (k : ℕ) → k < length above
     → get_or (records_for above) k [] ≡ record_numbers (k + 2) (get_or above k 0)
 unfolding records_for
@@ -99,7 +99,7 @@ module _ (above old : List ℕ) (most : length above ≤ branches_size) (size : 
       ∙ stripes-inside record_size 0 0 (records_for above) old (narrow_records_for above) k i (omega (arith, ap length item)) (omega arith)
       ∙ ap (λ (numbers : List ℕ). get_or numbers i 0) item
 
-  -- so the record at place k is read again
+  -- so the record at index k is read again
   pub record_written : (k : ℕ) → k < length above
       → record_at (records_written above old) k ≡ record { node = k + 2; ancestor = get_or above k 0; length = 0 }
   unfolding record_at
@@ -126,7 +126,7 @@ module _ (n : ℕ) (above old : List ℕ) (taxa : n ≤ 64) (count : length abov
   length_read =
       omega (arith, length-take (2 * n - 3) (records_in (records_written above old)), length-records_in (records_written above old))
 
-  -- the one at place k is that of node k + 2
+  -- the one at index k is that of node k + 2
   get_d_read : (k : ℕ) → k < 2 * n - 3
       → get_or (read_again n above old) k no_branch ≡ record { node = k + 2; ancestor = get_or above k 0; length = 0 }
   unfolding branches_read

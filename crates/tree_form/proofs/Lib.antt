@@ -10,7 +10,6 @@ pub mod Counts
 pub mod Test
 pub mod Hanging
 pub mod Ranges
-pub mod LeastKey
 pub mod Within
 pub mod Lending
 pub mod LentNumbers
@@ -19,6 +18,7 @@ pub mod Lengths
 pub mod Whole
 pub mod Records
 pub mod Placing
+pub mod InMatrix
 pub mod RowLengths
 pub mod Rival
 pub mod Passed

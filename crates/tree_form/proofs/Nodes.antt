@@ -15,7 +15,7 @@ use Rattle.lists.proofs.Both.{leb_iff, eqb_iff, or_iff}
 use Rattle.tree_form.specs.Ancestors.{ancestor}
 use Rattle.tree_form.specs.Nodes.{has_ancestor, in_tree, nodes_in, other_nodes, taxa_placed}
 use Rattle.tree_form.specs.Facts.{InTree}
-use Rattle.tree_form.specs.Hanging.{no_branches}
+use Rattle.tree_form.specs.Hanging.{only_row_one}
 use Rattle.lists.proofs.Keep.{keep-mem, mem-keep, length_keep_le}
 
 -- a list of one number throughout has it at every place, and beyond its end if it stands in there
@@ -25,14 +25,14 @@ same_everywhere (suc count) zero a = refl
 same_everywhere (suc count) (suc v) a = same_everywhere count v a
 
 -- in row 1 alone, as a build starts, no node has an ancestor
-pub no_branches-none : (v : ℕ) → ancestor no_branches v ≡ 0
-unfolding no_branches ancestor
-no_branches-none v = same_everywhere 127 v 0
+pub only_row_one-none : (v : ℕ) → ancestor only_row_one v ≡ 0
+unfolding only_row_one ancestor
+only_row_one-none v = same_everywhere 127 v 0
 
--- it has 127 places
-pub no_branches-places : length no_branches ≡ 127
-unfolding no_branches
-no_branches-places = refl
+-- it has 127 entries
+pub only_row_one-size : length only_row_one ≡ 127
+unfolding only_row_one
+only_row_one-size = refl
 
 -- whether a node is in the tree turns on its ancestor alone
 pub in_tree-same : (old new : List ℕ) (v : ℕ) → ancestor new v ≡ ancestor old v → in_tree new v ≡ in_tree old v

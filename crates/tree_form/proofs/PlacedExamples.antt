@@ -18,15 +18,14 @@ use Rattle.tree_form.specs.Ancestors.{ancestor}
 use Rattle.tree_form.specs.Nodes.{has_ancestor, in_tree, nodes_in, other_nodes, taxa_placed}
 use Rattle.tree_form.specs.Hanging.{linked, hung, next_htu}
 use Rattle.tree_form.specs.Branches.{branch_of, branch_records, with_records}
-use Rattle.tree_form.specs.RowLengths.{node_interval}
 use Rattle.tree_form.specs.Placing.{AfterPlacing, median_row, from_interval, nearest_interval, link_first, hang, place_on, place}
 
 -- taxon b of four placed on a tree with rows of its nodes, two characters or three alike
 placed : List ℕ → List (List ℤ) → ℕ → AfterPlacing
 unfolding numbers keep ancestor has_ancestor in_tree nodes_in other_nodes taxa_placed apart lower higher median medians part weight_at
-    difference interval_by node_difference row_of node_interval median_row from_interval first_least least_of nearest_interval linked hung
+    difference interval_by node_difference row_of median_row from_interval first_least least_of nearest_interval linked hung
     next_htu link_first hang place_on place
-placed tree rows b = place (difference []) 4 tree rows b
+placed tree rows b = place (difference []) (row_of rows) 4 tree b
 
 -- taxon, lower end, upper end, HTU, length added
 abbrev line : ℕ → ℕ → ℕ → ℕ → ℕ → Placement
@@ -38,7 +37,7 @@ taxa = (pos 0 ∷ pos 4 ∷ []) ∷ (pos 5 ∷ pos 0 ∷ []) ∷ (pos 9 ∷ pos 
 
 -- on row 1 alone a taxon is linked to row 1: A and B differ by 5 and 4
 first_link : placed (replicate 7 0) taxa 2
-    ≡ record { tree = 0 ∷ 0 ∷ 1 ∷ 0 ∷ 0 ∷ 0 ∷ 0 ∷ []; rows = taxa; placement = line 2 0 1 0 9 }
+    ≡ record { tree = 0 ∷ 0 ∷ 1 ∷ 0 ∷ 0 ∷ 0 ∷ 0 ∷ []; made = []; placement = line 2 0 1 0 9 }
 unfolding placed
 first_link = refl
 
@@ -48,7 +47,7 @@ first_link = refl
 nearest_taken : placed (0 ∷ 0 ∷ 5 ∷ 0 ∷ 5 ∷ 1 ∷ 0 ∷ []) (taxa ++ (pos 5 ∷ pos 0 ∷ []) ∷ []) 3
     ≡ record {
       tree = 0 ∷ 0 ∷ 5 ∷ 6 ∷ 6 ∷ 1 ∷ 5 ∷ [];
-      rows = taxa ++ (pos 5 ∷ pos 0 ∷ []) ∷ (pos 9 ∷ pos 0 ∷ []) ∷ [];
+      made = (pos 9 ∷ pos 0 ∷ []) ∷ [];
       placement = line 3 4 5 6 2;
     }
 unfolding placed
@@ -64,7 +63,7 @@ arms =
 equal-kept : placed (0 ∷ 0 ∷ 5 ∷ 5 ∷ 0 ∷ 1 ∷ 0 ∷ []) (arms ++ (pos 0 ∷ pos 0 ∷ pos 0 ∷ []) ∷ []) 4
     ≡ record {
       tree = 0 ∷ 0 ∷ 6 ∷ 5 ∷ 6 ∷ 1 ∷ 5 ∷ [];
-      rows = arms ++ (pos 0 ∷ pos 0 ∷ pos 0 ∷ []) ∷ (pos 0 ∷ pos 0 ∷ pos 0 ∷ []) ∷ [];
+      made = (pos 0 ∷ pos 0 ∷ pos 0 ∷ []) ∷ [];
       placement = line 4 2 5 6 2;
     }
 unfolding placed

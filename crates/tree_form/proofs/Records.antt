@@ -10,9 +10,10 @@ use native.Mathlib.Decide.{dec_le}
 use lib.Seq.{take_all}
 use Rattle.lists.proofs.Every.{same_numbers_iff}
 use Rattle.lists.proofs.Both.{and_iff}
+use Rattle.lists.proofs.Filled.{filled_at}
 use Rattle.lists.proofs.Numbers.{length_map_numbers, map-numbers, map-beyond}
 use Rattle.tree_form.specs.declared.branch.Branch.{Branch}
-use Rattle.tree_form.specs.Ancestors.{ancestor}
+use Rattle.tree_form.specs.Ancestors.{ancestor, tree_with}
 use Rattle.tree_form.specs.Nodes.{other_nodes}
 use Rattle.tree_form.specs.Facts.{Branching}
 use Rattle.tree_form.specs.Branches.{tree_length, branch_of, branch_records, branches_read, ancestors_of, named_in_order, lent_branching}
@@ -48,10 +49,10 @@ module _ (d : ℕ → ℕ → ℕ) (n : ℕ) (tree : List ℕ) where
       ∙ map-id (other_nodes n)
 
   -- their ancestors are those of the tree
-  pub records-ancestors : ancestors_of n (branch_records d n tree) ≡ 0 ∷ (0 ∷ map (ancestor tree) (other_nodes n))
+  pub records-ancestors : ancestors_of n (branch_records d n tree) ≡ tree_with (map (ancestor tree) (other_nodes n))
   unfolding ancestors_of branch_records branch_of
   records-ancestors =
-      ap (λ (rest : List ℕ). 0 ∷ (0 ∷ rest))
+      ap tree_with
       (ap (map (λ (branch : Branch). branch.ancestor)) read_all
       ∙ map-map (λ (branch : Branch). branch.ancestor) (branch_of d tree) (other_nodes n))
 
@@ -59,7 +60,7 @@ module _ (d : ℕ → ℕ → ℕ) (n : ℕ) (tree : List ℕ) where
     -- read again, they give every node the ancestor that it has
     pub records-same : (v : ℕ) → ancestor tree v ≡ ancestor (ancestors_of n (branch_records d n tree)) v
     unfolding ancestor other_nodes
-    records-same v = rw records-ancestors (at v)
+    records-same v = rw records-ancestors (at v ∙ sym (filled_at 0 127 (0 ∷ (0 ∷ map (ancestor tree) (other_nodes n))) v))
       where
         outside : (i : ℕ) → 2 * n - 3 ≤ i → ancestor tree (suc (suc i)) ≡ 0
         outside i beyond = growing-outside n tree b (suc (suc i)) (inr (omega arith))

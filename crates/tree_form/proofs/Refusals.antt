@@ -8,18 +8,20 @@ use lib.ListN.{replicate, set}
 use Rattle.lists.specs.Numbers.{numbers}
 use Rattle.lists.specs.Tests.{every, same_numbers}
 use Rattle.lists.specs.Filters.{keep}
-use Rattle.matrix_form.specs.Shape.{row, in_range, is_weight, last_node}
-use Rattle.matrix_form.specs.Questions.{one_to, within_limits, all_in_range, rows_in_range, are_weights, ask_matrix, htu_in_range, htus_in_range}
+use Rattle.matrix_form.specs.Shape.{row, in_range, is_weight, last_node, matrix_of}
+use Rattle.matrix_form.specs.Questions.{one_to, within_limits, ask_code, ask_row_of, ask_rows_of, are_weights, ask_matrix}
 use Rattle.matrix_form.specs.declared.refusal.Refusal.TheVariants.{BeyondLimits, CodeRange, ListSize, NotThere, NotBranching, WeightForm}
-use Rattle.matrix_form.specs.Outcomes.{Asked}
+use Rattle.matrix_form.specs.Outcomes.{Asked, ask_each}
 use Rattle.std.specs.Prelude.{Ok, Err}
 use Rattle.tree_form.specs.declared.branch.Branch.{Branch}
 use Rattle.tree_form.specs.Ancestors.{ancestor, descendants}
 use Rattle.tree_form.specs.Nodes.{has_ancestor, in_tree, nodes_in, other_nodes, taxa_placed}
 use Rattle.tree_form.specs.Growing.{descendant_count, descendants_wanted, climbs, row_one_alone, nodes_only, htus_in, ancestors_in}
 use Rattle.tree_form.specs.Growing.{descendants_right, all_climb, grown, growing_tree, branching}
+use Rattle.lists.specs.Filled.{filled}
 use Rattle.tree_form.specs.Branches.{branches_read, ancestors_of, named_in_order, lent_branching}
-use Rattle.tree_form.specs.Asking.{htus_of, ask_placement, ask_branching, ask_records}
+use Rattle.tree_form.specs.Hanging.{only_row_one}
+use Rattle.tree_form.specs.Asking.{htus_of, ask_placement, ask_branching, ask_finished, ask_records}
 
 -- a matrix of full size with code 0 everywhere
 full : List ℤ
@@ -53,11 +55,12 @@ zeros count = replicate count (record { node = 0; ancestor = 0; length = 0 })
 
 -- the questions of a lent branching of n taxa
 lent_by : List ℕ → List ℤ → ℕ → List Branch → Asked
-unfolding numbers every same_numbers keep row in_range last_node one_to within_limits all_in_range rows_in_range is_weight are_weights ask_matrix htu_in_range htus_in_range
+unfolding numbers every same_numbers keep row in_range last_node one_to within_limits ask_each ask_code ask_row_of ask_rows_of is_weight
+    are_weights ask_matrix
     ancestor descendants has_ancestor in_tree nodes_in other_nodes taxa_placed descendant_count descendants_wanted climbs row_one_alone nodes_only
-    htus_in ancestors_in descendants_right all_climb grown growing_tree branching branches_read ancestors_of named_in_order lent_branching htus_of
-    ask_placement ask_branching ask_records full wrong_row branch three zeros
-lent_by weights codes n records = ask_branching codes weights n 1 records
+    htus_in ancestors_in descendants_right all_climb grown growing_tree branching branches_read ancestors_of filled named_in_order lent_branching
+    htus_of only_row_one ask_placement ask_branching ask_finished ask_records full wrong_row branch three zeros
+lent_by weights codes n records = ask_branching (matrix_of codes weights) n 1 records
 
 -- the same with weights of 1
 lent : List ℤ → ℕ → List Branch → Asked
@@ -115,7 +118,7 @@ wrong_tree = 0 ∷ 0 ∷ 1 ∷ 0 ∷ 1 ∷ 0 ∷ replicate 121 0
 -- the questions of a placement of taxon b
 placed_by : List ℕ → List ℤ → ℕ → List ℕ → ℕ → Asked
 unfolding lent grown_tree wrong_tree
-placed_by weights codes n tree b = ask_placement codes weights n 1 tree b
+placed_by weights codes n tree b = ask_placement (matrix_of codes weights) n 1 tree b
 
 -- the same with weights of 1
 placed : List ℤ → ℕ → List ℕ → ℕ → Asked
@@ -148,7 +151,7 @@ unfolding placed
 each_refusal = refl
 
 -- row 1 is in every growing tree: as the taxon to place it is 13, and not 14, also where row 1 stands alone
-row_one : placed full 4 grown_tree 1 ∷ placed full 4 (replicate 127 0) 1 ∷ [] ≡ Err NotThere ∷ Err NotThere ∷ []
+row_one : placed full 4 grown_tree 1 ∷ placed full 4 only_row_one 1 ∷ [] ≡ Err NotThere ∷ Err NotThere ∷ []
 unfolding placed
 row_one = refl
 
@@ -196,7 +199,7 @@ unfolding placed
 then_in_order = refl
 
 -- the row of an HTU that the tree does not have is not read
-other-htu : placed (wrong_row 6) 4 grown_tree 3 ∷ placed (wrong_row 5) 4 (replicate 127 0) 3 ∷ [] ≡ Ok tt ∷ Ok tt ∷ []
+other-htu : placed (wrong_row 6) 4 grown_tree 3 ∷ placed (wrong_row 5) 4 only_row_one 3 ∷ [] ≡ Ok tt ∷ Ok tt ∷ []
 unfolding placed
 other-htu = refl
 
@@ -207,7 +210,7 @@ whole_tree = 0 ∷ 0 ∷ 4 ∷ 4 ∷ 1 ∷ replicate 122 0
 -- the questions of a finished tree that is handed back into a list of so many records
 recorded_by : List ℕ → List ℤ → ℕ → List ℕ → ℕ → Asked
 unfolding placed whole_tree
-recorded_by weights codes n tree room = ask_records codes weights n 1 tree room
+recorded_by weights codes n tree room = ask_records (matrix_of codes weights) n 1 tree room
 
 -- the same with weights of 1
 recorded : List ℤ → ℕ → List ℕ → ℕ → Asked
@@ -249,10 +252,10 @@ each_record_refusal : recorded full 3 whole_tree 124
     ∷ recorded (wrong_row 3) 3 whole_tree 125
     ∷ recorded full 4 wrong_tree 125
     ∷ recorded full 4 grown_tree 125
-    ∷ recorded full 3 (replicate 127 0) 125
+    ∷ recorded full 3 only_row_one 125
     ∷ recorded (wrong_row 4) 3 whole_tree 125
     ∷ recorded full 3 whole_tree 125
-    ∷ recorded full 1 (replicate 127 0) 125
+    ∷ recorded full 1 only_row_one 125
     ∷ []
     ≡ Err ListSize
     ∷ Err ListSize
@@ -293,6 +296,6 @@ unfolding recorded
 records-in_order = refl
 
 -- the row of no node of the tree is not read
-records_unread : recorded (wrong_row 5) 3 whole_tree 125 ∷ recorded (wrong_row 2) 1 (replicate 127 0) 125 ∷ [] ≡ Ok tt ∷ Ok tt ∷ []
+records_unread : recorded (wrong_row 5) 3 whole_tree 125 ∷ recorded (wrong_row 2) 1 only_row_one 125 ∷ [] ≡ Ok tt ∷ Ok tt ∷ []
 unfolding recorded
 records_unread = refl

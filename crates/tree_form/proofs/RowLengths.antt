@@ -1,7 +1,7 @@
 -- What a placement adds to the length of the tree: its interval difference, and no hanging adds less.
 use mathlib.Core.Path.{◌≡◌, sym, ap, ap₂, ◌∙◌}
 use mathlib.Core.Logic.{⊎_elim}
-use mathlib.Core.List.{List, [], ◌∷◌, ◌++◌}
+use mathlib.Core.List.{List, [], ◌∷◌, ◌++◌, append-nil}
 use Prim.Native.Nat.{ℕ, ◌+◌, ◌*◌, ◌-◌, ◌≤◌, ◌<◌}
 use native.Mathlib.Omega.{arith}
 use lib.IntN.{ℤ}
@@ -15,9 +15,9 @@ use Rattle.tree_form.specs.Nodes.{Unplaced}
 use Rattle.tree_form.specs.Hanging.{hung, next_htu}
 use Rattle.tree_form.proofs.Hanging.{hung_joint, htu_out}
 use Rattle.tree_form.proofs.Lengths.{tree_length-same, alone-length, linked-length, hung-length}
-use Rattle.tree_form.specs.RowLengths.{node_interval, length_under}
+use Rattle.tree_form.specs.RowLengths.{length_under}
 use Rattle.tree_form.specs.Placing.{AfterPlacing, median_row, from_interval, nearest_interval, link_first, hang, place}
-use Rattle.tree_form.proofs.Placing.{place-first, place-later, nearest_node, nearest_least}
+use Rattle.tree_form.proofs.Placing.{made-first, place-first, place-later, nearest_node, nearest_least}
 
 -- the row of a node is not changed by a row behind the others
 pub row_of_old : (rows : List (List ℤ)) (r : List ℤ) (v : ℕ) → 1 ≤ v → v ≤ length rows → row_of (rows ++ (r ∷ [])) v ≡ row_of rows v
@@ -114,16 +114,16 @@ module _ (d : List ℤ → List ℤ → ℕ) (n k : ℕ) (tree : List ℕ) (rows
     long_upper c inside = let h = ancestor-row c inside in each (ancestor tree c) h.0 h.1
 
     -- the median row has m codes
-    pub median_row_sized : (c : ℕ) → 1 ≤ ancestor tree c → length (median_row rows b c (ancestor tree c)) ≡ m
+    pub median_row_sized : (c : ℕ) → 1 ≤ ancestor tree c → length (median_row (row_of rows) b c (ancestor tree c)) ≡ m
     unfolding median_row
     median_row_sized c inside =
         laws.sized (row_of rows b) (row_of rows c) (row_of rows (ancestor tree c)) long_taxon (long_lower c inside) (long_upper c inside)
 
     -- an HTU with the median codes adds the interval difference
     pub hang-medians : (c : ℕ) → 1 ≤ ancestor tree c
-        → length_under d n (hung tree b c (n + k - 1)) (rows ++ (median_row rows b c (ancestor tree c) ∷ []))
-        ≡ length_under d n tree rows + from_interval d tree rows b c
-    unfolding median_row from_interval node_interval node_difference
+        → length_under d n (hung tree b c (n + k - 1)) (rows ++ (median_row (row_of rows) b c (ancestor tree c) ∷ []))
+        ≡ length_under d n tree rows + from_interval d (row_of rows) tree b c
+    unfolding median_row from_interval node_difference
     hang-medians c inside =
         let rb : List ℤ = row_of rows b in
         let rc : List ℤ = row_of rows c in
@@ -134,9 +134,9 @@ module _ (d : List ℤ → List ℤ → ℕ) (n k : ℕ) (tree : List ℕ) (rows
 
     -- an HTU with other codes adds no less
     pub hang-others : (c : ℕ) → 1 ≤ ancestor tree c → (r : List ℤ) → length r ≡ m
-        → length_under d n tree rows + from_interval d tree rows b c
+        → length_under d n tree rows + from_interval d (row_of rows) tree b c
         ≤ length_under d n (hung tree b c (n + k - 1)) (rows ++ (r ∷ []))
-    unfolding from_interval node_interval node_difference
+    unfolding from_interval node_difference
     hang-others c inside r long =
         let rb : List ℤ = row_of rows b in
         let rc : List ℤ = row_of rows c in
@@ -145,35 +145,35 @@ module _ (d : List ℤ → List ℤ → ℕ) (n k : ℕ) (tree : List ℕ) (rows
         omega (arith, hang-length c inside r, least, laws.symmetric rb r, laws.symmetric rc r)
 
     -- so the placement adds the interval difference from the nearest interval
-    pub place_later_length : length_under d n (place d n tree rows b).tree (place d n tree rows b).rows
-        ≡ length_under d n tree rows + from_interval d tree rows b (nearest_interval d n tree rows b)
+    pub place_later_length : length_under d n (place d (row_of rows) n tree b).tree (rows ++ (place d (row_of rows) n tree b).made)
+        ≡ length_under d n tree rows + from_interval d (row_of rows) tree b (nearest_interval d (row_of rows) n tree b)
     unfolding hang next_htu
     place_later_length =
-        let inside = (nearest_node d n tree rows b k g).1 in
-        rw (place-later d n tree rows b k g, g.placed) (hang-medians (nearest_interval d n tree rows b) inside)
+        let inside = (nearest_node d n tree (row_of rows) b k g).1 in
+        rw (place-later d n tree (row_of rows) b k g, g.placed) (hang-medians (nearest_interval d (row_of rows) n tree b) inside)
 
     -- no hanging of the taxon on any interval, through an HTU with any codes, gives a shorter tree
     pub place-least : (c : ℕ) → 1 ≤ ancestor tree c → (r : List ℤ) → length r ≡ m
-        → length_under d n (place d n tree rows b).tree (place d n tree rows b).rows
+        → length_under d n (place d (row_of rows) n tree b).tree (rows ++ (place d (row_of rows) n tree b).made)
         ≤ length_under d n (hung tree b c (n + k - 1)) (rows ++ (r ∷ []))
     place-least c inside r long =
-        omega (arith, place_later_length, nearest_least d n tree rows b k g c inside, hang-others c inside r long)
+        omega (arith, place_later_length, nearest_least d n tree (row_of rows) b k g c inside, hang-others c inside r long)
 
 -- the length of the tree after a placement is the length before and the length added
 pub place-added : (d : List ℤ → List ℤ → ℕ) (n m k : ℕ) (tree : List ℕ) (rows : List (List ℤ)) → Growth n m k tree rows
     → MedianLaws d m → (b : ℕ) → Unplaced n tree b
-    → length_under d n (place d n tree rows b).tree (place d n tree rows b).rows
-    ≡ length_under d n tree rows + (place d n tree rows b).placement.added
+    → length_under d n (place d (row_of rows) n tree b).tree (rows ++ (place d (row_of rows) n tree b).made)
+    ≡ length_under d n tree rows + (place d (row_of rows) n tree b).placement.added
 unfolding link_first hang length_under
 place-added d n m k tree rows s laws b u = go s.growing s.full
   where
     go : {j : ℕ} → GrowingTree n tree j → length rows ≡ n + (j - 2)
-        → length_under d n (place d n tree rows b).tree (place d n tree rows b).rows
-        ≡ length_under d n tree rows + (place d n tree rows b).placement.added
+        → length_under d n (place d (row_of rows) n tree b).tree (rows ++ (place d (row_of rows) n tree b).made)
+        ≡ length_under d n tree rows + (place d (row_of rows) n tree b).placement.added
     go (alone none) full =
         let none_yet = alone-length (node_difference d (row_of rows)) n tree none in
         let one = linked-length (node_difference d (row_of rows)) n tree none s.room b u in
-        rw (place-first d n tree rows b none) (omega arith)
+        rw (made-first d n tree (row_of rows) b none, append-nil rows, place-first d n tree (row_of rows) b none) (omega arith)
     go (several {k = j} g) full =
         place_later_length d n j tree rows g s.room (omega (arith, g.at_least_two)) b u m laws s.each
-        ∙ ap (λ (p : AfterPlacing). length_under d n tree rows + p.placement.added) (sym (place-later d n tree rows b j g))
+        ∙ ap (λ (p : AfterPlacing). length_under d n tree rows + p.placement.added) (sym (place-later d n tree (row_of rows) b j g))

@@ -18,7 +18,7 @@ use Rattle.lists.proofs.Every.{every_iff}
 use Rattle.lists.proofs.Numbers.{length-numbers, numbers-within, numbers-among}
 use Rattle.tree_form.specs.Ancestors.{ancestor}
 use Rattle.lists.specs.Filters.{keep}
-use Rattle.tree_form.specs.Nodes.{has_ancestor, in_tree, nodes_in, other_nodes, taxa_placed}
+use Rattle.tree_form.specs.Nodes.{has_ancestor, in_tree, nodes_in, other_nodes, taxa_placed, htus_with}
 use Rattle.tree_form.specs.Growing.{descendant_count, descendants_wanted, climbs, row_one_alone, nodes_only, htus_in, ancestors_in}
 use Rattle.tree_form.specs.Growing.{descendants_right, all_climb, grown, growing_tree, branching}
 use Rattle.tree_form.specs.Facts.{InTree, ReachesRoot, root, Grown, GrowingTree, alone, several, Branching}
@@ -33,8 +33,8 @@ NodesTo tree last = (v : ℕ) → 1 ≤ ancestor tree v → (2 ≤ v) × (v ≤ 
 
 module _ (tree : List ℕ) where
   -- a test of every place of the list
-  pub places_iff : (test : ℕ → Bool) → (every test (numbers 0 (length tree)) ≡ true) ↔ ((v : ℕ) → v < length tree → test v ≡ true)
-  places_iff test =
+  pub entries_iff : (test : ℕ → Bool) → (every test (numbers 0 (length tree)) ≡ true) ↔ ((v : ℕ) → v < length tree → test v ≡ true)
+  entries_iff test =
       let each = every_iff test (numbers 0 (length tree)) in (
         λ e v h. each.0 e v (numbers-among 0 (length tree) v (omega arith) (omega arith)),
         λ h. each.1 (λ v m. h v (omega (arith, numbers-within 0 (length tree) v m))),
@@ -44,7 +44,7 @@ module _ (tree : List ℕ) where
   pub alone_iff : (row_one_alone tree ≡ true) ↔ ((v : ℕ) → ancestor tree v ≡ 0)
   unfolding row_one_alone
   alone_iff =
-      let each = places_iff (λ v. not (has_ancestor tree v)) in (
+      let each = entries_iff (λ v. not (has_ancestor tree v)) in (
         λ e v.
             by_cases
             (dec_le 1 (ancestor tree v))
@@ -75,7 +75,7 @@ module _ (tree : List ℕ) where
         test v = not (has_ancestor tree v) || (leb 2 v && leb v (n + k - 2))
 
         all : (every test (numbers 0 (length tree)) ≡ true) ↔ ((v : ℕ) → v < length tree → test v ≡ true)
-        all = places_iff test
+        all = entries_iff test
 
         each : (v : ℕ) → (test v ≡ true) ↔ (1 ≤ ancestor tree v → (2 ≤ v) × (v ≤ n + k - 2))
         each v = implies_iff (has_ancestor_iff tree v) (and_iff (leb_iff 2 v) (leb_iff v (n + k - 2)))
@@ -84,7 +84,7 @@ module _ (tree : List ℕ) where
     pub htus_in_iff : (htus_in n k tree ≡ true) ↔ ((v : ℕ) → n < v → v ≤ n + k - 2 → 1 ≤ ancestor tree v)
     unfolding htus_in
     htus_in_iff =
-        let each = every_iff (has_ancestor tree) (numbers (n + 1) (k - 2)) in (
+        let each = every_iff (has_ancestor tree) (htus_with n k) in (
           λ e v l h. (has_ancestor_iff tree v).0 (each.0 e v (numbers-among (n + 1) (k - 2) v (omega arith) (omega arith))),
           λ h.
               each.1 λ v m.

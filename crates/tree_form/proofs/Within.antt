@@ -26,7 +26,7 @@ module _ (n : ℕ) (tree : List ℕ) where
     next-plain = rw (le-leb n 64 most)
 
   module _ (more : 64 < n) where
-    -- of more than 64 taxa there is no growing tree among those with 127 places
+    -- of more than 64 taxa there is no growing tree among those with 127 entries
     pub growing-more : growing_tree_within n tree ≡ false
     unfolding growing_tree_within
     growing-more = rw (lt-leb n 64 more)

@@ -1,11 +1,10 @@
 -- The length of a tree, and branch records: the form in which a branching is lent and a finished tree handed back.
 use Rattle.std.specs.Prelude.{List, map, Bool, ◌&&◌, ℕ, ◌*◌, ◌-◌, take}
 use Rattle.lists.specs.Over.{over}
-use Rattle.lists.specs.Filled.{filled}
 use Rattle.lists.specs.Sums.{sum_over}
 use Rattle.lists.specs.Tests.{same_numbers}
 use Rattle.tree_form.specs.declared.branch.Branch.{Branch}
-use Rattle.tree_form.specs.Ancestors.{places, ancestor, tree_with}
+use Rattle.tree_form.specs.Ancestors.{ancestor, tree_with}
 use Rattle.tree_form.specs.Nodes.{nodes_in, other_nodes}
 use Rattle.tree_form.specs.Growing.{branching}
 
@@ -32,10 +31,6 @@ branches_read n records = take (2 * n - 3) records
 -- the tree that the first 2n-3 branches give, if they name nodes 2 to 2n-2 in order
 unfoldable pub ancestors_of : ℕ → List Branch → List ℕ
 ancestors_of n records = tree_with (map (λ (branch : Branch). branch.ancestor) (branches_read n records))
-
--- the same tree with a place for each of the nodes 0 to 126
-unfoldable pub places_of : ℕ → List Branch → List ℕ
-places_of n records = filled places 0 (ancestors_of n records)
 
 -- the first 2n-3 branches name nodes 2 to 2n-2 in order
 unfoldable pub named_in_order : ℕ → List Branch → Bool

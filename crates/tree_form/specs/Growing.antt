@@ -7,7 +7,7 @@ use Rattle.lists.specs.Tests.{every}
 use Rattle.lists.specs.Numbers.{numbers}
 use Rattle.matrix_form.specs.Shape.{last_node}
 use Rattle.tree_form.specs.Ancestors.{ancestor, descendants}
-use Rattle.tree_form.specs.Nodes.{has_ancestor, in_tree, nodes_in, other_nodes, taxa_placed}
+use Rattle.tree_form.specs.Nodes.{has_ancestor, in_tree, nodes_in, other_nodes, htus_with, taxa_placed}
 
 -- of how many nodes node v is the immediate ancestor
 unfoldable pub descendant_count : ℕ → List ℕ → ℕ → ℕ
@@ -33,7 +33,7 @@ nodes_only n k tree =
 
 -- HTUs n+1 to n+k-2 are in the tree
 unfoldable pub htus_in : ℕ → ℕ → List ℕ → Bool
-htus_in n k tree = every (has_ancestor tree) (numbers (n + 1) (k - 2))
+htus_in n k tree = every (has_ancestor tree) (htus_with n k)
 
 -- each node in the tree but node 1 has its immediate ancestor among the nodes in the tree
 unfoldable pub ancestors_in : ℕ → List ℕ → Bool

@@ -1,11 +1,11 @@
 -- The two ways in which a taxon joins a growing tree (document 01, "The Wagner tree" and "The three rivals").
 use Rattle.std.specs.Prelude.{List, ℕ, ◌+◌, ◌-◌, replicate, set}
-use Rattle.tree_form.specs.Ancestors.{places, ancestor}
+use Rattle.tree_form.specs.Ancestors.{tree_size, ancestor}
 use Rattle.tree_form.specs.Nodes.{taxa_placed}
 
--- row 1 alone: a tree with a place for each of the nodes 0 to 126 and no branch
-unfoldable pub no_branches : List ℕ
-no_branches = replicate places 0
+-- the tree of row 1 alone: an entry for each of the nodes 0 to 126, and no branch
+unfoldable pub only_row_one : List ℕ
+only_row_one = replicate tree_size 0
 
 -- the tree with taxon b linked to row 1
 unfoldable pub linked : List ℕ → ℕ → List ℕ

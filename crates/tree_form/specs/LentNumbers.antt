@@ -15,11 +15,11 @@ record_size = 3
 abbrev pub lent_numbers : ℕ
 lent_numbers = 375
 
--- the record at a place, the first at place 0; its length is not read
+-- the record at an index, the first at index 0; its length is not read
 unfoldable pub record_at : List ℕ → ℕ → Branch
-record_at lent place = record {
-  node = get_or lent (record_size * place) 0;
-  ancestor = get_or lent (record_size * place + 1) 0;
+record_at lent index = record {
+  node = get_or lent (record_size * index) 0;
+  ancestor = get_or lent (record_size * index + 1) 0;
   length = 0;
 }
 

@@ -1,4 +1,5 @@
 -- The second rival (document 01, "The three rivals"): a taxon hung on any interval of the tree, through an HTU with any codes.
+use Rattle.matrix_form.specs.NodeRows.{row_of}
 use Rattle.std.specs.Prelude.{◌≡◌, List, [], ◌∷◌, ◌++◌, ℕ, ◌+◌, ◌≤◌, ℤ, length}
 use Rattle.tree_form.specs.Ancestors.{ancestor}
 use Rattle.tree_form.specs.Hanging.{hung, next_htu}
@@ -19,12 +20,12 @@ pub record PlacementIsLeast (d : List ℤ → List ℤ → ℕ) (n m : ℕ) (tre
   pub htu : placed.placement.htu ≡ next_htu n tree
   pub inside : 1 ≤ ancestor tree placed.placement.lower
   pub hangs : placed.tree ≡ hung tree b placed.placement.lower (next_htu n tree)
-  pub row : placed.rows ≡ rows ++ (median_row rows b placed.placement.lower (ancestor tree placed.placement.lower) ∷ [])
+  pub row : placed.made ≡ median_row (row_of rows) b placed.placement.lower (ancestor tree placed.placement.lower) ∷ []
   -- with m codes, so ours is one of the hangings below
-  pub own : length (median_row rows b placed.placement.lower (ancestor tree placed.placement.lower)) ≡ m
+  pub own : length (median_row (row_of rows) b placed.placement.lower (ancestor tree placed.placement.lower)) ≡ m
   -- it added its interval difference, which is the length of the `W` line
-  pub interval : placed.placement.added ≡ from_interval d tree rows b placed.placement.lower
-  pub adds : length_under d n placed.tree placed.rows ≡ length_under d n tree rows + placed.placement.added
+  pub interval : placed.placement.added ≡ from_interval d (row_of rows) tree b placed.placement.lower
+  pub adds : length_under d n placed.tree (rows ++ placed.made) ≡ length_under d n tree rows + placed.placement.added
   -- no hanging adds less
   pub least : (c : ℕ) → 1 ≤ ancestor tree c → (r : List ℤ) → length r ≡ m
       → length_under d n tree rows + placed.placement.added ≤ hung_length d n tree rows b c r

@@ -1,4 +1,4 @@
--- What the functions on tree structs answer for every number n of taxa: a tree struct has places for at most 64 taxa, so of more there is
+-- What the functions on tree structs answer for every number n of taxa: a tree struct has entries for at most 64 taxa, so of more there is
 -- no growing tree. For n at most 64 these are the plain definitions (`proofs/Within.antt`).
 use Rattle.std.specs.Prelude.{List, Bool, cond, ◌&&◌, ℕ, leb}
 use Rattle.matrix_form.specs.Shape.{most_taxa}

@@ -1,4 +1,4 @@
-// How many places a tree has.
+// How many entries a tree has.
 
-// A tree has a place for each of the nodes 0 to 126.
-pub const PLACES: usize = 127;
+// A tree has an entry for each of the nodes 0 to 126.
+pub const TREE_SIZE: usize = 127;

@@ -2,28 +2,28 @@
 ghost use Rattle.std.specs.Prelude.{◌≡◌, ◌*◌, ◌-◌, min};
 ghost use Rattle.matrix_form.specs.Shape.{most_taxa};
 ghost use Rattle.branching.specs.Views.{ancestors};
-ghost use Rattle.tree_form.specs.Branches.{with_records, places_of, named_in_order, lent_branching};
+ghost use Rattle.tree_form.specs.Branches.{with_records, ancestors_of, named_in_order, lent_branching};
 ghost use Rattle.tree_records.specs.Lengths.{lengths_by};
 
 use crate::branch::BRANCHES;
-use branching::tree::{Tree, last_node};
+use branching::tree::{Tree, last_index};
 use matrix::MOST_TAXA;
 use tree_form::branch::Branch;
-use tree_form::tree::PLACES;
+use tree_form::tree::TREE_SIZE;
 
 // How many branch records are read or written: one for each node but node 1, as far as there are 125.
 #[tactic(auto, unfolding(matrix_form::specs::Shape::last_node))]
 pub fn record_count(n: usize) -> usize
     ensures { result ≡ min (2 * n - 3) 125 }
 {
-    last_node(n) - 1
+    last_index(n) - 1
 }
 
-// The records with those of a branching of n taxa written over the first 2n-3; the length of node v stands at place v.
+// The records with those of a branching of n taxa written over the first 2n-3; the length of node v stands at index v.
 pub fn with_records(
     tree: &Tree,
     n: usize,
-    lengths: &[u64; PLACES],
+    lengths: &[u64; TREE_SIZE],
     mut records: [Branch; BRANCHES],
 ) -> [Branch; BRANCHES]
     ensures { result ≡ with_records (lengths_by lengths.now) n (ancestors tree.now) records }
@@ -41,14 +41,14 @@ pub fn with_records(
 
 // The tree that the first 2n-3 records give.
 pub fn tree_of(records: &[Branch; BRANCHES], n: usize) -> Tree
-    ensures { ancestors result ≡ places_of n records.now }
+    ensures { ancestors result ≡ ancestors_of n records.now }
 {
-    let mut places = [0; PLACES];
+    let mut above = [0; TREE_SIZE];
     // Kept: unproved, it would be a zip of `iter_mut`, as was tried in `write_codes` of matrix_file: of the list behind it a proof knows the length alone.
     for (i, record) in records[..record_count(n)].iter().enumerate() {
-        places[i + 2] = record.ancestor;
+        above[i + 2] = record.ancestor;
     }
-    Tree { ancestors: places }
+    Tree::from_ancestors(above)
 }
 
 // Whether the first 2n-3 records, and of more than 64 taxa all 125, name nodes 2, 3, .. in order.

@@ -13,7 +13,7 @@ pub const RECORD: usize = 3;
 // A lent branching is 125 records.
 pub const LENT_NUMBERS: usize = RECORD * BRANCHES;
 
-// The number at a place of a list, or 0 behind its end.
+// The number at an index of a list, or 0 behind its end.
 #[tactic(auto, using(std::proofs::lemmas::Option::gets))]
 fn number_at(numbers: &[usize], i: usize) -> usize
     ensures { result ≡ get_or numbers.now i 0 }
@@ -21,7 +21,7 @@ fn number_at(numbers: &[usize], i: usize) -> usize
     numbers.get(i).copied().unwrap_or(0)
 }
 
-// The record at a place, the first at place 0; its length is not read.
+// The record at an index, the first at index 0; its length is not read.
 // Kept: no plainer, of a list that is too short each number behind its end is read as 0, where `chunks` would end.
 #[tactic(auto, unfolding(tree_form::specs::LentNumbers::record_at))]
 fn record_at(numbers: &[usize], place: usize) -> Branch

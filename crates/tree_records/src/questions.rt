@@ -2,6 +2,7 @@
 ghost use Rattle.std.specs.Prelude.{◌≡◌};
 ghost use Rattle.branching.specs.Views.{ancestors};
 ghost use Rattle.tree_form.specs.Asking.{ask_branching, ask_records};
+ghost use Rattle.matrix.specs.Lent.{lent_lists};
 
 use crate::branch::BRANCHES;
 use crate::lent::lent_branching;
@@ -14,7 +15,7 @@ use tree_form::branch::Branch;
 // The questions of a call on a lent branching that reads no HTU row: those on the matrix, and whether the records are a branching.
 #[tactic(auto, unfolding(tree_form::specs::Asking::ask_branching))]
 pub fn ask_branching(lent: &Lent, records: &[Branch; BRANCHES]) -> Result<(), Refusal>
-    ensures { result ≡ ask_branching lent.now.matrix.now lent.now.weights.now lent.now.n lent.now.m records.now }
+    ensures { result ≡ ask_branching (lent_lists lent.now) lent.now.n lent.now.m records.now }
 {
     lent.ask()?;
     if !lent_branching(records, lent.n) {
@@ -25,9 +26,9 @@ pub fn ask_branching(lent: &Lent, records: &[Branch; BRANCHES]) -> Result<(), Re
 
 // The questions of a call that hands a finished tree back as branch records, into a lent list of `room` records: the size of that list,
 // those on the matrix, whether the tree is a branching of n taxa, and the rows of its HTUs.
-#[tactic(auto, unfolding(tree_form::specs::Asking::ask_records, branching::specs::Finished::ask_finished))]
+#[tactic(auto, unfolding(tree_form::specs::Asking::ask_records))]
 pub fn ask_records(lent: &Lent, tree: &Tree, room: usize) -> Result<(), Refusal>
-    ensures { result ≡ ask_records lent.now.matrix.now lent.now.weights.now lent.now.n lent.now.m (ancestors tree.now) room }
+    ensures { result ≡ ask_records (lent_lists lent.now) lent.now.n lent.now.m (ancestors tree.now) room }
 {
     if room != BRANCHES {
         return Err(Refusal::ListSize);

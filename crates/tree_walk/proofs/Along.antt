@@ -72,7 +72,7 @@ record Taken (last r : ℕ) (tree after : List ℕ) (placed : List Bool) (w : �
   before : (u : ℕ) → stands placed u ≡ true → stands now u ≡ true
   back : (u : ℕ) → stands now u ≡ true → (stands placed u ≡ true) ⊎ ((1 ≤ w) × (u ≡ w))
 
-module _ (last count : ℕ) (tree nodes : List ℕ) (placed : List Bool) (most : last ≤ 126) (places : length nodes ≡ 127)
+module _ (last count : ℕ) (tree nodes : List ℕ) (placed : List Bool) (most : last ≤ 126) (sized : length nodes ≡ 127)
     (marks : length placed ≡ 127) (w : Walked last count tree nodes placed) where
   -- with none taken the walk stays as it is
   none_taken : Taken last count tree nodes placed 0
@@ -93,9 +93,9 @@ module _ (last count : ℕ) (tree nodes : List ℕ) (placed : List Bool) (most :
       record {
         now = set placed u true;
         marks = simp length-set marks;
-        walked = grows last count tree nodes placed most places marks w more u low high free (rw up above);
+        walked = grows last count tree nodes placed most sized marks w more u low high free (rw up above);
         held = λ h. stands_new placed u (omega arith);
-        before = still last count tree nodes placed most places marks w more u low high free;
+        before = still last count tree nodes placed most sized marks w more u low high free;
         back = λ x t.
             by_cases (ℕ_discrete x u) (λ e. inr (omega arith, e)) (λ ne. inl (sym (stands_old placed u x ne) ∙ t));
       }
@@ -117,7 +117,7 @@ module _ (last count : ℕ) (tree nodes : List ℕ) (placed : List Bool) (most :
       rw (same.0, same.1, z) none_taken)
 
 -- with the descendants of node i taken, all descendants of one node more stand in the walk
-module _ (last i count : ℕ) (tree nodes : List ℕ) (below : List Below) (most : last ≤ 126) (places : length nodes ≡ 127)
+module _ (last i count : ℕ) (tree nodes : List ℕ) (below : List Below) (most : last ≤ 126) (sized : length nodes ≡ 127)
     (inside : i < count) (high : count ≤ last) (pairs : Pairs last tree below) (along : Along last i count tree nodes) where
   -- node i stands
   here : stands along.placed (node_at nodes i) ≡ true
@@ -152,7 +152,7 @@ module _ (last i count : ℕ) (tree nodes : List ℕ) (below : List Below) (most
     -- the first is taken
     take_first : Taken last r tree first along.placed a
     take_first =
-        taken last count tree nodes along.placed most places along.marks along.walked (node_at nodes i) a r first from_first here
+        taken last count tree nodes along.placed most sized along.marks along.walked (node_at nodes i) a r first from_first here
         (fresh a from_first) one
 
     -- after it the second does not stand yet
@@ -171,7 +171,7 @@ module _ (last i count : ℕ) (tree nodes : List ℕ) (below : List Below) (most
         taken last r tree first take_first.now most size take_first.marks take_first.walked (node_at nodes i) b s second from_second
         (take_first.before (node_at nodes i) here) fresh_second two
 
-    -- the nodes up to node i keep their places
+    -- the nodes up to node i keep their indices
     kept : (k : ℕ) → k < count → node_at second k ≡ node_at nodes k
     kept k h = let least = one.least in two.kept k (omega arith) ∙ one.kept k h
 
@@ -363,7 +363,7 @@ pub walking : (n last : ℕ) (tree : List ℕ) (below : List Below) (walk : Walk
 unfolding last_node
 walking n last tree below walk is most all belows along = record {
   at_most = omega arith;
-  places = all;
+  within = all;
   count = λ e. (whole e).0;
   walks = λ e. walked_all n tree walk.items _ (whole e).1;
 }

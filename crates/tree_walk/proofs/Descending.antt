@@ -16,13 +16,13 @@ use Rattle.lists.proofs.Filled.{get_d_replicate}
 use Rattle.lists.proofs.Numbers.{numbers-within, numbers-append, numbers-snoc}
 use Rattle.matrix_form.specs.Shape.{last_node}
 use Rattle.tree_form.specs.Ancestors.{ancestor, descendants}
-use Rattle.branching.specs.Places.{PlaceOf}
+use Rattle.branching.specs.Index.{TreeIndex}
 use Rattle.tree_form.specs.Nodes.{other_nodes}
 use Rattle.tree_form.proofs.Nodes.{ancestor-place}
-use Rattle.branching.proofs.Places.{keep_append}
+use Rattle.branching.proofs.Entries.{keep_append}
 use Rattle.tree_form.proofs.Descendants.{mem-descendants}
 use Rattle.tree_walk.specs.Walks.{first_two, below_at}
-use Rattle.tree_walk.specs.Steps.{with_descendant, PlacesBelow}
+use Rattle.tree_walk.specs.Steps.{with_descendant, WithinBelow}
 use Rattle.tree_walk.specs.declared.walk.Below.{Below}
 
 -- the elements kept of a list with one more behind it
@@ -103,11 +103,11 @@ module _ (none : Below) (zeros : (none.first ≡ 0) × (none.second ≡ 0)) wher
   below-start tree v l h = each_is v
 
   -- and each of these is 0
-  pub none_within : PlacesBelow (replicate 127 none)
+  pub none_within : WithinBelow (replicate 127 none)
   none_within v = rw (each_is v) (omega arith, omega arith)
 
 -- the descendants kept when node u has been gone through besides
-module _ (tree : List ℕ) (below : List Below) (u above : ℕ) (size : length below ≡ 127) (low : 2 ≤ u) (place : PlaceOf
+module _ (tree : List ℕ) (below : List Below) (u above : ℕ) (size : length below ≡ 127) (low : 2 ≤ u) (place : TreeIndex
     (ancestor tree u) above) where
   -- those of every node
   pub below_more : BelowTo tree u below → BelowTo tree (u + 1) (set below above (with_descendant (below_at below above) u))
@@ -150,7 +150,7 @@ module _ (tree : List ℕ) (below : List Below) (u above : ℕ) (size : length b
           (get_or-set_other below above v (with_descendant (below_at below above) u) (record { first = 0; second = 0 }) elsewhere ∙ inv v l h)
 
   -- each with a place in a tree
-  pub all-within : above ≤ 126 → u ≤ 126 → PlacesBelow below → PlacesBelow (set below above (with_descendant (below_at below above) u))
+  pub all-within : above ≤ 126 → u ≤ 126 → WithinBelow below → WithinBelow (set below above (with_descendant (below_at below above) u))
   all-within room high inv v =
       let inside : above < length below = omega arith in
       by_cases (ℕ_discrete v above)
@@ -158,11 +158,11 @@ module _ (tree : List ℕ) (below : List Below) (u above : ℕ) (size : length b
       (within_more (below_at below above) u high (inv above)))
       (λ ne. rw (get_or-set_other below above v (with_descendant (below_at below above) u) (record { first = 0; second = 0 }) ne) (inv v))
 
--- no node beyond the places has an ancestor, so that the nodes up to the last that has a place give all descendants
-pub descendants-places : (n last : ℕ) (tree : List ℕ) → length tree ≡ 127 → last ≡ min (last_node n) 126 → (v : ℕ) → 1 ≤ v
+-- no node beyond the entries has an ancestor, so that the nodes up to the last that has a place give all descendants
+pub descendants-size : (n last : ℕ) (tree : List ℕ) → length tree ≡ 127 → last ≡ min (last_node n) 126 → (v : ℕ) → 1 ≤ v
     → descendants tree (other_nodes n) v ≡ descendants tree (numbers 2 (last - 1)) v
 unfolding other_nodes last_node
-descendants-places n last tree size is v some =
+descendants-size n last tree size is v some =
     by_cases (dec_le (2 * n - 2) 126) (λ h. let all : 2 * n - 3 ≡ last - 1 = omega arith in rw all) beyond
   where
     none : (u : ℕ) → Memᴰ u (descendants tree (numbers (2 + 125) (2 * n - 3 - 125)) v) → ⊥

@@ -122,7 +122,7 @@ walked_less last count tree nodes placed w v l h free =
     omega (arith, mem-length (mem-keep (λ u. not (stands placed u)) (numbers 2 (last - 1)) v m (ap not free)))
 
 module _ (last count : ℕ) (tree nodes : List ℕ) (placed : List Bool) (most : last ≤ 126)
-    (places : length nodes ≡ 127) (marks : length placed ≡ 127)
+    (sized : length nodes ≡ 127) (marks : length placed ≡ 127)
     (w : Walked last count tree nodes placed) (more : count < last)
     (v : ℕ) (low : 2 ≤ v) (high : v ≤ last) (free : stands placed v ≡ false) where
   -- what stood in the walk stands in it still
@@ -150,7 +150,7 @@ module _ (last count : ℕ) (tree nodes : List ℕ) (placed : List Bool) (most :
       (λ u m ne. ap (λ (b : Bool). counted (not b)) (stands_old placed v u ne)) in
       omega arith
 
-  -- the nodes before it keep their places
+  -- the nodes before it keep their indices
   kept : (i : ℕ) → i < count → node_at (set nodes count v) i ≡ node_at nodes i
   kept i h = node_old nodes count v i (λ e. omega arith)
 
@@ -309,14 +309,14 @@ walk_later n tree nodes w i j hi hj other e =
     (λ l. let same : j ≡ 0 = omega arith in absurd (other (ap (node_at nodes) same ∙ w.first)))
 
 -- a list of nodes that have a place in a tree stays one with one more of them
-pub places-set : (nodes : List ℕ) (k v : ℕ) → k < length nodes → v ≤ 126 → ((i : ℕ) → node_at nodes i ≤ 126)
+pub within-set : (nodes : List ℕ) (k v : ℕ) → k < length nodes → v ≤ 126 → ((i : ℕ) → node_at nodes i ≤ 126)
     → (i : ℕ) → node_at (set nodes k v) i ≤ 126
-places-set nodes k v h most all i =
+within-set nodes k v h most all i =
     by_cases (ℕ_discrete i k) (λ e. rw (e, node_new nodes k v h) most) (λ ne. rw (node_old nodes k v i ne) (all i))
 
 -- the list with node 1 alone is one
-pub places-start : (i : ℕ) → node_at (set (replicate 127 0) 0 1) i ≤ 126
-places-start = places-set (replicate 127 0) 0 1 (omega arith) (omega arith) (λ i. rw (empty i) (omega arith))
+pub entries-start : (i : ℕ) → node_at (set (replicate 127 0) 0 1) i ≤ 126
+entries-start = within-set (replicate 127 0) 0 1 (omega arith) (omega arith) (λ i. rw (empty i) (omega arith))
 
 -- a walk behind which a node is put
 pub put_some : (last count : ℕ) (nodes : List ℕ) (v r : ℕ) (after : List ℕ) → last ≤ 126 → length nodes ≡ 127 → 1 ≤ v → count < last
@@ -328,5 +328,5 @@ put_some last count nodes v r after room size low less is put = record {
   some = λ l h. (is, put);
   size = rw put (length-set nodes count v);
   kept = λ k h. rw put (node_old nodes count v k (λ e. omega arith));
-  places = λ most all k. rw put (places-set nodes count v (omega arith) most all k);
+  within = λ most all k. rw put (within-set nodes count v (omega arith) most all k);
 }

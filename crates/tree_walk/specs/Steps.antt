@@ -11,9 +11,9 @@ with_descendant below u =
     (record { first = u; second = below.second })
     (cond (eqb below.second 0) (record { first = below.first; second = u }) below)
 
--- each descendant kept has a place in a tree
-abbrev pub PlacesBelow : List Below → Type 0
-PlacesBelow below = (v : ℕ) → ((below_at below v).first ≤ 126) × ((below_at below v).second ≤ 126)
+-- each descendant kept is an index of a tree
+abbrev pub WithinBelow : List Below → Type 0
+WithinBelow below = (v : ℕ) → ((below_at below v).first ≤ 126) × ((below_at below v).second ≤ 126)
 
 -- a walk of `count` nodes with node v put behind them, which then has r nodes: none more if v is 0 or `last` nodes stand already
 pub record NodePut (last count : ℕ) (nodes : List ℕ) (v r : ℕ) (after : List ℕ) : Type 0 where
@@ -23,4 +23,4 @@ pub record NodePut (last count : ℕ) (nodes : List ℕ) (v r : ℕ) (after : Li
   pub some : 1 ≤ v → count < last → (r ≡ count + 1) × (after ≡ set nodes count v)
   pub size : length after ≡ length nodes
   pub kept : (k : ℕ) → k < count → node_at after k ≡ node_at nodes k
-  pub places : v ≤ 126 → ((k : ℕ) → node_at nodes k ≤ 126) → (k : ℕ) → node_at after k ≤ 126
+  pub within : v ≤ 126 → ((k : ℕ) → node_at nodes k ≤ 126) → (k : ℕ) → node_at after k ≤ 126

@@ -5,11 +5,11 @@ use Rattle.filled.specs.declared.Filled.{Filled}
 use Rattle.matrix_form.specs.Shape.{last_node}
 use Rattle.tree_walk.specs.declared.walk.Below.{Below}
 use Rattle.tree_walk.specs.declared.walk.Descent.{Descent}
-use Rattle.tree_form.specs.Ancestors.{places, ancestor, descendants}
+use Rattle.tree_form.specs.Ancestors.{tree_size, ancestor, descendants}
 use Rattle.tree_form.specs.Nodes.{other_nodes}
 use Rattle.tree_form.specs.Within.{branching_within}
 
--- the node at place i of a list of nodes, and 0 beyond its end
+-- the node at index i of a list of nodes, and 0 beyond its end
 unfoldable pub node_at : List ℕ → ℕ → ℕ
 node_at nodes i = get_or nodes i 0
 
@@ -25,12 +25,12 @@ pub record WalkOf (n : ℕ) (tree nodes : List ℕ) : Type 0 where
 
 -- a walk as it is handed back
 abbrev pub Walk : Type 0
-Walk = Filled ℕ places
+Walk = Filled ℕ tree_size
 
 -- what is handed back of any tree: as many nodes as it says, each with a place in a tree; of a branching its walk
 pub record Walking (n : ℕ) (tree : List ℕ) (walk : Walk) : Type 0 where
   pub at_most : walk.count ≤ 126
-  pub places : (i : ℕ) → node_at walk.items i ≤ 126
+  pub within : (i : ℕ) → node_at walk.items i ≤ 126
   pub count : branching_within n tree ≡ true → walk.count ≡ last_node n
   pub walks : branching_within n tree ≡ true → WalkOf n tree walk.items
 
@@ -44,7 +44,7 @@ first_two (a ∷ b ∷ rest) = record { first = a; second = b }
 abbrev pub below_at : List Below → ℕ → Below
 below_at below v = get_or below v (record { first = 0; second = 0 })
 
--- the descendants kept of each node of a tree of n taxa are its first two, and each has a place in a tree
+-- the descendants kept of each node of a tree of n taxa are its first two, and each is an index of a tree
 pub record Belows (n : ℕ) (tree : List ℕ) (below : List Below) : Type 0 where
   pub are : (v : ℕ) → 1 ≤ v → v ≤ 126 → below_at below v ≡ first_two (descendants tree (other_nodes n) v)
   pub within : (v : ℕ) → ((below_at below v).first ≤ 126) × ((below_at below v).second ≤ 126)

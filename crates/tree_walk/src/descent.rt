@@ -2,12 +2,12 @@
 ghost use Rattle.std.specs.Prelude.{◌≡◌, ◌≤◌, List, ℕ};
 ghost use Rattle.branching.specs.Views.{ancestors};
 ghost use Rattle.tree_walk.specs.Walks.{Walking, Belows, Descending};
-ghost use Rattle.tree_walk.specs.Steps.{with_descendant, PlacesBelow, NodePut};
+ghost use Rattle.tree_walk.specs.Steps.{with_descendant, WithinBelow, NodePut};
 
 use crate::walk::{Below, Descent, Walk};
-use branching::tree::{Tree, last_node, place_of};
+use branching::tree::{Tree, last_index, tree_index};
 use filled::Filled;
-use tree_form::tree::PLACES;
+use tree_form::tree::TREE_SIZE;
 
 // The descendants of a node, with one more behind them as far as there are two.
 // Kept: no plainer, `Below` has 0 for none, which the passes of a fit read as a place; a method would stand in `walk`, for its one caller here.
@@ -25,13 +25,14 @@ fn with_descendant(below: Below, u: usize) -> Below
 }
 
 // The descendants of each node of a tree, as far as there are two.
-fn below_of(tree: &Tree, n: usize) -> [Below; PLACES]
+fn below_of(tree: &Tree, n: usize) -> [Below; TREE_SIZE]
     ensures { Belows n (ancestors tree.now) result }
 {
-    let mut below = [Below::default(); PLACES];
-    let end = last_node(n) + 1;
+    let list = tree.list();
+    let mut below = [Below::default(); TREE_SIZE];
+    let end = last_index(n) + 1;
     for u in 2..end {
-        let above = place_of(tree.ancestors[u]);
+        let above = tree_index(list[u]);
         below[above] = with_descendant(below[above], u);
     }
     below
@@ -50,11 +51,11 @@ fn put_node(walk: &mut Walk, last: usize, v: usize)
 }
 
 // The walk from node 1 down: behind the nodes that stand in it, the descendants of its first node, of its second, and so on.
-fn walk_down(below: &[Below; PLACES], n: usize) -> Walk
-    requires { PlacesBelow below.now }
+fn walk_down(below: &[Below; TREE_SIZE], n: usize) -> Walk
+    requires { WithinBelow below.now }
     ensures { (tree : List ℕ) → Belows n tree below.now → Walking n tree result }
 {
-    let last = last_node(n);
+    let last = last_index(n);
     let mut walk = Filled::none(0);
     walk.push(1);
     let mut i = 0;

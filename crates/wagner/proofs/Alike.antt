@@ -2,7 +2,7 @@
 -- weighs 1 the Wagner tree is that of document 01's difference.
 use mathlib.Core.Path.{◌≡◌, refl, sym, ap, ◌∙◌}
 use mathlib.Core.Bool.{Bool, true}
-use mathlib.Core.List.{List, []}
+use mathlib.Core.List.{List, [], ◌++◌}
 use Prim.Native.Nat.{ℕ, zero, suc, ◌-◌, ◌≤◌, ◌<◌}
 use native.Mathlib.Omega.{arith}
 use borrow.Author.Tests.{le-leb, leb-true}
@@ -14,7 +14,7 @@ use Rattle.lists.specs.Tests.{every}
 use Rattle.lists.proofs.Every.{every-from}
 use Rattle.lists.proofs.Least.{least_of_congr}
 use Rattle.lists.proofs.Sums.{sum_same}
-use Rattle.matrix_form.specs.Shape.{row, weight_at}
+use Rattle.matrix_form.specs.Shape.{row, weight_at, MatrixLists, matrix_of}
 use Rattle.matrix_form.specs.NodeRows.{row_of, rows_of}
 use Rattle.matrix_form.proofs.Row.{length-row}
 use Rattle.matrix_form.proofs.NodeRows.{length-rows_of, get_or-rows_of}
@@ -23,10 +23,11 @@ use Rattle.difference_form.proofs.Laws.Rows.{length-medians}
 use Rattle.difference_form.proofs.Laws.Weights.{difference-weights, difference-alike}
 use Rattle.tree_form.specs.Ancestors.{ancestor}
 use Rattle.tree_form.specs.Nodes.{nodes_in, nodes_out, other_nodes}
-use Rattle.tree_form.specs.Hanging.{no_branches}
+use Rattle.tree_form.specs.Hanging.{only_row_one}
 use Rattle.tree_form.specs.Branches.{tree_length}
-use Rattle.tree_form.specs.RowLengths.{node_interval, length_under}
-use Rattle.tree_form.specs.Placing.{AfterPlacing, from_interval, nearest_interval, link_first, hang, place_on, place}
+use Rattle.tree_form.specs.RowLengths.{length_under}
+use Rattle.tree_form.specs.Placing.{AfterPlacing, from_interval, nearest_interval, place}
+use Rattle.tree_form.proofs.Placing.{place_same}
 use Rattle.tree_form.specs.declared.order.Order.{Order}
 use Rattle.tree_form.specs.declared.order.Order.TheVariants.{Advance, Closest}
 use Rattle.wagner_form.specs.Next.{advancement, by_advancement, next_by}
@@ -57,24 +58,12 @@ module _ (d d' : List ℤ → List ℤ → ℕ) (m : ℕ) (same : (xs ys : List 
     node_same u v =
         same (row_of rows u) (row_of rows v) (leb-true (length (row_of rows u)) m (row_passes (narrow m) (narrow_none m) rows each u))
 
-    -- interval differences agree
-    interval-same : (b c : ℕ) → from_interval d tree rows b c ≡ from_interval d' tree rows b c
-    unfolding from_interval node_interval interval_by
-    interval-same b c = rw (node_same b c, node_same b (ancestor tree c), node_same c (ancestor tree c))
-
-    -- a placement on a given interval is the same
-    place_on-same : (b c : ℕ) → place_on d n tree rows b c ≡ place_on d' n tree rows b c
-    unfolding place_on link_first hang node_difference
-    place_on-same b zero = rw (node_same b 1)
-    place_on-same b (suc c) = rw (interval-same b (suc c))
-
-    -- so is the placement on the nearest interval
-    place_same : (b : ℕ) → place d n tree rows b ≡ place d' n tree rows b
-    unfolding place nearest_interval
-    place_same b =
-        ap (place_on d n tree rows b)
-        (least_of_congr (from_interval d tree rows b) (from_interval d' tree rows b) (nodes_in tree (other_nodes n)) (λ c _. interval-same b c))
-        ∙ place_on-same b (nearest_interval d' n tree rows b)
+    -- so a placement is the same
+    placed-same : (b : ℕ) → place d (row_of rows) n tree b ≡ place d' (row_of rows) n tree b
+    unfolding from_interval interval_by node_difference
+    placed-same b =
+        place_same d d' (row_of rows) (row_of rows) n tree b (node_same b 1)
+        (λ c low inside. (rw (node_same b c, node_same b (ancestor tree c), node_same c (ancestor tree c)) refl, refl))
 
     -- the taxon to place next is the same
     next-same : (order : Order) → next_by d order n tree rows ≡ next_by d' order n tree rows
@@ -84,7 +73,7 @@ module _ (d d' : List ℤ → List ℤ → ℕ) (m : ℕ) (same : (xs ys : List 
     next-same Closest =
         closeness_least d n tree rows
         ∙ least_of_congr (adds d n tree rows) (adds d' n tree rows) (nodes_out tree (numbers 1 n))
-        (λ b _. ap (λ (after : AfterPlacing). after.placement.added) (place_same b))
+        (λ b _. ap (λ (after : AfterPlacing). after.placement.added) (placed-same b))
         ∙ sym (closeness_least d' n tree rows)
 
     -- the length of a tree is the same
@@ -99,24 +88,24 @@ module _ (d d' : List ℤ → List ℤ → ℕ) (m : ℕ) (same : (xs ys : List 
   build_on-same order n zero tree rows each = refl
   build_on-same order n (suc count) tree rows each =
       let b : ℕ = next_by d' order n tree rows in
-      let placed : AfterPlacing = place d' n tree rows b in
-      let behind = build_on-same order n count placed.tree placed.rows
-      (placed_passes (narrow m) (narrow_none m) (narrow_medians m) d' n tree rows b (nearest_interval d' n tree rows b) each) in
-      rw (next-same n tree rows each order, place_same n tree rows each b, behind)
+      let placed : AfterPlacing = place d' (row_of rows) n tree b in
+      let behind = build_on-same order n count placed.tree (rows ++ placed.made)
+      (placed_passes (narrow m) (narrow_none m) (narrow_medians m) d' n tree rows b (nearest_interval d' (row_of rows) n tree b) each) in
+      rw (next-same n tree rows each order, placed-same n tree rows each b, behind)
 
   -- the Wagner tree is the same
   pub wagner-same : (order : Order) (n : ℕ) (rows : List (List ℤ)) → every (narrow m) rows ≡ true
       → wagner d order n rows ≡ wagner d' order n rows
   unfolding wagner build
-  wagner-same order n rows each = build_on-same order n (n - 1) no_branches rows each
+  wagner-same order n rows each = build_on-same order n (n - 1) only_row_one rows each
 
   -- and so is its length
   pub wagner_length-same : (order : Order) (n : ℕ) (rows : List (List ℤ)) → every (narrow m) rows ≡ true
       → wagner_length d n (wagner d order n rows) ≡ wagner_length d' n (wagner d' order n rows)
   unfolding wagner build wagner_length
   wagner_length-same order n rows each =
-      ap (λ (built : Built). length_under d n built.tree built.rows) (build_on-same order n (n - 1) no_branches rows each)
-      ∙ length-same n _ _ (rows_pass (narrow m) (narrow_none m) (narrow_medians m) d' n (next_by d' order) (n - 1) no_branches rows each)
+      ap (λ (built : Built). length_under d n built.tree built.rows) (build_on-same order n (n - 1) only_row_one rows each)
+      ∙ length-same n _ _ (rows_pass (narrow m) (narrow_none m) (narrow_medians m) d' n (next_by d' order) (n - 1) only_row_one rows each)
 
 -- the rows of a matrix have at most m codes
 rows_narrow : (codes : List ℤ) (m n : ℕ) → every (narrow m) (rows_of codes m n) ≡ true
@@ -126,28 +115,29 @@ rows_narrow codes m n =
     (le-leb (length (row codes m (suc i))) m (omega (arith, length-row codes m (suc i))))
 
 -- the Wagner tree of the rows of a matrix
-module _ (order : Order) (codes : List ℤ) (weights : List ℕ) (n m : ℕ) where
+module _ (order : Order) (lists : MatrixLists) (n m : ℕ) where
   -- the weights of characters 1 to m decide it
-  pub wagner-weights : (others : List ℕ) → ((i : ℕ) → i < m → weight_at weights i ≡ weight_at others i)
-      → wagner_in order codes weights n m ≡ wagner_in order codes others n m
+  pub wagner-weights : (others : List ℕ) → ((i : ℕ) → i < m → weight_at lists.weights i ≡ weight_at others i)
+      → wagner_in order lists n m ≡ wagner_in order (matrix_of lists.codes others) n m
   unfolding wagner_in
   wagner-weights others agree =
-      wagner-same (difference weights) (difference others) m
-      (λ xs ys h. difference-weights weights others xs ys (λ i low. agree i (omega arith)))
-      order n (rows_of codes m n) (rows_narrow codes m n)
+      wagner-same (difference lists.weights) (difference others) m
+      (λ xs ys h. difference-weights lists.weights others xs ys (λ i low. agree i (omega arith)))
+      order n (rows_of lists.codes m n) (rows_narrow lists.codes m n)
 
-  module _ (ones : (i : ℕ) → i < m → weight_at weights i ≡ 1) where
+  module _ (ones : (i : ℕ) → i < m → weight_at lists.weights i ≡ 1) where
     -- on rows of at most m codes the difference is document 01's
-    alike : (xs ys : List ℤ) → length xs ≤ m → difference weights xs ys ≡ unweighted xs ys
-    alike xs ys h = difference-alike weights xs ys (λ i low. ones i (omega arith))
+    alike : (xs ys : List ℤ) → length xs ≤ m → difference lists.weights xs ys ≡ unweighted xs ys
+    alike xs ys h = difference-alike lists.weights xs ys (λ i low. ones i (omega arith))
 
     -- where every character weighs 1 it is that of document 01's difference
-    pub wagner-alike : wagner_in order codes weights n m ≡ wagner unweighted order n (rows_of codes m n)
+    pub wagner-alike : wagner_in order lists n m ≡ wagner unweighted order n (rows_of lists.codes m n)
     unfolding wagner_in
-    wagner-alike = wagner-same (difference weights) unweighted m alike order n (rows_of codes m n) (rows_narrow codes m n)
+    wagner-alike = wagner-same (difference lists.weights) unweighted m alike order n (rows_of lists.codes m n) (rows_narrow lists.codes m n)
 
     -- and so is its length
-    pub wagner_length-alike : wagner_length (difference weights) n (wagner_in order codes weights n m)
-        ≡ wagner_length unweighted n (wagner unweighted order n (rows_of codes m n))
+    pub wagner_length-alike : wagner_length (difference lists.weights) n (wagner_in order lists n m)
+        ≡ wagner_length unweighted n (wagner unweighted order n (rows_of lists.codes m n))
     unfolding wagner_in
-    wagner_length-alike = wagner_length-same (difference weights) unweighted m alike order n (rows_of codes m n) (rows_narrow codes m n)
+    wagner_length-alike = wagner_length-same (difference lists.weights) unweighted m alike order n (rows_of lists.codes m n)
+        (rows_narrow lists.codes m n)

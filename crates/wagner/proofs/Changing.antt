@@ -7,16 +7,15 @@ use native.Mathlib.Omega.{arith}
 use native.Mathlib.Decide.{ℕ_discrete}
 use lib.IntN.{ℤ}
 use lib.ListN.{length}
-use Rattle.matrix_form.specs.Shape.{row}
-use Rattle.matrix_form.specs.NodeRows.{rows_of}
+use Rattle.matrix_form.specs.Shape.{row, MatrixLists}
 use Rattle.difference_form.specs.Rows.{difference, node_difference}
 use Rattle.tree_form.specs.Ancestors.{ancestor}
-use Rattle.tree_form.specs.Nodes.{Unplaced}
+use Rattle.tree_form.specs.Nodes.{Unplaced, last_row}
 use Rattle.tree_form.specs.Facts.{Grown, GrowingTree, alone, several}
 use Rattle.tree_form.specs.Hanging.{next_htu, linked, hung}
-use Rattle.tree_form.specs.Placing.{AfterPlacing, nearest_interval, link_first, hang}
-use Rattle.branching.specs.Placed.{last_row, place_in, matrix_placed}
-use Rattle.branching.specs.Unasked.{interval_at}
+use Rattle.tree_form.specs.Placing.{AfterPlacing, nearest_interval, link_first, hang, from_interval}
+use Rattle.branching.specs.Calls.{place_in, matrix_placed}
+use Rattle.tree_form.proofs.InMatrix.{ends_within}
 use Rattle.tree_form.proofs.Nodes.{nodes_in_node, node_nodes_in}
 use Rattle.tree_form.proofs.BranchSums.{Joint, hung-taxon, hung-lower, hung-other}
 use Rattle.tree_form.proofs.Hanging.{hung_joint, htu_out}
@@ -26,41 +25,37 @@ use Rattle.branching.proofs.Standing.{Standing, last_is, placed-other}
 use Rattle.wagner.specs.Closeness.{intervals, AllChanged}
 
 -- taxon b placed on a growing tree that stands in a matrix
-module _ (codes : List ℤ) (weights : List ℕ) (n m k : ℕ) (tree : List ℕ) (s : Standing codes weights n m k tree) (b : ℕ)
+module _ (lists : MatrixLists) (n m k : ℕ) (tree : List ℕ) (s : Standing lists n m k tree) (b : ℕ)
     (u : Unplaced n tree b) where
-  -- the rows of the tree's nodes
-  abbrev rows : List (List ℤ)
-  rows = rows_of codes m (last_row n tree)
-
   -- what comes out of it, and the matrix then
   abbrev ours : AfterPlacing
-  ours = place_in codes weights n m tree b
+  ours = place_in lists n m tree b
 
   abbrev now : List ℤ
-  now = matrix_placed codes weights n m tree b
+  now = matrix_placed lists n m tree b
 
   -- there is a place for every node
   room : 2 * n - 2 < length tree
-  room = omega (arith, s.places, s.matrix.taxa)
+  room = omega (arith, s.sized, s.matrix.taxa)
 
   -- the row of a node that had one is as before
-  row_stays : (v : ℕ) → 1 ≤ v → v ≤ last_row n tree → row now m v ≡ row codes m v
-  row_stays = placed-other codes weights n m k tree s b u
+  row_stays : (v : ℕ) → 1 ≤ v → v ≤ last_row n tree → row now m v ≡ row lists.codes m v
+  row_stays = placed-other lists n m k tree s b u
 
   -- and so is the advancement of a taxon
-  advancement_stays : (v : ℕ) → 1 ≤ v → v ≤ n → node_difference (difference weights) (row now m) v 1
-      ≡ node_difference (difference weights) (row codes m) v 1
+  advancement_stays : (v : ℕ) → 1 ≤ v → v ≤ n → node_difference (difference lists.weights) (row now m) v 1
+      ≡ node_difference (difference lists.weights) (row lists.codes m) v 1
   unfolding node_difference
   advancement_stays v low high =
-      ap₂ (difference weights) (row_stays v low (omega (arith, last_is codes weights n m k tree s)))
-      (row_stays 1 (omega arith) (omega (arith, last_is codes weights n m k tree s)))
+      ap₂ (difference lists.weights) (row_stays v low (omega (arith, last_is lists n m k tree s)))
+      (row_stays 1 (omega arith) (omega (arith, last_is lists n m k tree s)))
 
   -- the first link
   module _ (none : (v : ℕ) → ancestor tree v ≡ 0) where
     -- b is linked to row 1
-    is-linked : ours ≡ link_first (difference weights) tree rows b
+    is-linked : ours ≡ link_first (difference lists.weights) (row lists.codes m) tree b
     unfolding place_in
-    is-linked = place-first (difference weights) n tree rows b none
+    is-linked = place-first (difference lists.weights) n tree (row lists.codes m) b none
 
     -- b is the lower end of one now
     one-interval : Memᴰ b (intervals n (linked tree b))
@@ -75,7 +70,7 @@ module _ (codes : List ℤ) (weights : List ℕ) (n m k : ℕ) (tree : List ℕ)
         (λ ne. absurd (omega (arith, (node_nodes_in (linked tree b) n e mem).2, linked-other n tree none room b u e ne)))
 
     -- what the first link changes
-    changed_first : AllChanged codes now weights n m tree ours.tree ours.placement
+    changed_first : AllChanged lists now n m tree ours.tree ours.placement
     unfolding link_first
     changed_first v free = record {
       unplaced = free;
@@ -89,7 +84,7 @@ module _ (codes : List ℤ) (weights : List ℕ) (n m k : ℕ) (tree : List ℕ)
   module _ (g : Grown n k tree) where
     -- the lower end of its interval, and the new HTU
     abbrev c : ℕ
-    c = nearest_interval (difference weights) n tree rows b
+    c = nearest_interval (difference lists.weights) (row lists.codes m) n tree b
 
     abbrev y : ℕ
     y = n + k - 1
@@ -100,16 +95,16 @@ module _ (codes : List ℤ) (weights : List ℕ) (n m k : ℕ) (tree : List ℕ)
 
     -- c is in the tree
     inside : 1 ≤ ancestor tree c
-    inside = (nearest_node (difference weights) n tree rows b k g).1
+    inside = (nearest_node (difference lists.weights) n tree (row lists.codes m) b k g).1
 
-    -- b, c and y are three of its places
+    -- b, c and y are three of its entries
     joint : Joint n tree b c y
     joint = hung_joint n k tree g room b c u inside
 
     -- b is hung so
-    is-hung : ours ≡ hang (difference weights) n tree rows b c
+    is-hung : ours ≡ hang (difference lists.weights) (row lists.codes m) n tree b c
     unfolding place_in
-    is-hung = place-later (difference weights) n tree rows b k g
+    is-hung = place-later (difference lists.weights) n tree (row lists.codes m) b k g
 
     -- a node with an immediate ancestor in the new tree
     interval_new : (e : ℕ) → 2 ≤ e → e ≤ 2 * n - 2 → 1 ≤ ancestor new e → Memᴰ e (intervals n new)
@@ -122,29 +117,26 @@ module _ (codes : List ℤ) (weights : List ℕ) (n m k : ℕ) (tree : List ℕ)
         by_cases (ℕ_discrete e b) inl (λ nb. inr
         (by_cases (ℕ_discrete e y) inl (λ ny. inr
         (by_cases (ℕ_discrete e c)
-        (λ is. rw is (nearest_in (difference weights) n tree rows b k g))
+        (λ is. rw is (nearest_in (difference lists.weights) n tree (row lists.codes m) b k g))
         (λ nc. nodes_in_node tree n e w.0 w.1 (inr (rw (hung-other n tree b c y joint e nb nc ny) at w.2)))))))
 
     -- the immediate ancestor of a node of the tree has a row
     upper-row : (e : ℕ) → 1 ≤ ancestor tree e → ancestor tree e ≤ last_row n tree
-    upper-row e a =
-        ⊎_elim
-        (λ one. omega (arith, last_is codes weights n m k tree s, s.matrix.taxon))
-        (λ above. omega (arith, g.nodes_only (ancestor tree e) above, last_is codes weights n m k tree s, g.at_least_two))
-        (g.ancestors_in e a)
+    upper-row e a = (ends_within n k tree g e a).2
 
     -- from an earlier interval, other than that of c, a taxon is as far as before
     interval-same : (v : ℕ) → 1 ≤ v → v ≤ n → (e : ℕ) → Memᴰ e (intervals n tree) → e ≢ c
-        → interval_at now weights m new v e ≡ interval_at codes weights m tree v e
-    unfolding interval_at
+        → from_interval (difference lists.weights) (row now m) new v e
+        ≡ from_interval (difference lists.weights) (row lists.codes m) tree v e
+    unfolding from_interval
     interval-same v low high e mem nc =
         let w = node_nodes_in tree n e mem in
         let within = g.nodes_only e w.2 in
         let above : ancestor new e ≡ ancestor tree e =
         hung-other n tree b c y joint e (λ is. omega (arith, ap (ancestor tree) is, u.free, w.2)) nc
         (λ is. omega (arith, ap (ancestor tree) is, htu_out n k tree g room b c u inside, w.2)) in
-        let own = row_stays v low (omega (arith, last_is codes weights n m k tree s)) in
-        let lower = row_stays e (omega (arith, w.0)) (omega (arith, within.1, last_is codes weights n m k tree s, g.at_least_two)) in
+        let own = row_stays v low (omega (arith, last_is lists n m k tree s)) in
+        let lower = row_stays e (omega (arith, w.0)) (omega (arith, within.1, last_is lists n m k tree s, g.at_least_two)) in
         let upper = row_stays (ancestor tree e) w.2 (upper-row e w.2) in
         rw (above, own, lower, upper)
 
@@ -173,7 +165,8 @@ module _ (codes : List ℤ) (weights : List ℕ) (n m k : ℕ) (tree : List ℕ)
     -- an interval belongs to the placement, or is an earlier one from which a taxon is as far as before
     interval-each : (v : ℕ) → 1 ≤ v → v ≤ n → (e : ℕ) → Memᴰ e (intervals n new)
         → ((e ≡ b) ⊎ ((e ≡ y) ⊎ (e ≡ c))) ⊎ (Memᴰ e (intervals n tree)
-        × (interval_at now weights m new v e ≡ interval_at codes weights m tree v e))
+        × (from_interval (difference lists.weights) (row now m) new v e
+        ≡ from_interval (difference lists.weights) (row lists.codes m) tree v e))
     interval-each v low high e mem =
         ⊎_elim (λ is. inl (inl is))
         (λ rest. ⊎_elim (λ is. inl (inr (inl is)))
@@ -182,7 +175,7 @@ module _ (codes : List ℤ) (weights : List ℕ) (n m k : ℕ) (tree : List ℕ)
         (interval-only e mem)
 
     -- what a hanging changes
-    changed_later : AllChanged codes now weights n m tree ours.tree ours.placement
+    changed_later : AllChanged lists now n m tree ours.tree ours.placement
     unfolding hang
     changed_later v free =
         let grown : ours.tree ≡ new = ap (λ (after : AfterPlacing). after.tree) is-hung ∙ ap (hung tree b c) is-htu in
@@ -200,7 +193,7 @@ module _ (codes : List ℤ) (weights : List ℕ) (n m k : ℕ) (tree : List ℕ)
         }
 
   -- every placement
-  pub placed_changed : AllChanged codes now weights n m tree ours.tree ours.placement
+  pub placed_changed : AllChanged lists now n m tree ours.tree ours.placement
   placed_changed = go s.growing changed_first changed_later
     where
       go : {j : ℕ} {A : Type 0} → GrowingTree n tree j → (((v : ℕ) → ancestor tree v ≡ 0) → A) → (Grown n j tree → A) → A

@@ -5,25 +5,23 @@ use mathlib.Core.Bool.{true, and-eq-true_iff}
 use mathlib.Core.List.{List, []}
 use Prim.Native.Nat.{ℕ, suc, ◌+◌, ◌-◌, ◌≤◌, ◌<◌}
 use native.Mathlib.Omega.{arith}
-use lib.Dec.{leb, eqb}
+use lib.Dec.{eqb}
 use lib.IntN.{ℤ}
 use lib.ListN.{length, get_or}
 use borrow.Author.Tests.{eqb-true}
 use Rattle.lists.specs.Numbers.{numbers}
 use Rattle.lists.specs.Tests.{every}
-use Rattle.lists.proofs.Both.{or_right}
-use Rattle.lists.proofs.Every.{every-from, every_iff}
-use Rattle.lists.proofs.Numbers.{numbers-within}
-use Rattle.matrix_form.specs.Shape.{row}
+use Rattle.lists.proofs.Every.{every-from}
+use Rattle.matrix_form.specs.Shape.{row, MatrixLists, with_codes}
 use Rattle.matrix_form.specs.NodeRows.{row_of, rows_of}
-use Rattle.matrix_form.specs.Questions.{LentMatrix, LentWeights, all_in_range, htu_in_range, htus_in_range}
-use Rattle.matrix_form.proofs.Passing.{matrix_passes}
+use Rattle.matrix_form.specs.Questions.{LentMatrix, LentWeights, all_in_range, ask_rows_of}
+use Rattle.matrix_form.proofs.Passing.{matrix_passes, numbers_asked}
 use Rattle.matrix_form.proofs.NodeRows.{length-rows_of, row_of-next, row_of-rows_of}
 use Rattle.difference_form.specs.Rows.{difference}
 use Rattle.difference_form.proofs.Laws.Rows.{medians-in_range}
 use Rattle.tree_form.specs.Nodes.{taxa_placed}
 use Rattle.tree_form.specs.Growing.{growing_tree, branching}
-use Rattle.tree_form.specs.Asking.{branches_size, htus_of, ask_records}
+use Rattle.tree_form.specs.Asking.{branches_size, htus_of, ask_finished, ask_records}
 use Rattle.tree_form.proofs.Test.{branching_iff}
 use Rattle.tree_form.specs.declared.order.Order.{Order}
 use Rattle.wagner_form.specs.Next.{next_by}
@@ -39,25 +37,25 @@ unfolding all_in_range every
 none-known = refl
 
 -- the Wagner tree of a lent matrix
-module _ (order : Order) (codes : List ℤ) (weights : List ℕ) (n m : ℕ) (lent : LentMatrix codes n m) where
+module _ (order : Order) (lists : MatrixLists) (n m : ℕ) (lent : LentMatrix lists.codes n m) where
   -- the build, and the matrix after it
   abbrev ours : Built
-  ours = wagner_in order codes weights n m
+  ours = wagner_in order lists n m
 
   abbrev after : List ℤ
-  after = matrix_after codes n ours
+  after = matrix_after lists.codes n ours
 
   -- all its rows have codes from -999 to 999
   ours-known : every all_in_range ours.rows ≡ true
   unfolding wagner_in wagner build
   ours-known =
-      rows_pass all_in_range none-known medians-in_range (difference weights) n (next_by (difference weights) order) (n - 1) _
-      (rows_of codes m n) (every-from all_in_range [] (rows_of codes m n) each)
+      rows_pass all_in_range none-known medians-in_range (difference lists.weights) n (next_by (difference lists.weights) order) (n - 1) _
+      (rows_of lists.codes m n) (every-from all_in_range [] (rows_of lists.codes m n) each)
     where
-      each : (i : ℕ) → i < length (rows_of codes m n) → all_in_range (get_or (rows_of codes m n) i []) ≡ true
+      each : (i : ℕ) → i < length (rows_of lists.codes m n) → all_in_range (get_or (rows_of lists.codes m n) i []) ≡ true
       each i h =
-          let below : i < n = omega (arith, length-rows_of codes m n) in
-          rw (sym (row_of-next (rows_of codes m n) i) ∙ row_of-rows_of codes m n (suc i) (omega arith) (omega arith))
+          let below : i < n = omega (arith, length-rows_of lists.codes m n) in
+          rw (sym (row_of-next (rows_of lists.codes m n) i) ∙ row_of-rows_of lists.codes m n (suc i) (omega arith) (omega arith))
           (lent.known (suc i) (omega arith) (omega arith))
 
   -- so have the rows of its nodes in the matrix
@@ -66,15 +64,15 @@ module _ (order : Order) (codes : List ℤ) (weights : List ℕ) (n m : ℕ) (le
       rw
       (sym (row_of-rows_of after m (n + (n - 2)) v low high)
       ∙ ap (λ (rows : List (List ℤ)). row_of rows v)
-      (after_rows (difference weights) codes n m lent.characters (ours_room order codes weights n m lent) ours
-      (ours_sound order codes weights n m lent)))
+      (after_rows (difference lists.weights) lists.codes n m lent.characters (ours_room order lists n m lent) ours
+      (ours_sound order lists n m lent)))
       (row_passes all_in_range none-known ours.rows ours-known v)
 
   -- the matrix after the build is a lent matrix
   pub after_lent : LentMatrix after n m
   after_lent = record {
-    full = after_size (difference weights) codes n m lent.characters (ours_room order codes weights n m lent) ours
-        (ours_sound order codes weights n m lent)
+    full = after_size (difference lists.weights) lists.codes n m lent.characters (ours_room order lists n m lent) ours
+        (ours_sound order lists n m lent)
         ∙ lent.full;
     taxon = lent.taxon;
     taxa = lent.taxa;
@@ -84,15 +82,14 @@ module _ (order : Order) (codes : List ℤ) (weights : List ℕ) (n m : ℕ) (le
   }
 
   -- the tree and the matrix that a build hands back are refused by no question of the call that writes its branch records
-  pub built_passes : LentWeights weights m → ask_records after weights n m ours.tree branches_size ≡ Ok tt
-  unfolding ask_records htus_in_range htus_of htu_in_range branching
+  pub built_passes : LentWeights lists.weights m → ask_records (with_codes lists after) n m ours.tree branches_size ≡ Ok tt
+  unfolding ask_records ask_finished htus_of branching
   built_passes weighted =
       let test : branching n ours.tree ≡ true = (branching_iff ours.tree n lent.taxon).1
-      (ours-branching order codes weights n m lent) in
+      (ours-branching order lists n m lent) in
       let all : taxa_placed n ours.tree ≡ n =
       eqb-true _ _ ((and-eq-true_iff (growing_tree n ours.tree) (eqb (taxa_placed n ours.tree) n)).0 test).1 in
-      let htus : every (htu_in_range after n m) (numbers (n + 1) (taxa_placed n ours.tree - 2)) ≡ true =
-      (every_iff (htu_in_range after n m) (numbers (n + 1) (taxa_placed n ours.tree - 2))).1
-      (λ v mem. let w = numbers-within (n + 1) (taxa_placed n ours.tree - 2) v mem in
-      or_right (leb v n) (all_in_range (row after m v)) (after_known v (omega arith) (omega (arith, all)))) in
-      rw ((matrix_passes after weights n m).1 (after_lent, weighted), test, htus)
+      let htus : ask_rows_of (with_codes lists after) m (numbers (n + 1) (taxa_placed n ours.tree - 2)) ≡ Ok tt =
+      (numbers_asked (with_codes lists after) m (n + 1) (taxa_placed n ours.tree - 2)).1
+      (λ v low high. after_known v (omega arith) (omega (arith, all))) in
+      rw ((matrix_passes (with_codes lists after) n m).1 (after_lent, weighted), test, htus)

@@ -14,7 +14,7 @@ use Rattle.lists.specs.Sums.{sum_over}
 use Rattle.lists.proofs.Numbers.{length_map_numbers, map-numbers}
 use Rattle.lists.proofs.Over.{over-part}
 use Rattle.lists.proofs.Sums.{sum_map}
-use Rattle.matrix_form.specs.Shape.{row, row_start, columns}
+use Rattle.matrix_form.specs.Shape.{row, row_start, columns, MatrixLists, with_codes}
 use Rattle.matrix_form.specs.NodeRows.{row_of, rows_of}
 use Rattle.matrix_form.specs.Questions.{LentMatrix}
 use Rattle.matrix_form.proofs.Row.{row_128}
@@ -27,7 +27,7 @@ use Rattle.tree_form.specs.Facts.{Branching}
 use Rattle.tree_form.specs.Branches.{tree_length, branch_of, branch_records, with_records}
 use Rattle.tree_records.specs.Lengths.{lengths_by}
 use Rattle.tree_form.specs.RowLengths.{length_under}
-use Rattle.tree_form.specs.Hanging.{no_branches}
+use Rattle.tree_form.specs.Hanging.{only_row_one}
 use Rattle.tree_form.proofs.Records.{records-length}
 use Rattle.tree_form.proofs.Whole.{branching_nodes, growing_ancestor_le}
 use Rattle.wagner_form.specs.Build.{Built, wagner_length, wagner_branches}
@@ -77,18 +77,18 @@ records_agree d d' n tree old size same =
             ap {B = Branch} (λ (l : ℕ). record { node = v; ancestor = ancestor tree v; length = l }) (same v low h high)
 
 -- the lengths by node number give the lengths under the codes
-pub lengths-records : (codes : List ℤ) (weights : List ℕ) (n m : ℕ) (tree lengths : List ℕ) (old : List Branch) → length old ≡ 125
-    → LengthsOf codes weights m tree lengths
-    → with_records (lengths_by lengths) n tree old ≡ with_records (length_in codes weights m) n tree old
+pub lengths-records : (lists : MatrixLists) (n m : ℕ) (tree lengths : List ℕ) (old : List Branch) → length old ≡ 125
+    → LengthsOf lists m tree lengths
+    → with_records (lengths_by lengths) n tree old ≡ with_records (length_in lists m) n tree old
 unfolding lengths_by
-lengths-records codes weights n m tree lengths old size of =
-    records_agree (lengths_by lengths) (length_in codes weights m) n tree old size (λ v low h high. of.each v h)
+lengths-records lists n m tree lengths old size of =
+    records_agree (lengths_by lengths) (length_in lists m) n tree old size (λ v low h high. of.each v h)
 
 -- of at most 128 characters it is the difference of the two rows
-pub length_in-plain : (codes : List ℤ) (weights : List ℕ) (m u v : ℕ) → m ≤ 128
-    → length_in codes weights m u v ≡ node_difference (difference weights) (row codes m) u v
+pub length_in-plain : (lists : MatrixLists) (m u v : ℕ) → m ≤ 128
+    → length_in lists m u v ≡ node_difference (difference lists.weights) (row lists.codes m) u v
 unfolding length_in node_difference
-length_in-plain codes weights m u v narrow = ap₂ (difference weights) (row_128 codes m u narrow) (row_128 codes m v narrow)
+length_in-plain lists m u v narrow = ap₂ (difference lists.weights) (row_128 lists.codes m u narrow) (row_128 lists.codes m v narrow)
 
 -- the row in the first 128 characters
 row_first : (codes : List ℤ) (m v : ℕ) → row codes (min m 128) v ≡ take 128 (row codes m v)
@@ -100,10 +100,10 @@ row_first codes m v =
     (λ wide. let many : min m 128 ≡ 128 = omega arith in rw many (sym (take-take 128 m (drop (row_start v) codes) (omega arith))))
 
 -- it is the difference of the two rows in the first 128 characters
-pub length_in-first : (codes : List ℤ) (weights : List ℕ) (m u v : ℕ)
-    → node_difference (difference weights) (row codes (min m 128)) u v ≡ length_in codes weights m u v
+pub length_in-first : (lists : MatrixLists) (m u v : ℕ)
+    → node_difference (difference lists.weights) (row lists.codes (min m 128)) u v ≡ length_in lists m u v
 unfolding length_in node_difference
-length_in-first codes weights m u v = ap₂ (difference weights) (row_first codes m u) (row_first codes m v)
+length_in-first lists m u v = ap₂ (difference lists.weights) (row_first lists.codes m u) (row_first lists.codes m v)
 
 -- of a branching, the lengths of the branch records sum to the length of the tree
 pub records_sum : (d : ℕ → ℕ → ℕ) (n : ℕ) (tree : List ℕ) → Branching n tree
@@ -113,62 +113,63 @@ records_sum d n tree whole =
     sum_map (λ (branch : Branch). branch.length) (branch_of d tree) (other_nodes n) ∙ sym (records-length d n tree whole)
 
 -- the Wagner tree of a lent matrix
-module _ (order : Order) (codes : List ℤ) (weights : List ℕ) (n m : ℕ) (lent : LentMatrix codes n m) where
+module _ (order : Order) (lists : MatrixLists) (n m : ℕ) (lent : LentMatrix lists.codes n m) where
   -- the build
   abbrev ours : Built
-  ours = wagner_in order codes weights n m
+  ours = wagner_in order lists n m
 
   -- its tree, its rows and its length
-  pub ours_sound : Sound (difference weights) n m n no_branches (rows_of codes m n) ours
+  pub ours_sound : Sound (difference lists.weights) n m n only_row_one (rows_of lists.codes m n) ours
   unfolding wagner_in
   ours_sound =
-      wagner_sound order weights n m lent.taxon lent.taxa (rows_of codes m n) (length-rows_of codes m n)
-      (rows_of-each codes m n lent.characters (omega (arith, lent.full, lent.taxa)))
+      wagner_sound order lists.weights n m lent.taxon lent.taxa (rows_of lists.codes m n) (length-rows_of lists.codes m n)
+      (rows_of-each lists.codes m n lent.characters (omega (arith, lent.full, lent.taxa)))
 
   -- it is a branching
   pub ours-branching : Branching n ours.tree
   unfolding wagner_in
-  ours-branching = wagner-branching (difference weights) order n lent.taxon lent.taxa (rows_of codes m n)
+  ours-branching = wagner-branching (difference lists.weights) order n lent.taxon lent.taxa (rows_of lists.codes m n)
 
   -- there is room for all its rows
-  pub ours_room : row_start (suc (n + (n - 2))) ≤ length codes
+  pub ours_room : row_start (suc (n + (n - 2))) ≤ length lists.codes
   ours_room = omega (arith, lent.full, lent.taxa)
 
   -- the matrix after the build holds the row of each node
-  ours-row : (v : ℕ) → 1 ≤ v → v ≤ n + (n - 2) → row_of ours.rows v ≡ row (matrix_after codes n ours) m v
+  ours-row : (v : ℕ) → 1 ≤ v → v ≤ n + (n - 2) → row_of ours.rows v ≡ row (matrix_after lists.codes n ours) m v
   ours-row v low high =
       ap (λ (rows : List (List ℤ)). row_of rows v)
-      (sym (after_rows (difference weights) codes n m lent.characters ours_room ours ours_sound))
-      ∙ row_of-rows_of (matrix_after codes n ours) m (n + (n - 2)) v low high
+      (sym (after_rows (difference lists.weights) lists.codes n m lent.characters ours_room ours ours_sound))
+      ∙ row_of-rows_of (matrix_after lists.codes n ours) m (n + (n - 2)) v low high
 
   -- the records written from the tree and the matrix that a build leaves are those of the finished tree, over the first 2n-3
   pub built-branches : (old : List Branch) → length old ≡ 125
-      → with_records (length_in (matrix_after codes n ours) weights m) n ours.tree old
-      ≡ over 0 (wagner_branches (difference weights) n ours) old
+      → with_records (length_in (with_codes lists (matrix_after lists.codes n ours)) m) n ours.tree old
+      ≡ over 0 (wagner_branches (difference lists.weights) n ours) old
   unfolding wagner_branches
   built-branches old size =
-      records_agree (length_in (matrix_after codes n ours) weights m) (node_difference (difference weights) (row_of ours.rows)) n
+      records_agree (length_in (with_codes lists (matrix_after lists.codes n ours)) m)
+      (node_difference (difference lists.weights) (row_of ours.rows)) n
       ours.tree old size same
       ∙ unfold with_records in refl
     where
       same : (v : ℕ) → 2 ≤ v → v < 127 → v ≤ 2 * n - 2
-          → length_in (matrix_after codes n ours) weights m v (ancestor ours.tree v)
-          ≡ node_difference (difference weights) (row_of ours.rows) v (ancestor ours.tree v)
+          → length_in (with_codes lists (matrix_after lists.codes n ours)) m v (ancestor ours.tree v)
+          ≡ node_difference (difference lists.weights) (row_of ours.rows) v (ancestor ours.tree v)
       same v low h high =
           let a : ℕ = ancestor ours.tree v in
           let inside : 1 ≤ a = branching_nodes n ours.tree ours-branching v low high in
           let reach : a ≤ 2 * n - 2 = growing_ancestor_le n ours.tree ours-branching v in
-          length_in-plain (matrix_after codes n ours) weights m v a lent.characters
+          length_in-plain (with_codes lists (matrix_after lists.codes n ours)) m v a lent.characters
           ∙ unfold node_difference in
-          sym (ap₂ (difference weights) (ours-row v (omega arith) (omega arith)) (ours-row a inside (omega arith)))
+          sym (ap₂ (difference lists.weights) (ours-row v (omega arith) (omega arith)) (ours-row a inside (omega arith)))
 
   -- their lengths sum to the length of the tree
-  pub built_sum : sum_over (λ (branch : Branch). branch.length) (wagner_branches (difference weights) n ours)
-      ≡ wagner_length (difference weights) n ours
+  pub built_sum : sum_over (λ (branch : Branch). branch.length) (wagner_branches (difference lists.weights) n ours)
+      ≡ wagner_length (difference lists.weights) n ours
   unfolding wagner_branches wagner_length length_under
-  built_sum = records_sum (node_difference (difference weights) (row_of ours.rows)) n ours.tree ours-branching
+  built_sum = records_sum (node_difference (difference lists.weights) (row_of ours.rows)) n ours.tree ours-branching
 
   -- which codes differ after a build: of no row but those of nodes n+1 to 2n-2, and of these none past column m
   pub built-else : (v j : ℕ) → 1 ≤ v → j < columns → (n < v → v ≤ n + (n - 2) → j < m → ⊥)
-      → get_or (matrix_after codes n ours) (row_start v + j) (pos 0) ≡ get_or codes (row_start v + j) (pos 0)
-  built-else = after_else (difference weights) codes n m lent.characters ours_room ours ours_sound
+      → get_or (matrix_after lists.codes n ours) (row_start v + j) (pos 0) ≡ get_or lists.codes (row_start v + j) (pos 0)
+  built-else = after_else (difference lists.weights) lists.codes n m lent.characters ours_room ours ours_sound

@@ -1,5 +1,4 @@
 -- Laws of a build under way, for the proofs of the functions.
-pub mod LeastKey
 pub mod Choosing
 pub mod Renewing
 pub mod Changing

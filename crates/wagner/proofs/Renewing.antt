@@ -1,4 +1,4 @@
--- What is kept by closeness is right again after a placement: three places of each taxon are written, and its nearest interval is found by
+-- What is kept by closeness is right again after a placement: three entries of each taxon are written, and its nearest interval is found by
 -- what is kept.
 use mathlib.Core.Path.{◌≡◌, refl, sym, ap, ◌∙◌}
 use mathlib.Core.Bool.{true, true≢false}
@@ -10,32 +10,37 @@ use native.Mathlib.Decide.{ℕ_discrete}
 use lib.IntN.{ℤ}
 use lib.ListN.{length, get_or, set}
 use lib.Seq.{get_or-set_same, get_or-set_other}
+use Rattle.tree_form.specs.Placing.{from_interval, nearest_interval, place}
+use Rattle.difference_form.specs.Rows.{difference}
+use Rattle.matrix_form.specs.Shape.{row, MatrixLists, with_codes}
 use Rattle.std.specs.Prelude.{Option, Some}
 use Rattle.std.specs.Option.{unwrap_or}
-use Rattle.lists.proofs.Least.{least_of-mem, least_of_congr}
+use Rattle.lists.specs.Least.{least_key}
+use Rattle.lists.proofs.Least.{least_key-of, least_of-mem, least_of_congr}
 use Rattle.tree_form.specs.declared.placement.Placement.{Placement}
 use Rattle.tree_form.specs.Nodes.{in_tree, Unplaced}
-use Rattle.branching.specs.Unasked.{interval_at, nearest_at, hung_at, placed_at}
+use Rattle.branching.specs.Calls.{place_in}
+use Rattle.tree_form.proofs.Placing.{added_on}
 use Rattle.tree_form.proofs.Nodes.{false-in_tree, node_nodes_in}
 use Rattle.tree_form.specs.declared.order.Order.TheVariants.{Advance, Closest}
-use Rattle.wagner.specs.Order.{least_key, key_of, key_by}
-use Rattle.wagner.specs.Closeness.{places, kept, kept_of, intervals, RowRight, KeptThree, Changed, AllChanged}
+use Rattle.wagner.specs.Order.{key_of, key_by}
+use Rattle.wagner.specs.Closeness.{tree_size, kept, kept_of, intervals, RowRight, KeptThree, Changed, AllChanged}
 use Rattle.wagner.specs.Closeness.{RowRenewed, Table, KeysNext}
-use Rattle.wagner.proofs.Choosing.{least_key-of}
 
--- of the first i of some nodes, the places among what is kept of taxon v are written
-module _ (codes : List ℤ) (weights : List ℕ) (m : ℕ) (tree : List ℕ) (v : ℕ) (nodes : List ℕ) where
+-- of the first i of some nodes, the entries among what is kept of taxon v are written
+module _ (lists : MatrixLists) (m : ℕ) (tree : List ℕ) (v : ℕ) (nodes : List ℕ) where
   pub record Written (i : ℕ) (old new : List ℕ) : Type 0 where
-    pub here : (e : ℕ) → e < places → (k : ℕ) → k < i → e ≡ get_or nodes k 0 → kept new e ≡ interval_at codes weights m tree v e
+    pub here : (e : ℕ) → e < tree_size → (k : ℕ) → k < i → e ≡ get_or nodes k 0 → kept new e
+        ≡ from_interval (difference lists.weights) (row lists.codes m) tree v e
     pub else : (e : ℕ) → ((k : ℕ) → k < i → e ≢ get_or nodes k 0) → kept new e ≡ kept old e
 
   -- of none
-  pub written_none : (places : List ℕ) → Written 0 places places
-  written_none places = record { here = λ e low k less. absurd (omega arith); else = λ e out. refl }
+  pub written_none : (row : List ℕ) → Written 0 row row
+  written_none row = record { here = λ e low k less. absurd (omega arith); else = λ e out. refl }
 
   -- of one more, which has a place
   pub written_more : (i : ℕ) (old new : List ℕ) (c x : ℕ) → c ≡ get_or nodes i 0 → Written i old new → c < length new
-      → x ≡ interval_at codes weights m tree v c → Written (i + 1) old (set new c x)
+      → x ≡ from_interval (difference lists.weights) (row lists.codes m) tree v c → Written (i + 1) old (set new c x)
   unfolding kept
   written_more i old new c x at w room is = record {
     here = λ e low k less one.
@@ -54,7 +59,7 @@ module _ (codes : List ℤ) (weights : List ℕ) (m : ℕ) (tree : List ℕ) (v 
           (λ before. omega arith)
 
   -- or has none
-  pub written_past : (i : ℕ) (old new : List ℕ) (c : ℕ) → c ≡ get_or nodes i 0 → Written i old new → places ≤ c
+  pub written_past : (i : ℕ) (old new : List ℕ) (c : ℕ) → c ≡ get_or nodes i 0 → Written i old new → tree_size ≤ c
       → Written (i + 1) old new
   written_past i old new c at w high = record {
     here = λ e low k less one.
@@ -69,9 +74,9 @@ abbrev pub three_nodes : Placement → List ℕ
 three_nodes done = done.lower ∷ done.htu ∷ done.taxon ∷ []
 
 -- all three written
-pub three_kept : (codes : List ℤ) (weights : List ℕ) (m : ℕ) (tree : List ℕ) (v : ℕ) (done : Placement) (old new : List ℕ)
-    → Written codes weights m tree v (three_nodes done) 3 old new → KeptThree codes weights m tree v done old new
-three_kept codes weights m tree v done old new w = record {
+pub three_kept : (lists : MatrixLists) (m : ℕ) (tree : List ℕ) (v : ℕ) (done : Placement) (old new : List ℕ)
+    → Written lists m tree v (three_nodes done) 3 old new → KeptThree lists m tree v done old new
+three_kept lists m tree v done old new w = record {
   here = λ e low one. ⊎_elim (λ is. w.here e low 2 (omega arith) is)
       (λ rest. ⊎_elim (λ is. w.here e low 1 (omega arith) is) (λ is. w.here e low 0 (omega arith) is) rest) one;
   else = λ e taxon htu lower. w.else e (out e taxon htu lower);
@@ -83,34 +88,30 @@ three_kept codes weights m tree v done old new w = record {
     out e taxon htu lower (suc (suc zero)) less = taxon
     out e taxon htu lower (suc (suc (suc k))) less = absurd (omega arith)
 
--- on an interval, a placement adds the interval difference
-added_on : (codes : List ℤ) (weights : List ℕ) (n m : ℕ) (tree : List ℕ) (v c : ℕ) → c ≢ 0
-    → (placed_at codes weights m n tree v c).placement.added ≡ interval_at codes weights m tree v c
-unfolding placed_at hung_at
-added_on codes weights n m tree v zero some = absurd (some refl)
-added_on codes weights n m tree v (suc c) some = refl
-
 -- where there is an interval, there is a least key of the intervals by what is kept, the key of the taxon if that is right
-key-kept : (codes : List ℤ) (weights : List ℕ) (n m : ℕ) (tree : List ℕ) (v e : ℕ) (own : List ℕ) → Memᴰ e (intervals n tree)
-    → RowRight codes weights n m tree v own
-    → least_key (kept own) (intervals n tree) ≡ Some (key_by Closest codes weights n m tree v)
-unfolding key_by nearest_at
-key-kept codes weights n m tree v e own some right =
-    let mem : Memᴰ (nearest_at codes weights m n tree v) (intervals n tree) =
-    least_of-mem (interval_at codes weights m tree v) (intervals n tree) e some in
-    let low = (node_nodes_in tree n (nearest_at codes weights m n tree v) mem).0 in
+key-kept : (lists : MatrixLists) (n m : ℕ) (tree : List ℕ) (v e : ℕ) (own : List ℕ) → Memᴰ e (intervals n tree)
+    → RowRight lists n m tree v own
+    → least_key (kept own) (intervals n tree) ≡ Some (key_by Closest lists n m tree v)
+unfolding key_by place_in place nearest_interval
+key-kept lists n m tree v e own some right =
+    let mem : Memᴰ (nearest_interval (difference lists.weights) (row lists.codes m) n tree v) (intervals n tree) =
+    least_of-mem (from_interval (difference lists.weights) (row lists.codes m) tree v) (intervals n tree) e some in
+    let low = (node_nodes_in tree n (nearest_interval (difference lists.weights) (row lists.codes m) n tree v) mem).0 in
     least_key-of (kept own) (intervals n tree) e some
     ∙ ap Some
-    (ap (kept own) (least_of_congr (kept own) (interval_at codes weights m tree v) (intervals n tree) (λ c mem. right c mem))
-    ∙ right (nearest_at codes weights m n tree v) mem
-    ∙ sym (added_on codes weights n m tree v (nearest_at codes weights m n tree v) (λ z. omega (arith, low))))
+    (ap (kept own) (least_of_congr (kept own) (from_interval (difference lists.weights) (row lists.codes m) tree v) (intervals n tree)
+    (λ c mem. right c mem))
+    ∙ right (nearest_interval (difference lists.weights) (row lists.codes m) n tree v) mem
+    ∙ sym (added_on (difference lists.weights) n tree (row lists.codes m) v (nearest_interval (difference lists.weights) (row
+    lists.codes m) n tree v) (omega (arith, low))))
 
 -- what is kept of a taxon after a placement
-module _ (now : List ℤ) (weights : List ℕ) (n m : ℕ) (few : n ≤ 64) (new : List ℕ) (v : ℕ) (done : Placement) (old own : List ℕ)
-    (three : KeptThree now weights m new v done old own) where
+module _ (lists : MatrixLists) (n m : ℕ) (few : n ≤ 64) (new : List ℕ) (v : ℕ) (done : Placement) (old own : List ℕ)
+    (three : KeptThree lists m new v done old own) where
   -- is right again
-  row-again : (codes : List ℤ) (before : List ℕ) → Changed codes now weights n m before new v done → RowRight codes weights n m before v old
-      → RowRight now weights n m new v own
+  row-again : (codes : List ℤ) (before : List ℕ) → Changed (with_codes lists codes) lists.codes n m before new v done
+      → RowRight (with_codes lists codes) n m before v old
+      → RowRight lists n m new v own
   row-again codes before changed right c mem =
       by_cases (ℕ_discrete c done.taxon) (λ is. three.here c small (inl is)) (λ nb.
       by_cases (ℕ_discrete c done.htu) (λ is. three.here c small (inr (inl is))) (λ ny.
@@ -121,26 +122,26 @@ module _ (now : List ℤ) (weights : List ℕ) (n m : ℕ) (few : n ≤ 64) (new
       (λ earlier. right c earlier.0 ∙ sym earlier.1)
       (changed.each c mem))))
     where
-      small : c < places
+      small : c < tree_size
       small = omega (arith, (node_nodes_in new n c mem).1)
 
   -- and there is a key, which is right
-  pub row_renewed : (r : Option ℕ) → r ≡ least_key (kept own) (intervals n new) → RowRenewed now weights n m new v done old own r
+  pub row_renewed : (r : Option ℕ) → r ≡ least_key (kept own) (intervals n new) → RowRenewed lists n m new v done old own r
   row_renewed r least = record {
     again = row-again;
     key = λ codes before changed right.
-        least ∙ key-kept now weights n m new v done.taxon own changed.some_interval (row-again codes before changed right);
+        least ∙ key-kept lists n m new v done.taxon own changed.some_interval (row-again codes before changed right);
   }
 
 -- a placement after which keys and what is kept of the taxa before v are right again
-module _ (now : List ℤ) (weights : List ℕ) (n m : ℕ) (new : List ℕ) (done : Placement) (old : List (List ℕ)) where
+module _ (lists : MatrixLists) (n m : ℕ) (new : List ℕ) (done : Placement) (old : List (List ℕ)) where
   -- what is kept of the others is as before
   pub record RenewedUpTo (v : ℕ) (table : List (List ℕ)) (all : List ℕ) : Type 0 where
     pub rest : (w : ℕ) → v ≤ w → kept_of table w ≡ kept_of old w
-    pub each : (codes : List ℤ) (before : List ℕ) → AllChanged codes now weights n m before new done
-        → Table Closest codes weights n m before old
+    pub each : (codes : List ℤ) (before : List ℕ) → AllChanged (with_codes lists codes) lists.codes n m before new done
+        → Table Closest (with_codes lists codes) n m before old
         → (u : ℕ) → Unplaced n new u → u < v
-        → (key_of all u ≡ key_by Closest now weights n m new u) × RowRight now weights n m new u (kept_of table u)
+        → (key_of all u ≡ key_by Closest lists n m new u) × RowRight lists n m new u (kept_of table u)
 
   -- of no taxon
   pub renewed_start : (keys : List ℕ) → RenewedUpTo 1 old keys
@@ -164,7 +165,7 @@ module _ (now : List ℤ) (weights : List ℕ) (n m : ℕ) (new : List ℕ) (don
   -- what is kept of one taxon more, and its key, which stays where there is no other
   pub renewed_next : (v : ℕ) (table : List (List ℕ)) (all own : List ℕ) (r : Option ℕ) → v < length all → v < length table
       → RenewedUpTo v table all
-      → RowRenewed now weights n m new v done (kept_of table v) own r
+      → RowRenewed lists n m new v done (kept_of table v) own r
       → RenewedUpTo (v + 1) (set table v own) (set all v (unwrap_or r (get_or all v 0)))
   unfolding key_of kept_of
   renewed_next v table all own r room long up_to row = record {
@@ -181,18 +182,18 @@ module _ (now : List ℤ) (weights : List ℕ) (n m : ℕ) (new : List ℕ) (don
       key : ℕ
       key = unwrap_or r (get_or all v 0)
 
-      here : (codes : List ℤ) (before : List ℕ) → AllChanged codes now weights n m before new done
-          → Table Closest codes weights n m before old
-          → Unplaced n new v → (key ≡ key_by Closest now weights n m new v) × RowRight now weights n m new v own
+      here : (codes : List ℤ) (before : List ℕ) → AllChanged (with_codes lists codes) lists.codes n m before new done
+          → Table Closest (with_codes lists codes) n m before old
+          → Unplaced n new v → (key ≡ key_by Closest lists n m new v) × RowRight lists n m new v own
       here codes before changed right unplaced =
           let change = changed v unplaced in
           let same : kept_of table v ≡ kept_of old v = up_to.rest v (omega arith) in
-          let known : RowRight codes weights n m before v (kept_of table v) = rw same (right refl v change.before) in
+          let known : RowRight (with_codes lists codes) n m before v (kept_of table v) = rw same (right refl v change.before) in
           (ap (λ (r : Option ℕ). unwrap_or r (get_or all v 0)) (row.key codes before change known), row.again codes before change known)
 
   -- all taxa
   pub renewed_all : (keys : List ℕ) (v : ℕ) (table : List (List ℕ)) (all : List ℕ) → v ≡ n + 1 → RenewedUpTo v table all
-      → KeysNext Closest now weights n m new done keys old all table
+      → KeysNext Closest lists n m new done keys old all table
   renewed_all keys v table all end up_to = record {
     each = λ codes before changed known right. (
       record { each = λ u unplaced. (up_to.each codes before changed right u unplaced (omega (arith, unplaced.taxon))).0 },
@@ -201,10 +202,10 @@ module _ (now : List ℤ) (weights : List ℕ) (n m : ℕ) (new : List ℕ) (don
   }
 
 -- by advancement the keys stay
-pub advance_stays : (now : List ℤ) (weights : List ℕ) (n m : ℕ) (new : List ℕ) (done : Placement) (keys : List ℕ)
-    (table : List (List ℕ)) → KeysNext Advance now weights n m new done keys table keys table
+pub advance_stays : (lists : MatrixLists) (n m : ℕ) (new : List ℕ) (done : Placement) (keys : List ℕ)
+    (table : List (List ℕ)) → KeysNext Advance lists n m new done keys table keys table
 unfolding key_by
-advance_stays now weights n m new done keys table = record {
+advance_stays lists n m new done keys table = record {
   each = λ codes before changed known right. (
     record { each = λ v unplaced. let change = changed v unplaced in known.each v change.before ∙ sym change.advancement },
     λ other. let never : ◌≡◌ {A = ℕ} 0 1 = cc in absurd (omega arith),

@@ -6,7 +6,7 @@ use native.Mathlib.Omega.{arith}
 use lib.IntN.{ℤ}
 use lib.Seq.{ext_get_or}
 use Rattle.matrix_form.specs.NodeRows.{rows_of}
-use Rattle.matrix_form.specs.Shape.{row}
+use Rattle.matrix_form.specs.Shape.{row, MatrixLists}
 use Rattle.matrix_form.specs.Questions.{LentMatrix, all_in_range}
 use Rattle.matrix_form.proofs.NodeRows.{length-rows_of, get_or-rows_of}
 use Rattle.difference_form.specs.Rows.{difference}
@@ -16,22 +16,22 @@ use Rattle.wagner_form.proofs.Matrix.{after_size, after_taxon}
 use Rattle.wagner.proofs.Lengths.{ours_sound, ours_room}
 
 -- a lent matrix, and what it holds after the build
-module _ (order : Order) (codes : List ℤ) (weights : List ℕ) (n m : ℕ) (lent : LentMatrix codes n m) where
+module _ (order : Order) (lists : MatrixLists) (n m : ℕ) (lent : LentMatrix lists.codes n m) where
   abbrev after : List ℤ
-  after = matrix_after codes n (wagner_in order codes weights n m)
+  after = matrix_after lists.codes n (wagner_in order lists n m)
 
   -- the row of a taxon
-  taxon-same : (v : ℕ) → 1 ≤ v → v ≤ n → row after m v ≡ row codes m v
-  taxon-same = after_taxon (difference weights) codes n m lent.characters (ours_room order codes weights n m lent)
-      (wagner_in order codes weights n m)
-      (ours_sound order codes weights n m lent)
+  taxon-same : (v : ℕ) → 1 ≤ v → v ≤ n → row after m v ≡ row lists.codes m v
+  taxon-same = after_taxon (difference lists.weights) lists.codes n m lent.characters (ours_room order lists n m lent)
+      (wagner_in order lists n m)
+      (ours_sound order lists n m lent)
 
   -- it is a lent matrix as before
   pub still_lent : LentMatrix after n m
   still_lent = record {
-    full = after_size (difference weights) codes n m lent.characters (ours_room order codes weights n m lent)
-        (wagner_in order codes weights n m)
-        (ours_sound order codes weights n m lent) ∙ lent.full;
+    full = after_size (difference lists.weights) lists.codes n m lent.characters (ours_room order lists n m lent)
+        (wagner_in order lists n m)
+        (ours_sound order lists n m lent) ∙ lent.full;
     taxon = lent.taxon;
     taxa = lent.taxa;
     character = lent.character;
@@ -40,9 +40,9 @@ module _ (order : Order) (codes : List ℤ) (weights : List ℕ) (n m : ℕ) (le
   }
 
   -- with the same rows
-  pub same-taxa : rows_of after m n ≡ rows_of codes m n
+  pub same-taxa : rows_of after m n ≡ rows_of lists.codes m n
   same-taxa =
-      ext_get_or [] (rows_of after m n) (rows_of codes m n) (length-rows_of after m n ∙ sym (length-rows_of codes m n))
+      ext_get_or [] (rows_of after m n) (rows_of lists.codes m n) (length-rows_of after m n ∙ sym (length-rows_of lists.codes m n))
       (λ i h.
       let below : i < n = omega (arith, length-rows_of after m n) in
-      get_or-rows_of after m n i below ∙ taxon-same (suc i) (omega arith) (omega arith) ∙ sym (get_or-rows_of codes m n i below))
+      get_or-rows_of after m n i below ∙ taxon-same (suc i) (omega arith) (omega arith) ∙ sym (get_or-rows_of lists.codes m n i below))

@@ -1,15 +1,12 @@
 -- A build under way: what is placed, what the matrix holds, and that what is left of the build goes on from there.
 use mathlib.Core.Path.{◌≡◌, sym, ap, ◌∙◌}
-use mathlib.Core.Logic.{by_cases}
-use native.Mathlib.Decide.{dec_le}
-use Rattle.std.specs.Prelude.{Some, None, Ok}
-use Rattle.lists.specs.Least.{least_item}
+use Rattle.lists.specs.Least.{least_of}
 use Rattle.lists.specs.Numbers.{numbers}
-use Rattle.tree_form.proofs.Counts.{taxa_placed_lt, some-unplaced, unplaced-taxon}
-use Rattle.matrix_form.specs.Questions.{ask_matrix}
+use Rattle.lists.proofs.Least.{least_of-mem}
+use Rattle.tree_form.proofs.Counts.{some-unplaced, unplaced-taxon}
 use Rattle.matrix_form.proofs.Passing.{matrix_passes}
 use mathlib.Core.List.{List, [], ◌∷◌, ◌++◌, append_assoc, append-nil}
-use Prim.Native.Nat.{ℕ, suc, ◌+◌, ◌*◌, ◌-◌, ◌≤◌, ◌<◌}
+use Prim.Native.Nat.{ℕ, suc, ◌+◌, ◌*◌, ◌-◌, ◌^◌, ◌≤◌, ◌<◌}
 use native.Mathlib.Omega.{arith}
 use lib.IntN.{ℤ}
 use lib.ListN.{length, set, drop, length-append, length-drop, drop_of_length-le}
@@ -20,34 +17,36 @@ use Rattle.lists.specs.Sums.{sum_over}
 use Rattle.lists.proofs.Filled.{filled-snoc}
 use Rattle.lists.proofs.Stripes.{stripes-snoc}
 use Rattle.lists.proofs.Sums.{sum_snoc}
-use Rattle.matrix_form.specs.Shape.{row_start, columns}
-use Rattle.matrix_form.specs.NodeRows.{rows_of, with_row, with_rows}
+use Rattle.matrix_form.specs.Shape.{row_start, columns, MatrixLists, with_codes}
+use Rattle.matrix_form.specs.NodeRows.{rows_of, with_row, with_rows, row_of}
 use Rattle.matrix_form.specs.Questions.{LentMatrix, LentWeights}
 use Rattle.matrix_form.proofs.NodeRows.{length-rows_of}
 use Rattle.difference_form.specs.Rows.{difference, most_difference}
 use Rattle.tree_form.specs.declared.placement.Placement.{Placement}
 use Rattle.branching.specs.declared.placement.Placed.{Placed}
 use Rattle.branching.specs.Views.{ancestors}
-use Rattle.tree_form.specs.Nodes.{nodes_out, Unplaced}
+use Rattle.tree_form.specs.Nodes.{nodes_out, Unplaced, last_row}
 use Rattle.tree_form.specs.Facts.{alone}
-use Rattle.tree_form.specs.Hanging.{no_branches}
-use Rattle.tree_form.specs.Placing.{AfterPlacing, place}
-use Rattle.branching.specs.Placed.{last_row, place_in, matrix_placed}
-use Rattle.branching.specs.Unasked.{no_placement, unasked, UnaskedDone}
-use Rattle.tree_form.proofs.Nodes.{node_nodes_in, no_branches-none, no_branches-places}
-use Rattle.branching.proofs.Unasked.{AsPlaced, unasked-placed, no_row}
-use Rattle.branching.proofs.Standing.{Standing, standing_placed, standing_test, last_is, Step, first, later, placed-step, added-most}
+use Rattle.tree_form.specs.Hanging.{only_row_one, next_htu}
+use Rattle.tree_form.specs.Placing.{AfterPlacing, no_placement, place}
+use Rattle.branching.specs.Calls.{place_in, matrix_placed}
+use Rattle.branching.specs.Unasked.{unasked, UnaskedDone}
+use Rattle.tree_form.proofs.Nodes.{node_nodes_in, only_row_one-none, only_row_one-size}
+use Rattle.tree_form.proofs.InMatrix.{by_list}
+use Rattle.branching.proofs.InMatrix.{no_row}
+use Rattle.branching.proofs.Unasked.{unasked-plain}
+use Rattle.branching.proofs.Standing.{Standing, standing_placed, last_is, Step, first, later, placed-step, added-most}
 use Rattle.branching.proofs.Standing.{placed-rows, placed_standing}
 use Rattle.wagner.specs.declared.answer.WagnerTree.{WagnerTree}
 use Rattle.tree_form.specs.declared.order.Order.{Order}
 use Rattle.wagner_form.specs.Next.{next_by}
 use Rattle.wagner_form.specs.Build.{Built, added_length, build_on, build, wagner, wagner_length}
 use Rattle.wagner_form.specs.Matrix.{matrix_after, wagner_in}
-use Rattle.wagner.specs.Answers.{most_placements, BuiltFrom}
+use Rattle.wagner.specs.Calls.{most_placements, BuiltFrom}
 use Rattle.wagner.specs.Order.{key_of, KeysRight, Advancements}
 use Rattle.wagner.specs.Closeness.{Table, KeysNext}
 use Rattle.wagner.specs.Steps.{RowOne, OneMore}
-use Rattle.wagner.proofs.Choosing.{chosen-least, chosen-none, alone-key, next_right}
+use Rattle.wagner.proofs.Choosing.{alone-key, next_right}
 use Rattle.wagner.proofs.Changing.{placed_changed}
 use Rattle.wagner_form.proofs.Difference.{wagner-length}
 use Rattle.wagner_form.proofs.Matrix.{rows_of-each}
@@ -57,72 +56,73 @@ abbrev pub rows_now : List ℤ → ℕ → ℕ → List ℕ → List (List ℤ)
 rows_now now n m tree = rows_of now m (last_row n tree)
 
 -- what is left of a build
-abbrev pub left : Order → List ℤ → List ℕ → ℕ → ℕ → ℕ → List ℕ → Built
-left order now weights n m placed tree =
-    build_on (difference weights) (next_by (difference weights) order) n (n - placed) tree (rows_now now n m tree)
+abbrev pub left : Order → MatrixLists → ℕ → ℕ → ℕ → List ℕ → Built
+left order lists n m placed tree =
+    build_on (difference lists.weights) (next_by (difference lists.weights) order) n (n - placed) tree (rows_now lists.codes n m tree)
 
 -- of a build from the matrix `codes`, taxa are placed by the placements `done`, one each, and the matrix now is `now`
 pub record UnderWay
     (order : Order)
-    (codes now : List ℤ)
-    (weights : List ℕ)
+    (lists : MatrixLists) (now : List ℤ)
     (n m : ℕ)
     (built : WagnerTree)
     (keys : List ℕ)
     (kept : List (List ℕ))
     (done : List Placement) : Type 0 where
-  pub standing : Standing now weights n m (suc (length done)) (ancestors built.tree)
-  pub written : now ≡ with_rows codes (suc n) (drop n (rows_now now n m (ancestors built.tree)))
+  pub standing : Standing (with_codes lists now) n m (suc (length done)) (ancestors built.tree)
+  pub written : now ≡ with_rows lists.codes (suc n) (drop n (rows_now now n m (ancestors built.tree)))
   pub list : built.placements.items ≡ filled most_placements no_placement done
   pub count : built.placements.count ≡ length done
   pub whole : built.length ≡ added_length done
   pub most : built.length ≤ length done * most_difference
-  pub known : KeysRight order now weights n m (ancestors built.tree) keys
-  pub table : Table order now weights n m (ancestors built.tree) kept
-  pub left_tree : (wagner_in order codes weights n m).tree ≡ (left order now weights n m (suc (length done)) (ancestors built.tree)).tree
-  pub left_rows : (wagner_in order codes weights n m).rows ≡ (left order now weights n m (suc (length done)) (ancestors built.tree)).rows
-  pub left_placements : (wagner_in order codes weights n m).placements
-      ≡ done ++ (left order now weights n m (suc (length done)) (ancestors built.tree)).placements
+  pub known : KeysRight order (with_codes lists now) n m (ancestors built.tree) keys
+  pub table : Table order (with_codes lists now) n m (ancestors built.tree) kept
+  pub left_tree : (wagner_in order lists n m).tree ≡ (left order (with_codes lists now) n m (suc (length done)) (ancestors built.tree)).tree
+  pub left_rows : (wagner_in order lists n m).rows ≡ (left order (with_codes lists now) n m (suc (length done)) (ancestors built.tree)).rows
+  pub left_placements : (wagner_in order lists n m).placements
+      ≡ done ++ (left order (with_codes lists now) n m (suc (length done)) (ancestors built.tree)).placements
 
 -- before the first placement
-module _ (order : Order) (codes : List ℤ) (weights : List ℕ) (n m : ℕ) (lent : LentMatrix codes n m)
-    (weighted : LentWeights weights m) where
+module _ (order : Order) (lists : MatrixLists) (n m : ℕ) (lent : LentMatrix lists.codes n m)
+    (weighted : LentWeights lists.weights m) where
   -- row 1 alone stands in the matrix
-  alone_standing : Standing codes weights n m 1 no_branches
+  alone_standing : Standing lists n m 1 only_row_one
   alone_standing =
       record {
         matrix = lent;
         weighted = weighted;
-        growing = alone no_branches-none;
-        places = no_branches-places;
+        growing = alone only_row_one-none;
+        sized = only_row_one-size;
         known = λ v low high. absurd (omega arith);
       }
 
   -- with the rows of the taxa
-  alone_last : last_row n no_branches ≡ n
-  alone_last = omega (arith, last_is codes weights n m 1 no_branches alone_standing)
+  alone_last : last_row n only_row_one ≡ n
+  alone_last = omega (arith, last_is lists n m 1 only_row_one alone_standing)
 
   -- nothing is written yet
-  alone_written : codes ≡ with_rows codes (suc n) (drop n (rows_now codes n m no_branches))
+  alone_written : lists.codes ≡ with_rows lists.codes (suc n) (drop n (rows_now lists.codes n m only_row_one))
   alone_written =
-      let past : length (rows_now codes n m no_branches) ≤ n = omega (arith, length-rows_of codes m (last_row n no_branches), alone_last) in
-      sym (ap (with_rows codes (suc n)) (drop_of_length-le (rows_now codes n m no_branches) past) ∙ no_row codes (suc n))
+      let past : length (rows_now lists.codes n m only_row_one) ≤ n =
+      omega (arith, length-rows_of lists.codes m (last_row n only_row_one), alone_last) in
+      sym (ap (with_rows lists.codes (suc n)) (drop_of_length-le (rows_now lists.codes n m only_row_one) past) ∙ no_row lists.codes (suc n))
 
   -- all is left
-  alone_left : wagner_in order codes weights n m ≡ left order codes weights n m 1 no_branches
+  alone_left : wagner_in order lists n m ≡ left order lists n m 1 only_row_one
   unfolding wagner_in wagner build
   alone_left =
-      ap (λ (last : ℕ). build_on (difference weights) (next_by (difference weights) order) n (n - 1) no_branches (rows_of codes m last))
+      ap (λ (last : ℕ). build_on (difference lists.weights) (next_by (difference lists.weights) order) n (n - 1) only_row_one (rows_of
+      lists.codes m last))
       (sym alone_last)
 
   -- by advancement or closeness, the keys before the first link are the advancements
-  alone-keys : (keys : List ℕ) → Advancements codes weights m keys → KeysRight order codes weights n m no_branches keys
+  alone-keys : (keys : List ℕ) → Advancements lists m keys → KeysRight order lists n m only_row_one keys
   alone-keys keys known = record {
-    each = λ v u. known.each v (omega (arith, u.taxon, lent.taxa)) ∙ alone-key order codes weights n m v;
+    each = λ v u. known.each v (omega (arith, u.taxon, lent.taxa)) ∙ alone-key order lists n m v;
   }
 
-  pub begun_under_way : (keys : List ℕ) → Advancements codes weights m keys → (table : List (List ℕ)) (built : WagnerTree) → RowOne built
-      → UnderWay order codes codes weights n m built keys table []
+  pub begun_under_way : (keys : List ℕ) → Advancements lists m keys → (table : List (List ℕ)) (built : WagnerTree) → RowOne built
+      → UnderWay order lists lists.codes n m built keys table []
   unfolding added_length sum_over filled
   begun_under_way keys known table built begun =
       record {
@@ -133,7 +133,7 @@ module _ (order : Order) (codes : List ℤ) (weights : List ℕ) (n m : ℕ) (le
         whole = begun.none;
         most = omega (arith, begun.none);
         known = rw begun.tree (alone-keys keys known);
-        table = rw begun.tree (λ _ v u c mem. absurd (omega (arith, (node_nodes_in no_branches n c mem).2, no_branches-none c)));
+        table = rw begun.tree (λ _ v u c mem. absurd (omega (arith, (node_nodes_in only_row_one n c mem).2, only_row_one-none c)));
         left_tree = rw begun.tree (ap (λ (built : Built). built.tree) alone_left);
         left_rows = rw begun.tree (ap (λ (built : Built). built.rows) alone_left);
         left_placements = rw begun.tree (ap (λ (built : Built). built.placements) alone_left);
@@ -148,10 +148,10 @@ one-behind codes n last hs r h e =
     ap (λ (p : ℕ). over p r (stripes columns (row_start (suc n)) hs codes)) place ∙ sym (stripes-snoc columns (row_start (suc n)) hs r codes)
 
 -- one placement more
-module _ (order : Order) (codes now : List ℤ) (weights : List ℕ) (n m : ℕ) (before : WagnerTree) (keys : List ℕ) (kept : List (List ℕ))
+module _ (order : Order) (lists : MatrixLists) (now : List ℤ) (n m : ℕ) (before : WagnerTree) (keys : List ℕ) (kept : List (List ℕ))
     (done : List Placement)
-    (w : UnderWay order codes now weights n m before keys kept done) (b : ℕ)
-    (found : least_item (key_of keys) (nodes_out (ancestors before.tree) (numbers 1 n)) ≡ Some b) where
+    (w : UnderWay order lists now n m before keys kept done) (less : suc (length done) < n) (b : ℕ)
+    (found : b ≡ least_of (key_of keys) (nodes_out (ancestors before.tree) (numbers 1 n))) where
   -- the tree before it
   abbrev tree : List ℕ
   tree = ancestors before.tree
@@ -161,115 +161,125 @@ module _ (order : Order) (codes now : List ℤ) (weights : List ℕ) (n m : ℕ)
   placed = suc (length done)
 
   -- the taxon is the next one in the order of placing
-  chosen : b ≡ next_by (difference weights) order n tree (rows_now now n m tree)
-  chosen =
-      (chosen-least (key_of keys) (nodes_out tree (numbers 1 n)) b found).0 ∙ next_right now weights n m placed tree w.standing order keys w.known
+  chosen : b ≡ next_by (difference lists.weights) order n tree (rows_now now n m tree)
+  chosen = found ∙ next_right (with_codes lists now) n m placed tree w.standing order keys w.known
 
-  -- which is not placed
+  -- which is not placed, since not all are
   fresh : Unplaced n tree b
-  fresh = unplaced-taxon n tree b (chosen-least (key_of keys) (nodes_out tree (numbers 1 n)) b found).1
+  fresh =
+      let out = nodes_out tree (numbers 1 n) in
+      let some = some-unplaced n tree (omega (arith, less, standing_placed (with_codes lists now) n m placed tree w.standing)) in
+      unplaced-taxon n tree b (rw found (least_of-mem (key_of keys) out some.0 some.1))
 
-  -- so not all are
-  pub next-less : suc (length done) < n
-  next-less = omega (arith, taxa_placed_lt n tree b fresh, standing_placed now weights n m placed tree w.standing)
-
-  -- the placement is the one by the rows of the tree's nodes
-  same : AsPlaced now weights n m tree b (unasked now weights n m tree b)
-  same =
-      unasked-placed now weights n m w.standing.matrix.taxa w.standing.matrix.characters tree b fresh
-      (standing_test now weights n m placed tree w.standing)
+  -- what is done without questions is the placement
+  same : unasked (with_codes lists now) n m tree b ≡ place_in (with_codes lists now) n m tree b
+  same = unasked-plain (with_codes lists now) n m tree b w.standing.matrix.taxa w.standing.matrix.characters
 
   -- what comes out of it
   abbrev ours : AfterPlacing
-  ours = place_in now weights n m tree b
+  ours = place_in (with_codes lists now) n m tree b
 
   -- the matrix then holds the rows of its nodes
-  rows_next : rows_now (matrix_placed now weights n m tree b) n m ours.tree ≡ ours.rows
-  rows_next = placed-rows now weights n m placed tree w.standing b fresh
+  rows_next : rows_now (matrix_placed (with_codes lists now) n m tree b) n m ours.tree ≡ rows_now now n m tree ++ ours.made
+  rows_next = placed-rows (with_codes lists now) n m placed tree w.standing b fresh
 
   -- the rows of the taxa come first
   taxa-first : n ≤ length (rows_now now n m tree)
-  taxa-first = omega (arith, length-rows_of now m (last_row n tree), last_is now weights n m placed tree w.standing)
+  taxa-first = omega (arith, length-rows_of now m (last_row n tree), last_is (with_codes lists now) n m placed tree w.standing)
 
   -- the rows written so far, and the new one behind them
-  written_next : matrix_placed now weights n m tree b ≡ with_rows codes (suc n) (drop n ours.rows)
-  written_next = go (placed-step now weights n m placed tree w.standing b fresh)
+  written_next : matrix_placed (with_codes lists now) n m tree b
+      ≡ with_rows lists.codes (suc n) (drop n (rows_now now n m tree ++ ours.made))
+  written_next = go (placed-step (with_codes lists now) n m placed tree w.standing b fresh)
     where
-      go : Step now weights n m placed tree w.standing b fresh
-          → matrix_placed now weights n m tree b ≡ with_rows codes (suc n) (drop n ours.rows)
-      go (first one rows kept) = kept ∙ w.written ∙ ap (λ (all : List (List ℤ)). with_rows codes (suc n) (drop n all)) (sym rows)
-      go (later two r long range rows over-it) =
+      go : Step (with_codes lists now) n m placed tree w.standing b fresh
+          → matrix_placed (with_codes lists now) n m tree b ≡ with_rows lists.codes (suc n) (drop n (rows_now now n m tree ++ ours.made))
+      go (first one none kept) =
+          kept ∙ w.written
+          ∙ ap (λ (all : List (List ℤ)). with_rows lists.codes (suc n) (drop n all))
+          (sym (append-nil (rows_now now n m tree)) ∙ ap (λ (made : List (List ℤ)). rows_now now n m tree ++ made) (sym none))
+      go (later two r long range made over-it) =
           over-it
           ∙ ap (λ (all : List ℤ). with_row all (suc (last_row n tree)) r) w.written
-          ∙ one-behind codes n (last_row n tree) (drop n (rows_now now n m tree)) r
-          (omega (arith, last_is now weights n m placed tree w.standing))
+          ∙ one-behind lists.codes n (last_row n tree) (drop n (rows_now now n m tree)) r
+          (omega (arith, last_is (with_codes lists now) n m placed tree w.standing))
           (omega (arith, length-drop n (rows_now now n m tree), length-rows_of now m (last_row n tree)))
-          ∙ ap (with_rows codes (suc n)) (sym (ap (drop n) rows ∙ drop-append-le n (rows_now now n m tree) (r ∷ []) taxa-first))
+          ∙ ap (with_rows lists.codes (suc n))
+          (sym (ap (λ (made : List (List ℤ)). drop n (rows_now now n m tree ++ made)) made ∙ drop-append-le n (rows_now now n m tree) (r ∷ []) taxa-first))
 
   -- what is left behind the placement
   abbrev rest : Built
-  rest = left order (matrix_placed now weights n m tree b) weights n m (suc placed) ours.tree
+  rest = left order (with_codes lists (matrix_placed (with_codes lists now) n m tree b)) n m (suc placed) ours.tree
 
   -- what was left is the placement, and what is left behind it
-  left_next : left order now weights n m placed tree ≡ record {
+  left_next : left order (with_codes lists now) n m placed tree ≡ record {
     tree = rest.tree;
     rows = rest.rows;
     placements = ours.placement ∷ rest.placements;
   }
   unfolding build_on place_in
   left_next =
-      let count : n - placed ≡ suc (n - suc placed) = omega (arith, next-less) in
+      let count : n - placed ≡ suc (n - suc placed) = omega (arith, less) in
       let rows : List (List ℤ) = rows_now now n m tree in
-      let rule : ℕ → List ℕ → List (List ℤ) → ℕ = next_by (difference weights) order in
-      ap (λ (k : ℕ). build_on (difference weights) rule n k tree rows) count
-      ∙ ap (λ (v : ℕ). goes_on (n - suc placed) (place (difference weights) n tree rows v)
-      (place (difference weights) n tree rows v).rows) (sym chosen)
-      ∙ ap (goes_on (n - suc placed) (place (difference weights) n tree rows b)) (sym rows_next)
+      let rule : ℕ → List ℕ → List (List ℤ) → ℕ = next_by (difference lists.weights) order in
+      ap (λ (k : ℕ). build_on (difference lists.weights) rule n k tree rows) count
+      ∙ ap (λ (v : ℕ). goes_on (n - suc placed) (place (difference lists.weights) (row_of rows) n tree v)
+      (rows ++ (place (difference lists.weights) (row_of rows) n tree v).made)) (sym chosen)
+      ∙ ap (λ (p : AfterPlacing). goes_on (n - suc placed) p (rows ++ p.made))
+      (sym (by_list (difference lists.weights) now n m tree b w.standing.growing fresh))
+      ∙ ap (goes_on (n - suc placed) ours) (sym rows_next)
     where
       goes_on : ℕ → AfterPlacing → List (List ℤ) → Built
       goes_on count p rows = record {
-        tree = (build_on (difference weights) (next_by (difference weights) order) n count p.tree rows).tree;
-        rows = (build_on (difference weights) (next_by (difference weights) order) n count p.tree rows).rows;
-        placements = p.placement ∷ (build_on (difference weights) (next_by (difference weights) order) n count p.tree rows).placements;
+        tree = (build_on (difference lists.weights) (next_by (difference lists.weights) order) n count p.tree rows).tree;
+        rows = (build_on (difference lists.weights) (next_by (difference lists.weights) order) n count p.tree rows).rows;
+        placements = p.placement ∷ (build_on (difference lists.weights) (next_by (difference lists.weights) order) n count p.tree
+            rows).placements;
       }
 
   -- what was done, and the matrix then
-  module _ (new : List ℤ) (made : Placed) (by : UnaskedDone now new weights n m tree b made) where
+  module _ (new : List ℤ) (made : Placed) (by : UnaskedDone (with_codes lists now) new n m tree b made) where
     -- the placement is that one
     is-ours : made.placement ≡ ours.placement
-    is-ours = by.placement ∙ same.placement
+    is-ours = by.placement ∙ ap (λ (p : AfterPlacing). p.placement) same
 
     -- so is the tree
     grown : ancestors made.tree ≡ ours.tree
-    grown = by.tree ∙ same.tree
+    grown = by.tree ∙ ap (λ (p : AfterPlacing). p.tree) same
 
     -- and the matrix
-    held : new ≡ matrix_placed now weights n m tree b
-    held = by.matrix ∙ same.codes_after
+    held : new ≡ matrix_placed (with_codes lists now) n m tree b
+    unfolding matrix_placed
+    held = by.matrix ∙ ap (λ (p : AfterPlacing). with_rows now (next_htu n tree) p.made) same
 
     -- it adds at most 2,301,696
-    pub next-most : made.placement.added ≤ most_difference
-    next-most = rw is-ours (added-most now weights n m placed tree w.standing b fresh)
+    next-most : made.placement.added ≤ most_difference
+    next-most = rw is-ours (added-most (with_codes lists now) n m placed tree w.standing b fresh)
+
+    -- so the length can be added
+    counted : before.length + made.placement.added < 2 ^ 64
+    counted = omega (arith, w.most, less, w.standing.matrix.taxa, next-most)
 
     -- with the keys made right the build is under way again
     pub next_under_way : (keys' : List ℕ) (table : List (List ℕ)) (r : WagnerTree)
-        → KeysNext order new weights n m (ancestors made.tree) made.placement keys kept keys' table → OneMore before made r
-        → UnderWay order codes new weights n m r keys' table (done ++ (ours.placement ∷ []))
+        → KeysNext order (with_codes lists new) n m (ancestors made.tree) made.placement keys kept keys' table → OneMore before made r
+        → UnderWay order lists new n m r keys' table (done ++ (ours.placement ∷ []))
     unfolding added_length
     next_under_way keys' table r renewed more =
         let tree-is : ancestors r.tree ≡ ours.tree = ap ancestors more.tree ∙ grown in
         let added : r.length ≡ before.length + ours.placement.added =
-        more.more ∙ ap (λ (p : Placement). before.length + p.added) is-ours in
+        more.more counted ∙ ap (λ (p : Placement). before.length + p.added) is-ours in
         let long : length (done ++ (ours.placement ∷ [])) ≡ suc (length done) = omega (arith, length-append done (ours.placement ∷ [])) in
-        let size : length done < 63 = omega (arith, next-less, w.standing.matrix.taxa) in
-        let most = added-most now weights n m placed tree w.standing b fresh in
+        let size : length done < 63 = omega (arith, less, w.standing.matrix.taxa) in
+        let most = added-most (with_codes lists now) n m placed tree w.standing b fresh in
         let before-most = w.most in
         let again =
-        renewed.each now tree (rw (grown, held, is-ours) (placed_changed now weights n m placed tree w.standing b fresh)) w.known w.table in
+        renewed.each now tree (rw (grown, held, is-ours) (placed_changed (with_codes lists now) n m placed tree w.standing b fresh))
+        w.known w.table in
         record {
-          standing = rw (tree-is, held, long) (placed_standing now weights n m placed tree w.standing b fresh);
+          standing = rw (tree-is, held, long) (placed_standing (with_codes lists now) n m placed tree w.standing b fresh);
           written = rw (tree-is, held)
-              (written_next ∙ ap (λ (all : List (List ℤ)). with_rows codes (suc n) (drop n all)) (sym rows_next));
+              (written_next ∙ ap (λ (all : List (List ℤ)). with_rows lists.codes (suc n) (drop n all)) (sym rows_next));
           list =
               more.placements.items
               ∙ ap (λ (p : Placement). set before.placements.items before.placements.count p) is-ours
@@ -290,45 +300,33 @@ module _ (order : Order) (codes now : List ℤ) (weights : List ℕ) (n m : ℕ)
               ∙ sym (append_assoc done (ours.placement ∷ []) rest.placements));
         }
 
--- no taxon is left to place, so the build is done
-pub done_under_way : (order : Order) (codes now : List ℤ) (weights : List ℕ) (n m : ℕ) (built : WagnerTree) (keys : List ℕ)
+-- all taxa are placed, so the build is done
+pub done_under_way : (order : Order) (lists : MatrixLists) (now : List ℤ) (n m : ℕ) (built : WagnerTree) (keys : List ℕ)
     (table : List (List ℕ)) (done : List Placement)
-    → ask_matrix codes weights n m ≡ Ok tt
-    → UnderWay order codes now weights n m built keys table done
-    → least_item (key_of keys) (nodes_out (ancestors built.tree) (numbers 1 n)) ≡ None → BuiltFrom order codes now weights n m built
+    → LentMatrix lists.codes n m → LentWeights lists.weights m → UnderWay order lists now n m built keys table done
+    → n ≤ suc (length done) → BuiltFrom order lists now n m built
 unfolding build_on matrix_after
-done_under_way order codes now weights n m built keys table done passed w end =
+done_under_way order lists now n m built keys table done lent weighted w all =
     let tree : List ℕ = ancestors built.tree in
-    let lent : LentMatrix codes n m = ((matrix_passes codes weights n m).0 passed).0 in
-    let none : n - suc (length done) ≡ 0 = omega (arith, all-placed) in
-    let nothing : left order now weights n m (suc (length done)) tree
+    let none : n - suc (length done) ≡ 0 = omega (arith, all) in
+    let nothing : left order (with_codes lists now) n m (suc (length done)) tree
     ≡ record { tree = tree; rows = rows_now now n m tree; placements = [] } =
-    ap (λ (k : ℕ). build_on (difference weights) (next_by (difference weights) order) n k tree (rows_now now n m tree)) none in
-    let list : (wagner_in order codes weights n m).placements ≡ done =
+    ap (λ (k : ℕ). build_on (difference lists.weights) (next_by (difference lists.weights) order) n k tree (rows_now now n m tree)) none in
+    let list : (wagner_in order lists n m).placements ≡ done =
     w.left_placements ∙ ap (λ (built : Built). done ++ built.placements) nothing ∙ append-nil done in
     let rows = w.left_rows ∙ ap (λ (built : Built). built.rows) nothing in
     record {
-      passed = passed;
+      passed = (matrix_passes lists n m).1 (lent, weighted);
       tree = sym (w.left_tree ∙ ap (λ (built : Built). built.tree) nothing);
       placements = w.list ∙ ap (filled most_placements no_placement) (sym list);
       count = w.count ∙ ap length (sym list);
-      matrix = w.written ∙ ap (λ (made : List (List ℤ)). with_rows codes (suc n) (drop n made)) (sym rows);
+      matrix = w.written ∙ ap (λ (made : List (List ℤ)). with_rows lists.codes (suc n) (drop n made)) (sym rows);
       whole = w.whole ∙ ap added_length (sym list) ∙ sym (length-is lent);
     }
   where
-    all-placed : n ≤ suc (length done)
-    all-placed =
-        by_cases
-        (dec_le n (suc (length done)))
-        (λ all. all)
-        (λ less.
-        let some = some-unplaced n (ancestors built.tree)
-        (omega (arith, standing_placed now weights n m (suc (length done)) (ancestors built.tree) w.standing)) in
-        absurd (chosen-none (key_of keys) (nodes_out (ancestors built.tree) (numbers 1 n)) end some.0 some.1))
-
-    length-is : LentMatrix codes n m → wagner_length (difference weights) n (wagner_in order codes weights n m)
-        ≡ added_length (wagner_in order codes weights n m).placements
+    length-is : LentMatrix lists.codes n m → wagner_length (difference lists.weights) n (wagner_in order lists n m)
+        ≡ added_length (wagner_in order lists n m).placements
     length-is lent =
         unfold wagner_in in
-        wagner-length order weights n m lent.taxon lent.taxa (rows_of codes m n) (length-rows_of codes m n)
-        (rows_of-each codes m n lent.characters (omega (arith, lent.full, lent.taxa)))
+        wagner-length order lists.weights n m lent.taxon lent.taxa (rows_of lists.codes m n) (length-rows_of lists.codes m n)
+        (rows_of-each lists.codes m n lent.characters (omega (arith, lent.full, lent.taxa)))

@@ -18,7 +18,6 @@ pub struct WagnerTree {
 }
 
 impl WagnerTree {
-    ghost use Rattle.std.specs.Prelude.{◌+◌, ◌<◌, ◌^◌};
     ghost use Rattle.wagner.specs.Steps.{RowOne, OneMore};
 
     // Row 1 alone, before the first placement.
@@ -35,11 +34,10 @@ impl WagnerTree {
 
     // Takes over what a placement on the tree has done.
     pub(crate) fn push(&mut self, done: Placed)
-        requires { self.old.length + done.placement.added < 2 ^ 64 }
         ensures { OneMore self.old done self.new }
     {
         self.tree = done.tree;
         self.placements.push(done.placement);
-        self.length += done.placement.added;
+        self.length = self.length.wrapping_add(done.placement.added);
     }
 }

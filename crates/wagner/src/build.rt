@@ -1,37 +1,42 @@
 // The whole build: from row 1 alone, taxon after taxon is placed, by rising advancement or the closest first.
-ghost use Rattle.wagner.specs.Answers.{BuildDone};
+ghost use Rattle.wagner.specs.Calls.{TreeBuilt, BuildDone};
+ghost use Rattle.matrix_form.specs.Shape.{matrix_of};
 
 use crate::answer::WagnerTree;
 use crate::closeness::Made;
 use crate::keys::Keys;
 use difference::nodes::Nodes;
 use matrix::lent::Lent;
+use matrix::questions::within_limits;
 use matrix_form::refusal::Refusal;
 use tree_form::order::Order;
 
-// The Wagner tree of a lent matrix of n taxa and m characters, by their weights, in an order of placing. The codes of the HTUs
-// are written into their rows of the matrix; a refusal writes nothing.
+// The Wagner tree of a lent matrix that no question refuses, in an order of placing. The codes of the HTUs are written into their rows of
+// the matrix.
+// Kept: interface, a call that could not fail still cannot: beyond its limits it answers row 1 alone.
 // Kept: no plainer, a struct lent to be written could come back with other weights, n and m: each promise would have to say that they stay.
-pub fn build(
+pub fn build_tree(
     matrix: &mut [i32],
     weights: &[u8],
     n: usize,
     m: usize,
     order: Order,
-) -> Result<WagnerTree, Refusal>
-    ensures { BuildDone order matrix.old matrix.new weights.now n m result }
+) -> WagnerTree
+    ensures { TreeBuilt order (matrix_of matrix.old weights.now) matrix.new n m result }
 {
+    let mut built = WagnerTree::alone();
+    if !within_limits(n, m) {
+        return built;
+    }
     let lent = Lent {
         matrix,
         weights,
         n,
         m,
     };
-    lent.ask()?;
     let mut keys = Keys::first(order, &Nodes { lent });
-    let mut built = WagnerTree::alone();
-    // Kept: no plainer, which taxon is next, if any, depends on the tree that the turn before left.
-    while let Some(b) = keys.next(n, &built.tree) {
+    for _turn in 1..n {
+        let b = keys.next(n, &built.tree);
         let placed = built.tree.place_unasked(matrix, weights, n, m, b);
         let lent = Lent {
             matrix,
@@ -46,5 +51,28 @@ pub fn build(
         });
         built.push(placed);
     }
-    Ok(built)
+    built
+}
+
+// The Wagner tree of a lent matrix of n taxa and m characters, by their weights, in an order of placing, with its questions. The codes of
+// the HTUs are written into their rows of the matrix; a refusal writes nothing.
+// Kept: no plainer, a struct lent to be written could come back with other weights, n and m: each promise would have to say that they stay.
+#[tactic(auto, using(matrix_form::proofs::Passing::matrix_passed, matrix_form::proofs::Passing::weights_passed))]
+pub fn build(
+    matrix: &mut [i32],
+    weights: &[u8],
+    n: usize,
+    m: usize,
+    order: Order,
+) -> Result<WagnerTree, Refusal>
+    ensures { BuildDone order (matrix_of matrix.old weights.now) matrix.new n m result }
+{
+    let lent = Lent {
+        matrix,
+        weights,
+        n,
+        m,
+    };
+    lent.ask()?;
+    Ok(build_tree(matrix, weights, n, m, order))
 }

@@ -6,7 +6,7 @@ ghost use Rattle.matrix_form.specs.Shape.{most_taxa};
 use branching::placement::Placed;
 use difference::nodes::Nodes;
 use tree_form::placement::Placement;
-use tree_form::tree::PLACES;
+use tree_form::tree::TREE_SIZE;
 
 // A placement that was made on a tree of a lent matrix: the nodes after it, and the tree and the placement.
 #[derive(Clone, Copy)]
@@ -19,13 +19,13 @@ pub(crate) struct Made<'a, 'b> {
 
 impl<'a, 'b> Made<'a, 'b> {
     ghost use Rattle.branching.specs.Views.{ancestors};
-    ghost use Rattle.wagner.specs.Order.{least_key};
+    ghost use Rattle.lists.specs.Least.{least_key};
     ghost use Rattle.wagner.specs.Closeness.{kept, intervals, ThreeKept, RowMade};
 
     // Kept: no plainer, an interval is a node and its ancestor here as in a placement's own search, which is one line.
     // Keeps the interval differences of taxon v from the three intervals that belong to the placement, each at the place of its lower end.
-    fn keep_three(&self, v: usize, places: &mut [u64; PLACES])
-        ensures { ThreeKept self.now v places.old places.new }
+    fn keep_three(&self, v: usize, differences: &mut [u64; TREE_SIZE])
+        ensures { ThreeKept self.now v differences.old differences.new }
     {
         let tree = &self.placed.tree;
         let Placement {
@@ -35,29 +35,29 @@ impl<'a, 'b> Made<'a, 'b> {
             ..
         } = self.placed.placement;
         for c in [lower, htu, taxon] {
-            if c < PLACES {
-                places[c] = self.nodes.interval_difference(v, c, tree.ancestor(c));
+            if c < TREE_SIZE {
+                differences[c] = self.nodes.interval_difference(v, c, tree.ancestor(c));
             }
         }
     }
 
-    // Kept: unproved, up to `last_node(n) + 1` the check does not find that a place below the end is one of the list (docs/PROVING.md).
+    // Kept: unproved, up to `last_node(n) + 1` the check does not find that an index below the end is one of the list (docs/PROVING.md).
     // The least of what is kept of a taxon and the intervals of the tree, if it has one.
-    fn least_kept(&self, places: &[u64; PLACES]) -> Option<u64>
-        ensures { result ≡ least_key (kept places.now) (intervals self.now.nodes.lent.n (ancestors self.now.placed.now.tree)) }
+    fn least_kept(&self, differences: &[u64; TREE_SIZE]) -> Option<u64>
+        ensures { result ≡ least_key (kept differences.now) (intervals self.now.nodes.lent.n (ancestors self.now.placed.now.tree)) }
     {
         let tree = &self.placed.tree;
         (2..2 * self.nodes.lent.n - 1)
             .filter(|c| tree.in_tree(*c))
-            .map(|c| places[c])
+            .map(|c| differences[c])
             .min()
     }
 
     // Makes right what was kept of taxon v before the placement: its key, if the tree has an interval.
-    pub(crate) fn renew(&self, v: usize, places: &mut [u64; PLACES]) -> Option<u64>
-        ensures { RowMade self.now v places.old places.new result }
+    pub(crate) fn renew(&self, v: usize, differences: &mut [u64; TREE_SIZE]) -> Option<u64>
+        ensures { RowMade self.now v differences.old differences.new result }
     {
-        self.keep_three(v, places);
-        self.least_kept(places)
+        self.keep_three(v, differences);
+        self.least_kept(differences)
     }
 }

@@ -7,7 +7,7 @@ use crate::order::{KEYS, advancements};
 use branching::tree::Tree;
 use difference::nodes::Nodes;
 use tree_form::order::Order;
-use tree_form::tree::PLACES;
+use tree_form::tree::TREE_SIZE;
 
 // The order of placing; the key of each taxon; and by closeness the interval differences that are kept of it, by the lower end.
 // Kept: no plainer, the keys of both orders are one list, as `advancements` makes it; the table is read and written by closeness alone.
@@ -15,39 +15,41 @@ use tree_form::tree::PLACES;
 pub(crate) struct Keys {
     pub(crate) order: Order,
     pub(crate) keys: [u64; KEYS],
-    pub(crate) table: [[u64; PLACES]; KEYS],
+    pub(crate) table: [[u64; TREE_SIZE]; KEYS],
 }
 
 impl Keys {
     ghost use Rattle.std.specs.Prelude.{◌≡◌};
-    ghost use Rattle.lists.specs.Least.{least_item};
+    ghost use Rattle.lists.specs.Least.{least_of};
     ghost use Rattle.lists.specs.Numbers.{numbers};
     ghost use Rattle.branching.specs.Views.{ancestors};
     ghost use Rattle.tree_form.specs.Nodes.{nodes_out};
     ghost use Rattle.wagner.specs.Order.{key_of, Advancements};
     ghost use Rattle.wagner.specs.Closeness.{KeysMade};
     ghost use Rattle.tree_form.specs.declared.order.Order.TheVariants.{Closest};
+    ghost use Rattle.matrix.specs.Lent.{lent_lists};
 
     // The keys before the first placement: in both orders those of the advancements.
     pub(crate) fn first(order: Order, nodes: &Nodes) -> Keys
         ensures order { result.order ≡ order }
-        ensures keys { Advancements nodes.now.lent.matrix.now nodes.now.lent.weights.now nodes.now.lent.m result.keys }
+        ensures keys { Advancements (lent_lists nodes.now.lent) nodes.now.lent.m result.keys }
     {
         Keys {
             order,
             keys: advancements(nodes),
-            table: [[0; PLACES]; KEYS],
+            table: [[0; TREE_SIZE]; KEYS],
         }
     }
 
-    // The taxon to place next: of those of n taxa that are not placed the first of least key, if there is one.
-    pub(crate) fn next(&self, n: usize, tree: &Tree) -> Option<usize>
+    // The taxon to place next: of those of n taxa that are not placed the first of least key, and 0 if all are placed.
+    pub(crate) fn next(&self, n: usize, tree: &Tree) -> usize
         requires { n ≤ most_taxa }
-        ensures { result ≡ least_item (key_of self.now.keys) (nodes_out (ancestors tree.now) (numbers 1 n)) }
+        ensures { result ≡ least_of (key_of self.now.keys) (nodes_out (ancestors tree.now) (numbers 1 n)) }
     {
         (1..n + 1)
             .filter(|v| !tree.in_tree(*v))
             .min_by_key(|v| self.keys[*v])
+            .unwrap_or(0)
     }
 
     // Makes the keys by closeness, and what is kept, right after a placement, for each taxon that is not placed.

@@ -1,5 +1,6 @@
 // The keys by advancement: a taxon's key is its difference from row 1.
 ghost use Rattle.wagner.specs.Order.{Advancements};
+ghost use Rattle.matrix.specs.Lent.{lent_lists};
 
 use difference::nodes::Nodes;
 use matrix::MOST_TAXA;
@@ -10,7 +11,7 @@ pub const KEYS: usize = MOST_TAXA + 1;
 
 // The advancement of each taxon: its difference from row 1.
 pub(crate) fn advancements(nodes: &Nodes) -> [u64; KEYS]
-    ensures { Advancements nodes.now.lent.matrix.now nodes.now.lent.weights.now nodes.now.lent.m result }
+    ensures { Advancements (lent_lists nodes.now.lent) nodes.now.lent.m result }
 {
     array::from_fn(|v| nodes.difference(v, 1))
 }

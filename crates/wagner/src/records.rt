@@ -3,6 +3,7 @@ ghost use Rattle.std.specs.Prelude.{◌≡◌};
 ghost use Rattle.branching.specs.Views.{ancestors};
 ghost use Rattle.tree_form.specs.Branches.{with_records};
 ghost use Rattle.wagner.specs.Steps.{length_in, LengthsOf};
+ghost use Rattle.matrix.specs.Lent.{lent_lists};
 
 use branching::tree::Tree;
 use difference::nodes::Nodes;
@@ -10,13 +11,13 @@ use matrix::MOST_CHARACTERS;
 use matrix::lent::Lent;
 use std::array;
 use tree_form::branch::Branch;
-use tree_form::tree::PLACES;
+use tree_form::tree::TREE_SIZE;
 use tree_records::branch::BRANCHES;
 use tree_records::lent::with_records;
 
 // The lengths of the branches, by node number: the difference of each row from that of its immediate ancestor, over the first 128 characters.
-fn lengths(lent: &Lent, tree: &Tree) -> [u64; PLACES]
-    ensures { LengthsOf lent.now.matrix.now lent.now.weights.now lent.now.m (ancestors tree.now) result }
+fn lengths(lent: &Lent, tree: &Tree) -> [u64; TREE_SIZE]
+    ensures { LengthsOf (lent_lists lent.now) lent.now.m (ancestors tree.now) result }
 {
     let m = lent.m.min(MOST_CHARACTERS);
     let nodes = Nodes {
@@ -28,7 +29,7 @@ fn lengths(lent: &Lent, tree: &Tree) -> [u64; PLACES]
 // The records with those of a tree of n taxa written over the first 2n-3: node, immediate ancestor, and length under the codes of the
 // matrix.
 pub fn branches(lent: &Lent, tree: Tree, records: [Branch; BRANCHES]) -> [Branch; BRANCHES]
-    ensures { result ≡ with_records (length_in lent.now.matrix.now lent.now.weights.now lent.now.m) lent.now.n (ancestors tree) records }
+    ensures { result ≡ with_records (length_in (lent_lists lent.now) lent.now.m) lent.now.n (ancestors tree) records }
 {
     with_records(&tree, lent.n, &lengths(lent, &tree), records)
 }

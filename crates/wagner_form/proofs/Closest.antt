@@ -6,6 +6,8 @@ use mathlib.Core.List.{List, [], ◌∷◌, ◌++◌, map, flat_map}
 use Prim.Native.Nat.{ℕ, zero, suc}
 use native.Mathlib.Omega.{arith}
 use lib.IntN.{ℤ}
+use Rattle.tree_form.proofs.Placing.{added_on}
+use Rattle.matrix_form.specs.NodeRows.{row_of}
 use Rattle.lists.specs.Least.{first_least, least_of}
 use Rattle.lists.specs.Numbers.{numbers}
 use Rattle.lists.specs.Pairs.{pairs}
@@ -23,33 +25,27 @@ module _ (d : List ℤ → List ℤ → ℕ) (n : ℕ) (tree : List ℕ) (rows :
 
   -- the interval difference of a pair
   abbrev apart : ℕ × ℕ → ℕ
-  apart pair = from_interval d tree rows pair.0 pair.1
+  apart pair = from_interval d (row_of rows) tree pair.0 pair.1
 
   -- the length that the placement of a taxon adds
   abbrev pub adds : ℕ → ℕ
-  adds b = (place d n tree rows b).placement.added
+  adds b = (place d (row_of rows) n tree b).placement.added
 
   -- where there is no interval, it is the advancement
   adds-first : nodes_in tree (other_nodes n) ≡ [] → (b : ℕ) → adds b ≡ advancement d rows b
   unfolding place place_on nearest_interval least_of link_first advancement
   adds-first none b =
-      ap (λ (ends : List ℕ). (place_on d n tree rows b (least_of (from_interval d tree rows b) ends)).placement.added) none
-
-  -- on an interval it is the interval difference
-  adds_on : (b c : ℕ) → c ≢ 0 → (place_on d n tree rows b c).placement.added ≡ from_interval d tree rows b c
-  unfolding place_on hang
-  adds_on b zero some = absurd (some refl)
-  adds_on b (suc c) some = refl
+      ap (λ (ends : List ℕ). (place_on d (row_of rows) n tree b (least_of (from_interval d (row_of rows) tree b) ends)).placement.added) none
 
   -- where there are intervals, it is that from the nearest one
   adds-later : (c : ℕ) (cs : List ℕ) → nodes_in tree (other_nodes n) ≡ c ∷ cs → (b : ℕ)
-      → apart (b, first_least (from_interval d tree rows b) c cs) ≡ adds b
+      → apart (b, first_least (from_interval d (row_of rows) tree b) c cs) ≡ adds b
   unfolding place nearest_interval least_of
   adds-later c cs some b =
-      let z : ℕ = first_least (from_interval d tree rows b) c cs in
-      let low = node_nodes_in tree n z (rw some (first_least-mem (from_interval d tree rows b) c cs)) in
-      sym (ap (λ (ends : List ℕ). (place_on d n tree rows b (least_of (from_interval d tree rows b) ends)).placement.added) some
-      ∙ adds_on b z (λ e. omega (arith, low.0)))
+      let z : ℕ = first_least (from_interval d (row_of rows) tree b) c cs in
+      let low = node_nodes_in tree n z (rw some (first_least-mem (from_interval d (row_of rows) tree b) c cs)) in
+      sym (ap (λ (ends : List ℕ). (place_on d (row_of rows) n tree b (least_of (from_interval d (row_of rows) tree b) ends)).placement.added) some
+      ∙ added_on d n tree (row_of rows) b z (omega (arith, low.0)))
 
   -- the taxon of the first of the least pairs, from no interval
   of_none : nodes_in tree (other_nodes n) ≡ [] → taxon_of apart (pairs taxa []) (least_of (advancement d rows) taxa) ≡ least_of adds taxa
@@ -65,7 +61,7 @@ module _ (d : List ℤ → List ℤ → ℕ) (n : ℕ) (tree : List ℕ) (rows :
   of_some c cs some [] = refl
   of_some c cs some (b ∷ bs) =
       ap (λ (pair : ℕ × ℕ). pair.0) (least_pair apart c cs b bs)
-      ∙ first_least_congr (λ (x : ℕ). apart (x, first_least (from_interval d tree rows x) c cs)) adds b bs (λ x _. adds-later c cs some x)
+      ∙ first_least_congr (λ (x : ℕ). apart (x, first_least (from_interval d (row_of rows) tree x) c cs)) adds b bs (λ x _. adds-later c cs some x)
 
   -- the next taxon by closeness is the one whose placement adds least
   pub closeness_least : by_closeness d n tree rows ≡ least_of adds taxa
@@ -80,16 +76,16 @@ module _ (d : List ℤ → List ℤ → ℕ) (n : ℕ) (tree : List ℕ) (rows :
   -- the pair that names it names the interval on which it is placed
   pub closest_pair : (b c : ℕ) (bs cs : List ℕ) → taxa ≡ b ∷ bs → nodes_in tree (other_nodes n) ≡ c ∷ cs
       → first_least apart (b, c) (map (λ (e : ℕ). (b, e)) cs ++ pairs bs (c ∷ cs))
-      ≡ (by_closeness d n tree rows, nearest_interval d n tree rows (by_closeness d n tree rows))
+      ≡ (by_closeness d n tree rows, nearest_interval d (row_of rows) n tree (by_closeness d n tree rows))
   unfolding nearest_interval least_of
   closest_pair b c bs cs left some =
-      let next : by_closeness d n tree rows ≡ first_least (λ (x : ℕ). apart (x, first_least (from_interval d tree rows x) c cs)) b bs =
+      let next : by_closeness d n tree rows ≡ first_least (λ (x : ℕ). apart (x, first_least (from_interval d (row_of rows) tree x) c cs)) b bs =
       closeness_least
       ∙ ap (least_of adds) left
-      ∙ sym (first_least_congr (λ (x : ℕ). apart (x, first_least (from_interval d tree rows x) c cs)) adds b bs
+      ∙ sym (first_least_congr (λ (x : ℕ). apart (x, first_least (from_interval d (row_of rows) tree x) c cs)) adds b bs
       (λ x _. adds-later c cs some x)) in
-      let nearest : (x : ℕ) → first_least (from_interval d tree rows x) c cs ≡ nearest_interval d n tree rows x =
-      λ x. sym (ap (least_of (from_interval d tree rows x)) some) in
+      let nearest : (x : ℕ) → first_least (from_interval d (row_of rows) tree x) c cs ≡ nearest_interval d (row_of rows) n tree x =
+      λ x. sym (ap (least_of (from_interval d (row_of rows) tree x)) some) in
       least_pair apart c cs b bs
-      ∙ ap (λ (e : ℕ). (first_least (λ (x : ℕ). apart (x, first_least (from_interval d tree rows x) c cs)) b bs, e)) (nearest _)
-      ∙ ap (λ (x : ℕ). (x, nearest_interval d n tree rows x)) (sym next)
+      ∙ ap (λ (e : ℕ). (first_least (λ (x : ℕ). apart (x, first_least (from_interval d (row_of rows) tree x) c cs)) b bs, e)) (nearest _)
+      ∙ ap (λ (x : ℕ). (x, nearest_interval d (row_of rows) n tree x)) (sym next)

@@ -5,7 +5,7 @@ use Prim.Native.Nat.{ℕ, ◌≤◌}
 use lib.IntN.{ℤ}
 use lib.ListN.{length}
 use Rattle.difference_form.specs.Rows.{difference}
-use Rattle.tree_form.specs.Hanging.{no_branches}
+use Rattle.tree_form.specs.Hanging.{only_row_one}
 use Rattle.tree_form.specs.declared.order.Order.{Order}
 use Rattle.wagner_form.specs.Next.{next_by}
 use Rattle.wagner_form.specs.Build.{added_length, wagner, wagner_length}
@@ -18,7 +18,7 @@ use Rattle.wagner_form.proofs.BuildLength.{Sound, build_sound, build-length}
 module _ (order : Order) (weights : List ℕ) (n m : ℕ) (taxa : 1 ≤ n) (most : n ≤ 64) (rows : List (List ℤ)) (all : length rows ≡ n)
     (each : OfLength m rows) where
   -- the Wagner tree: its tree, its rows and its length
-  pub wagner_sound : Sound (difference weights) n m n no_branches rows (wagner (difference weights) order n rows)
+  pub wagner_sound : Sound (difference weights) n m n only_row_one rows (wagner (difference weights) order n rows)
   unfolding wagner
   wagner_sound =
       build_sound (difference weights) (next_by (difference weights) order) n m taxa (order_chooses (difference weights) order n)

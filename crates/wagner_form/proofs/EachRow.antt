@@ -2,7 +2,7 @@
 use mathlib.Core.Path.{◌≡◌, refl}
 use mathlib.Core.Logic.{by_cases}
 use mathlib.Core.Bool.{Bool, true}
-use mathlib.Core.List.{List, []}
+use mathlib.Core.List.{List, [], ◌++◌, append-nil}
 use Prim.Native.Nat.{ℕ, zero, suc, ◌-◌}
 use native.Mathlib.Omega.{arith}
 use native.Mathlib.Decide.{dec_le}
@@ -31,12 +31,12 @@ module _ (test : List ℤ → Bool) (empty : test [] ≡ true) where
       (d : List ℤ → List ℤ → ℕ) (n : ℕ) where
     -- after a placement every row passes
     pub placed_passes : (tree : List ℕ) (rows : List (List ℤ)) (b c : ℕ) → every test rows ≡ true
-        → every test (place_on d n tree rows b c).rows ≡ true
+        → every test (rows ++ (place_on d (row_of rows) n tree b c).made) ≡ true
     unfolding place_on link_first hang median_row every
-    placed_passes tree rows b zero all = all
+    placed_passes tree rows b zero all = rw (append-nil rows) all
     placed_passes tree rows b (suc c) all =
         every_append test rows _ all
-        (every-cons test (median_row rows b (suc c) (ancestor tree (suc c))) []
+        (every-cons test (median_row (row_of rows) b (suc c) (ancestor tree (suc c))) []
         (kept _ _ _ (row_passes rows all b) (row_passes rows all (suc c)) (row_passes rows all (ancestor tree (suc c)))) refl)
 
     -- and after a build
@@ -45,5 +45,5 @@ module _ (test : List ℤ → Bool) (empty : test [] ≡ true) where
     unfolding build_on place
     rows_pass next zero tree rows all = all
     rows_pass next (suc count) tree rows all =
-        rows_pass next count (place d n tree rows (next n tree rows)).tree (place d n tree rows (next n tree rows)).rows
-        (placed_passes tree rows (next n tree rows) (nearest_interval d n tree rows (next n tree rows)) all)
+        rows_pass next count (place d (row_of rows) n tree (next n tree rows)).tree (rows ++ (place d (row_of rows) n tree (next n tree rows)).made)
+        (placed_passes tree rows (next n tree rows) (nearest_interval d (row_of rows) n tree (next n tree rows)) all)

@@ -8,6 +8,7 @@ use lib.IntN.{ℤ, pos, negsuc}
 use lib.ListN.{take, replicate}
 use Rattle.lists.specs.Over.{over, stripes}
 use Rattle.matrix_form.specs.NodeRows.{row_of, with_rows}
+use Rattle.matrix_form.proofs.Sample.{rows_abcd}
 use Rattle.difference_form.specs.Rows.{interval_by, apart, part, lower, higher, median, medians, difference, node_difference}
 use Rattle.lists.specs.Numbers.{numbers}
 use Rattle.lists.specs.Least.{first_least, least_of}
@@ -21,10 +22,11 @@ use Rattle.lists.specs.Filters.{keep}
 use Rattle.tree_form.specs.Nodes.{has_ancestor, in_tree, nodes_in, nodes_out, other_nodes, taxa_placed}
 use Rattle.tree_form.specs.Growing.{descendant_count, descendants_wanted, climbs, row_one_alone, nodes_only, htus_in, ancestors_in}
 use Rattle.tree_form.specs.Growing.{descendants_right, all_climb, grown, growing_tree, branching}
-use Rattle.tree_form.specs.Hanging.{no_branches, linked, hung, next_htu}
+use Rattle.tree_form.specs.Hanging.{only_row_one, linked, hung, next_htu}
+use Rattle.lists.specs.Filled.{filled}
 use Rattle.tree_form.specs.Branches.{tree_length, branch_of, branch_records, branches_read, ancestors_of, named_in_order, lent_branching}
 use Rattle.lists.specs.Sums.{sum_over}
-use Rattle.tree_form.specs.RowLengths.{node_interval, length_under}
+use Rattle.tree_form.specs.RowLengths.{length_under}
 use Rattle.tree_form.specs.declared.order.Order.{Order}
 use Rattle.tree_form.specs.declared.order.Order.TheVariants.{Advance, Closest}
 use Rattle.wagner_form.specs.Next.{hangings, taxon_of, advancement, by_advancement, by_closeness, next_by}
@@ -48,8 +50,8 @@ shown_by : List ℕ → Order → ℕ → List (List ℤ) → Shown
 unfolding flat_map pairs hangings taxon_of by_closeness next_by apart lower higher median medians weight_at part difference
     numbers first_least last_node ancestor descendants has_ancestor in_tree keep
     nodes_in nodes_out other_nodes taxa_placed every descendant_count descendants_wanted climbs row_one_alone nodes_only htus_in ancestors_in
-    descendants_right all_climb grown growing_tree branching no_branches linked hung next_htu sum_over tree_length branch_of branch_records
-    branches_read ancestors_of same_numbers named_in_order lent_branching row_of least_of node_difference interval_by node_interval advancement
+    descendants_right all_climb grown growing_tree branching only_row_one linked hung next_htu sum_over tree_length branch_of branch_records
+    branches_read ancestors_of filled same_numbers named_in_order lent_branching row_of least_of node_difference interval_by advancement
     length_under median_row from_interval nearest_interval link_first hang place_on place by_advancement build_on build wagner wagner_length
     wagner_branches
 shown_by weights order n rows =
@@ -70,13 +72,9 @@ shown : ℕ → List (List ℤ) → Shown
 unfolding shown_by
 shown n rows = shown_by alike Advance n rows
 
--- the matrix of document 01: A, B, C, D
-abbrev four_taxa : List (List ℤ)
-four_taxa =
-    (pos 0 ∷ pos 0 ∷ pos 0 ∷ []) ∷ (pos 2 ∷ pos 1 ∷ pos 0 ∷ []) ∷ (pos 2 ∷ pos 3 ∷ pos 1 ∷ []) ∷ (negsuc 0 ∷ pos 1 ∷ pos 2 ∷ []) ∷ []
-
+-- the matrix of document 01:
 -- W B - A - 3; W D B A #1 3; W C B #1 #2 3; w 9
-four_taxa_built : shown 4 four_taxa
+four_taxa_built : shown 4 rows_abcd
     ≡ record {
       placements = line 2 0 1 0 3 ∷ line 4 2 1 5 3 ∷ line 3 2 5 6 3 ∷ [];
       ancestors = 0 ∷ 0 ∷ 6 ∷ 6 ∷ 5 ∷ 1 ∷ 5 ∷ [];
@@ -88,7 +86,7 @@ four_taxa_built = refl
 
 -- by closeness C and D are equally near to the interval of B, and the lower row comes first: W B - A - 3; W C B A #1 3; W D #1 A #2 3;
 -- w 9
-four_taxa_closest : shown_by alike Closest 4 four_taxa
+four_taxa_closest : shown_by alike Closest 4 rows_abcd
     ≡ record {
       placements = line 2 0 1 0 3 ∷ line 3 2 1 5 3 ∷ line 4 5 1 6 3 ∷ [];
       ancestors = 0 ∷ 0 ∷ 5 ∷ 5 ∷ 6 ∷ 6 ∷ 1 ∷ [];
@@ -99,7 +97,7 @@ unfolding shown_by
 four_taxa_closest = refl
 
 -- with a third character that counts three times C is less advanced than D, and D goes to the interval of C
-four_taxa_third : shown_by (1 ∷ 1 ∷ 3 ∷ []) Advance 4 four_taxa
+four_taxa_third : shown_by (1 ∷ 1 ∷ 3 ∷ []) Advance 4 rows_abcd
     ≡ record {
       placements = line 2 0 1 0 3 ∷ line 3 2 1 5 5 ∷ line 4 3 5 6 6 ∷ [];
       ancestors = 0 ∷ 0 ∷ 5 ∷ 6 ∷ 6 ∷ 1 ∷ 5 ∷ [];
@@ -110,7 +108,7 @@ unfolding shown_by
 four_taxa_third = refl
 
 -- with a second character that counts twice D is nearer to the interval of B than C
-four_taxa_second : shown_by (1 ∷ 2 ∷ 1 ∷ []) Closest 4 four_taxa
+four_taxa_second : shown_by (1 ∷ 2 ∷ 1 ∷ []) Closest 4 rows_abcd
     ≡ record {
       placements = line 2 0 1 0 4 ∷ line 4 2 1 5 3 ∷ line 3 2 5 6 5 ∷ [];
       ancestors = 0 ∷ 0 ∷ 6 ∷ 6 ∷ 5 ∷ 1 ∷ 5 ∷ [];
@@ -192,7 +190,7 @@ equally_near_closest = refl
 handed : ℕ → AfterPlacing
 unfolding shown_by
 handed b =
-    place (difference alike) 4 (0 ∷ 0 ∷ 5 ∷ 0 ∷ 5 ∷ 1 ∷ 0 ∷ []) (take 4 four_taxa ++ (pos 1 ∷ pos 1 ∷ pos 1 ∷ []) ∷ []) b
+    place (difference alike) (row_of (take 4 rows_abcd ++ (pos 1 ∷ pos 1 ∷ pos 1 ∷ []) ∷ [])) 4 (0 ∷ 0 ∷ 5 ∷ 0 ∷ 5 ∷ 1 ∷ 0 ∷ []) b
 
 handed-tree : (handed 3).tree ≡ 0 ∷ 0 ∷ 6 ∷ 6 ∷ 5 ∷ 1 ∷ 5 ∷ []
 unfolding handed
@@ -202,15 +200,15 @@ handed-placement : (handed 3).placement ≡ line 3 2 5 6 2
 unfolding handed
 handed-placement = refl
 
--- the new HTU's row stands behind the others and takes the median codes
-handed-row : row_of (handed 3).rows 6 ≡ pos 2 ∷ pos 1 ∷ pos 1 ∷ []
+-- the new HTU's row takes the median codes
+handed-row : (handed 3).made ≡ (pos 2 ∷ pos 1 ∷ pos 1 ∷ []) ∷ []
 unfolding handed
 handed-row = refl
 
 -- the branches of document 01's tree, with their lengths under the median codes; handed back, they are a branching
 branches : List Branch
 unfolding shown_by
-branches = wagner_branches (difference alike) 4 (wagner (difference alike) Advance 4 four_taxa)
+branches = wagner_branches (difference alike) 4 (wagner (difference alike) Advance 4 rows_abcd)
 
 abbrev branch : ℕ → ℕ → ℕ → Branch
 branch v a l = record { node = v; ancestor = a; length = l }
@@ -225,7 +223,7 @@ branches-lent = refl
 
 -- a matrix of nines after that build: the rows of #1 and #2, nodes 5 and 6, have the medians of D, B and A and of C, B and #1 in three
 -- characters, and all else is as before
-matrix-written : matrix_after (replicate 645 (pos 9)) 4 (wagner (difference alike) Advance 4 four_taxa)
+matrix-written : matrix_after (replicate 645 (pos 9)) 4 (wagner (difference alike) Advance 4 rows_abcd)
     ≡ replicate 512 (pos 9) ++ (pos 0 ∷ pos 1 ∷ pos 0 ∷ []) ++ replicate 125 (pos 9) ++ (pos 2 ∷ pos 1 ∷ pos 0 ∷ []) ++ replicate 2 (pos 9)
 unfolding shown_by over stripes with_rows matrix_after
 matrix-written = refl

@@ -13,7 +13,7 @@ use Rattle.matrix_form.proofs.NodeRows.{row_of-next, length-rows_of, row_of-rows
 use Rattle.lists.proofs.Stripes.{stripes-before}
 use Rattle.matrix_form.specs.Shape.{row, row_start, columns}
 use Rattle.matrix_form.proofs.Row.{length-row}
-use Rattle.tree_form.specs.Hanging.{no_branches}
+use Rattle.tree_form.specs.Hanging.{only_row_one}
 use Rattle.wagner_form.specs.Matrix.{matrix_after}
 use Rattle.wagner_form.specs.Build.{Built}
 use Rattle.tree_form.proofs.RowLengths.{OfLength}
@@ -27,7 +27,7 @@ rows_of-each codes m count wide room v l h =
 
 -- a build of n taxa from the rows of a lent matrix
 module _ (d : List ℤ → List ℤ → ℕ) (codes : List ℤ) (n m : ℕ) (wide : m ≤ columns) (room : row_start (suc (n + (n - 2))) ≤ length codes)
-    (built : Built) (s : Sound d n m n no_branches (rows_of codes m n) built) where
+    (built : Built) (s : Sound d n m n only_row_one (rows_of codes m n) built) where
   -- there is a row for each of the n taxa and n-2 HTUs
   long : length built.rows ≡ n + (n - 2)
   long = s.growth.full

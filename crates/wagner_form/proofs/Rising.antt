@@ -2,7 +2,7 @@
 use mathlib.Core.Path.{◌≡◌, refl, sym, ap, ap₂, ◌∙◌}
 use mathlib.Core.Logic.{◌≢◌, by_cases}
 use mathlib.Core.Bool.{Bool, true, false, not, cond, ◌&&◌, ◌||◌}
-use mathlib.Core.List.{List, [], ◌∷◌, map, Memᴰ}
+use mathlib.Core.List.{List, [], ◌∷◌, ◌++◌, map, Memᴰ}
 use Prim.Native.Nat.{ℕ, zero, suc, ◌+◌, ◌-◌, ◌≤◌, ◌<◌}
 use native.Mathlib.Nat.{zero-add}
 use native.Mathlib.Decide.{ℕ_discrete}
@@ -23,9 +23,9 @@ use Rattle.difference_form.specs.Rows.{difference, node_difference}
 use Rattle.tree_form.specs.declared.placement.Placement.{Placement}
 use Rattle.tree_form.specs.Nodes.{in_tree, nodes_in, nodes_out, taxa_placed, Unplaced}
 use Rattle.tree_form.specs.Facts.{alone}
-use Rattle.tree_form.specs.Hanging.{no_branches}
+use Rattle.tree_form.specs.Hanging.{only_row_one}
 use Rattle.tree_form.specs.Placing.{AfterPlacing, place}
-use Rattle.tree_form.proofs.Nodes.{no_branches-none, no_branches-places, false-in_tree}
+use Rattle.tree_form.proofs.Nodes.{only_row_one-none, only_row_one-size, false-in_tree}
 use Rattle.tree_form.proofs.Counts.{some-unplaced}
 use Rattle.tree_form.proofs.Test.{growing-placed}
 use Rattle.tree_form.proofs.Placing.{place-only, place_in, place-taxon}
@@ -96,7 +96,7 @@ module _ (weights : List ℕ) (n m : ℕ) (taxa : 1 ≤ n) (key : ℕ → ℕ) w
       let b : ℕ = by_advancement (difference weights) n tree rows in
       let less : taxa_placed n tree < n = omega (arith, growing-placed tree n taxa g.growing) in
       let u : Unplaced n tree b = unfold next_by in order_chooses (difference weights) Advance n tree rows less in
-      let placed : AfterPlacing = place (difference weights) n tree rows b in
+      let placed : AfterPlacing = place (difference weights) (row_of rows) n tree b in
       let after = place_growth (difference weights) n m k tree rows g (difference_laws weights m) b u in
       let kept = place-rows (difference weights) n m k tree rows g (difference_laws weights m) b u in
       let some = some-unplaced n tree less in
@@ -104,13 +104,13 @@ module _ (weights : List ℕ) (n m : ℕ) (taxa : 1 ≤ n) (key : ℕ → ℕ) w
       let mem : Memᴰ b (nodes_out tree (numbers 1 n)) =
       unfold by_advancement in least_of-mem (advancement (difference weights) rows) (nodes_out tree (numbers 1 n)) some.0 some.1 in
       let rest =
-      order_on count (suc k) placed.tree placed.rows after (omega arith) (keys_kept rows placed.rows g.full kept keys) in
-      let left = one_less n tree placed.tree b (place_in (difference weights) n tree rows b g.room u g.growing)
-      (place-only (difference weights) n tree rows b g.room u g.growing) in
+      order_on count (suc k) placed.tree (rows ++ placed.made) after (omega arith) (keys_kept rows (rows ++ placed.made) g.full kept keys) in
+      let left = one_less n tree placed.tree b (place_in (difference weights) n tree (row_of rows) b g.room u g.growing)
+      (place-only (difference weights) n tree (row_of rows) b g.room u g.growing) in
       let behind : InOrder key (without (b ∷ []) (nodes_out tree (numbers 1 n)))
-      (taxa_of (build_on (difference weights) (by_advancement (difference weights)) n count placed.tree placed.rows).placements) =
+      (taxa_of (build_on (difference weights) (by_advancement (difference weights)) n count placed.tree (rows ++ placed.made)).placements) =
       rw left rest in
-      rw (place-taxon (difference weights) n tree rows b) (placed_next b mem next behind)
+      rw (place-taxon (difference weights) n tree (row_of rows) b) (placed_next b mem next behind)
     where
       chosen : (tree : List ℕ) (rows : List (List ℤ)) → ((v : ℕ) → 1 ≤ v → v ≤ n → advancement (difference weights) rows v ≡ key v)
           → by_advancement (difference weights) n tree rows ≡ least_of key (nodes_out tree (numbers 1 n))
@@ -132,16 +132,16 @@ module _ (weights : List ℕ) (n m : ℕ) (taxa : 1 ≤ n) (key : ℕ → ℕ) w
           (ap₂ (difference weights) (kept v low (omega arith)) (kept 1 (omega arith) (omega arith)) ∙ keys v low high)
 
 -- at the start all taxa but row 1 are left
-all_left : (n : ℕ) → 1 ≤ n → nodes_out no_branches (numbers 1 n) ≡ numbers 2 (n - 1)
+all_left : (n : ℕ) → 1 ≤ n → nodes_out only_row_one (numbers 1 n) ≡ numbers 2 (n - 1)
 unfolding nodes_out numbers keep
 all_left zero h = absurd (omega arith)
 all_left (suc k) h =
-    let first : in_tree no_branches 1 ≡ true = unfold in_tree in refl in
+    let first : in_tree only_row_one 1 ≡ true = unfold in_tree in refl in
     let count : suc k - 1 ≡ k = omega arith in
-    ap (λ (t : Bool). cond (not t) (1 ∷ keep (λ v. not (in_tree no_branches v)) (numbers 2 k))
-    (keep (λ v. not (in_tree no_branches v)) (numbers 2 k))) first
-    ∙ keep_all (λ v. not (in_tree no_branches v)) (numbers 2 k)
-    (λ v mem. ap not (false-in_tree no_branches v (numbers-within 2 k v mem).0 (no_branches-none v)))
+    ap (λ (t : Bool). cond (not t) (1 ∷ keep (λ v. not (in_tree only_row_one v)) (numbers 2 k))
+    (keep (λ v. not (in_tree only_row_one v)) (numbers 2 k))) first
+    ∙ keep_all (λ v. not (in_tree only_row_one v)) (numbers 2 k)
+    (λ v mem. ap not (false-in_tree only_row_one v (numbers-within 2 k v mem).0 (only_row_one-none v)))
     ∙ ap (numbers 2) (sym count)
 
 -- n rows of m codes, n from 1 to 64
@@ -152,10 +152,10 @@ module _ (weights : List ℕ) (n m : ℕ) (taxa : 1 ≤ n) (most : n ≤ 64) (ro
       (taxa_of (wagner (difference weights) Advance n rows).placements)
   unfolding wagner build next_by
   wagner-order =
-      let start : Growth n m 1 no_branches rows =
-      record { growing = alone no_branches-none; room = rw no_branches-places (omega arith); full = omega arith; each = each } in
+      let start : Growth n m 1 only_row_one rows =
+      record { growing = alone only_row_one-none; room = rw only_row_one-size (omega arith); full = omega arith; each = each } in
       rw (all_left n taxa) at
-      (order_on weights n m taxa (advancement (difference weights) rows) (n - 1) 1 no_branches rows start (omega arith) (λ v low high. refl))
+      (order_on weights n m taxa (advancement (difference weights) rows) (n - 1) 1 only_row_one rows start (omega arith) (λ v low high. refl))
 
   -- so the advancements rise along the placements
   pub wagner_rises : Rising (advancement (difference weights) rows) (taxa_of (wagner (difference weights) Advance n rows).placements)

@@ -1,7 +1,7 @@
 -- The tree of a build is a branching of all n taxa.
 use mathlib.Core.Path.{◌≡◌}
 use mathlib.Core.Bool.{true}
-use mathlib.Core.List.{List}
+use mathlib.Core.List.{List, ◌++◌}
 use Prim.Native.Nat.{ℕ, zero, suc, ◌+◌, ◌*◌, ◌-◌, ◌≤◌, ◌<◌}
 use native.Mathlib.Omega.{arith}
 use native.Mathlib.Nat.{zero-add}
@@ -13,9 +13,9 @@ use Rattle.lists.specs.Least.{least_of}
 use Rattle.lists.specs.Numbers.{numbers}
 use Rattle.tree_form.specs.Nodes.{taxa_placed, nodes_out, Unplaced}
 use Rattle.tree_form.specs.Facts.{GrowingTree, alone, Branching}
-use Rattle.tree_form.specs.Hanging.{no_branches}
+use Rattle.tree_form.specs.Hanging.{only_row_one}
 use Rattle.tree_form.specs.Branches.{lent_branching}
-use Rattle.tree_form.proofs.Nodes.{no_branches-none, no_branches-places}
+use Rattle.tree_form.proofs.Nodes.{only_row_one-none, only_row_one-size}
 use Rattle.tree_form.proofs.Counts.{some-unplaced, unplaced-taxon}
 use Rattle.tree_form.proofs.Test.{growing-placed}
 use Rattle.tree_form.proofs.Records.{records-lent}
@@ -26,7 +26,7 @@ use Rattle.wagner_form.specs.Build.{build_on, build, wagner, wagner_branches}
 use Rattle.wagner_form.proofs.Closest.{adds, closeness_least}
 use Rattle.tree_form.specs.Placing.{AfterPlacing, place}
 use Rattle.lists.proofs.Least.{least_of-mem}
-use Rattle.tree_form.proofs.Placing.{place_grows, place-places}
+use Rattle.tree_form.proofs.Placing.{place_grows, place-size}
 
 -- a rule for the next taxon chooses one that is not placed, as long as there is one
 abbrev pub Chooses : (ℕ → List ℕ → List (List ℤ) → ℕ) → ℕ → Type 0
@@ -53,10 +53,10 @@ module _ (d : List ℤ → List ℤ → ℕ) (next : ℕ → List ℕ → List (
   build_on_grows zero k tree rows g h room = rw zero-add g
   build_on_grows (suc count) k tree rows g h room =
       let b : ℕ = next n tree rows in
-      let placed : AfterPlacing = place d n tree rows b in
+      let placed : AfterPlacing = place d (row_of rows) n tree b in
       let chosen = chooses tree rows (omega (arith, growing-placed tree n taxa g)) in
-      let grows = place_grows d n tree rows b g room chosen in
-      let larger = build_on_grows count (suc k) placed.tree placed.rows grows (omega arith) (rw (place-places d n tree rows b) room) in
+      let grows = place_grows d n tree (row_of rows) b g room chosen in
+      let larger = build_on_grows count (suc k) placed.tree (rows ++ placed.made) grows (omega arith) (rw (place-size d n tree (row_of rows) b) room) in
       let same : suc count + k ≡ count + suc k = omega arith in
       rw same larger
 
@@ -65,7 +65,7 @@ module _ (d : List ℤ → List ℤ → ℕ) (next : ℕ → List ℕ → List (
   unfolding build
   build-branching h rows =
       let all : n - 1 + 1 ≡ n = omega arith in
-      rw all at (build_on_grows (n - 1) 1 no_branches rows (alone no_branches-none) (omega arith) (rw no_branches-places (omega arith)))
+      rw all at (build_on_grows (n - 1) 1 only_row_one rows (alone only_row_one-none) (omega arith) (rw only_row_one-size (omega arith)))
 
 module _ (d : List ℤ → List ℤ → ℕ) (order : Order) (n : ℕ) (taxa : 1 ≤ n) (most : n ≤ 64) (rows : List (List ℤ)) where
   -- the Wagner tree of 1 to 64 rows is a branching

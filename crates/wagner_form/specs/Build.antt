@@ -1,10 +1,10 @@
 -- The whole build: from row 1 alone, taxon after taxon is placed until all n are in the tree.
-use Rattle.std.specs.Prelude.{List, [], ◌∷◌, ℕ, zero, suc, ◌-◌, ℤ}
+use Rattle.std.specs.Prelude.{List, [], ◌∷◌, ◌++◌, ℕ, zero, suc, ◌-◌, ℤ}
 use Rattle.difference_form.specs.Rows.{node_difference}
 use Rattle.matrix_form.specs.NodeRows.{row_of}
 use Rattle.tree_form.specs.declared.placement.Placement.{Placement}
 use Rattle.tree_form.specs.declared.branch.Branch.{Branch}
-use Rattle.tree_form.specs.Hanging.{no_branches}
+use Rattle.tree_form.specs.Hanging.{only_row_one}
 use Rattle.tree_form.specs.Branches.{branch_records}
 use Rattle.lists.specs.Sums.{sum_over}
 use Rattle.tree_form.specs.RowLengths.{length_under}
@@ -28,13 +28,13 @@ module _ (d : List ℤ → List ℤ → ℕ) (next : ℕ → List ℕ → List (
   unfoldable pub build_on : ℕ → ℕ → List ℕ → List (List ℤ) → Built
   build_on n zero tree rows = record { tree = tree; rows = rows; placements = [] }
   build_on n (suc count) tree rows =
-      let placed : AfterPlacing = place d n tree rows (next n tree rows) in
-      let rest : Built = build_on n count placed.tree placed.rows in
+      let placed : AfterPlacing = place d (row_of rows) n tree (next n tree rows) in
+      let rest : Built = build_on n count placed.tree (rows ++ placed.made) in
       record { tree = rest.tree; rows = rest.rows; placements = placed.placement ∷ rest.placements }
 
   -- the build of all n taxa
   unfoldable pub build : ℕ → List (List ℤ) → Built
-  build n rows = build_on n (n - 1) no_branches rows
+  build n rows = build_on n (n - 1) only_row_one rows
 
 module _ (d : List ℤ → List ℤ → ℕ) where
   -- the Wagner tree of n rows, in an order of placing

@@ -32,7 +32,7 @@ module _ (d : List ℤ → List ℤ → ℕ) where
   -- among equals, then the lower end's lower number; while there is no interval, the next by advancement
   unfoldable pub by_closeness : ℕ → List ℕ → List (List ℤ) → ℕ
   by_closeness n tree rows =
-      taxon_of (λ (pair : ℕ × ℕ). from_interval d tree rows pair.0 pair.1) (hangings n tree) (by_advancement n tree rows)
+      taxon_of (λ (pair : ℕ × ℕ). from_interval d (row_of rows) tree pair.0 pair.1) (hangings n tree) (by_advancement n tree rows)
 
   -- the next taxon in an order of placing
   unfoldable pub next_by : Order → ℕ → List ℕ → List (List ℤ) → ℕ

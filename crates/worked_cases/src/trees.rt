@@ -30,7 +30,7 @@ pub fn print_placed(rt: &impl Print, placed: Result<Placement, Refusal>) -> io::
 // Kept: no plainer, 0 stands for no ancestor in the tree's own list.
 // The A lines of a tree: each node that has an immediate ancestor, and this one.
 pub fn print_tree(rt: &impl Print, tree: Tree) -> io::Result<()> {
-    for (v, above) in tree.ancestors.iter().enumerate() {
+    for (v, above) in tree.list().iter().enumerate() {
         if *above != 0 {
             println!(rt; "A\t{v}\t{above}")?;
         }

@@ -3,8 +3,10 @@ ghost use Rattle.std.specs.Prelude.{◌≡◌, length};
 ghost use Rattle.matrix_form.specs.Outcomes.{afterwards};
 ghost use Rattle.branching.specs.Views.{ancestors};
 ghost use Rattle.tree_form.specs.Branches.{with_records};
-ghost use Rattle.branching.specs.Placed.{placement_says, place_in};
+ghost use Rattle.branching.specs.Calls.{placement_says, place_in};
 ghost use Rattle.references.specs.Written.{code_difference, records_say};
+ghost use Rattle.matrix_form.specs.Shape.{matrix_of};
+ghost use Rattle.matrix.specs.Lent.{lent_lists};
 
 use branching::tree::Tree;
 use matrix::lent::Lent;
@@ -25,8 +27,8 @@ pub(crate) fn placed_in(
     m: usize,
     b: usize,
 ) -> (Tree, Result<Placement, Refusal>)
-    ensures { ancestors result.0 ≡ afterwards (placement_says matrix.old weights.now n m (ancestors tree) b)
-        (place_in matrix.old weights.now n m (ancestors tree) b).tree (ancestors tree) }
+    ensures { ancestors result.0 ≡ afterwards (placement_says (matrix_of matrix.old weights.now) n m (ancestors tree) b)
+        (place_in (matrix_of matrix.old weights.now) n m (ancestors tree) b).tree (ancestors tree) }
 {
     let placed = place_in(&mut tree, matrix, weights, n, m, b);
     (tree, placed)
@@ -38,8 +40,8 @@ pub(crate) fn written(
     tree: Tree,
     mut records: [Branch; BRANCHES],
 ) -> ([Branch; BRANCHES], Result<(), Refusal>)
-    ensures { result.0 ≡ afterwards (records_say lent.now.matrix.now lent.now.weights.now lent.now.n lent.now.m (ancestors tree) (length records))
-        (with_records (code_difference lent.now.matrix.now lent.now.weights.now lent.now.m) lent.now.n (ancestors tree) records) records }
+    ensures { result.0 ≡ afterwards (records_say (lent_lists lent.now) lent.now.n lent.now.m (ancestors tree) (length records))
+        (with_records (code_difference (lent_lists lent.now) lent.now.m) lent.now.n (ancestors tree) records) records }
 {
     let asked = write_branches(lent, tree, &mut records);
     (records, asked)

@@ -1,8 +1,8 @@
 // What the program holds, and what each step of the cases changes or shows.
 use crate::calls::{placed_in, written};
 use branching::tree::Tree;
-use fit_passes::characters::code_at;
 use fitting::ranges::Ranges;
+use matrix::codes::code_at;
 use matrix::lent::Lent;
 use matrix::{COLUMNS, MATRIX_SIZE};
 use references::lent::fit_lent;

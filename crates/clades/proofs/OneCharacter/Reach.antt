@@ -7,14 +7,14 @@ use mathlib.Core.List.{List, [], ◌∷◌, ◌++◌, map, Memᴰ}
 use Prim.Native.Nat.{ℕ, ◌+◌, ◌≤◌}
 use native.Mathlib.Omega.{arith}
 use lib.IntN.{ℤ}
-use Rattle.lists.proofs.Maps.{map-mem}
 use Rattle.clades.specs.Clades.{Clade, tip}
 use Rattle.clades.specs.Kinds.{Kind}
 use Rattle.clades.proofs.Clades.Nodes.{top, has_top}
 use Rattle.clades.proofs.Clades.Parts.{Part, part_has}
 use Rattle.clades.proofs.Clades.Cost.{EachTip, each_part}
 use Rattle.clades.proofs.Clades.Spread.{Spread, node_states, mem-node_states, clade_spread}
-use Rattle.clades.proofs.Sets.Laws.{Distance, Laws}
+use Rattle.difference_form.proofs.Laws.Distance.{Distance}
+use Rattle.clades.proofs.Sets.Laws.{Laws}
 use Rattle.clades.proofs.Sets.Distance.{gap_members}
 use Rattle.clades.proofs.OneCharacter.Basic.{Own, EachProper}
 use Rattle.clades.proofs.OneCharacter.CharacterFit.{Assigns, length_in, Node}
@@ -78,7 +78,7 @@ module _ (step : ℤ → ℤ → ℕ) (t : Clade) (f : ℕ → ℤ) where
   nodes_spread NoWider spread vs nodes =
       spread.fewer (map f vs) (f 1 ∷ node_states f t) (length_in step t f)
       (λ x i.
-      let at = map-mem f vs x i in
+      let at = Memᴰ.of_map f vs i in
       ⊎_elim
       (λ e. Memᴰ.head (sym at.2 ∙ ap f e))
       (λ h. Memᴰ.tail (Memᴰ.cast (sym at.2) (mem-node_states f t at.0 h)))

@@ -13,7 +13,7 @@ use Rattle.clades.proofs.Clades.Parts.{Part, whole, below, part_has, node_above}
 use Rattle.clades.proofs.Clades.Cost.{each_part}
 use Rattle.clades.proofs.Clades.Around.{cost-part, exchanged, exchanged_on, exchanged_off, part_without, above-without}
 use Rattle.clades.proofs.Clades.Around.{keeps_exchanged, cost_exchanged}
-use Rattle.clades.proofs.Sets.Laws.{Distance}
+use Rattle.difference_form.proofs.Laws.Distance.{Distance}
 use Rattle.clades.proofs.OneCharacter.CharacterFit.{Assigns, length_in, Within, CharacterFit}
 
 -- the node above a part of a clade below node u is u or a node of the clade

@@ -1,16 +1,13 @@
 -- A character that counts w times is fitted as one that counts once: its costs are w times as high, and all else is the same.
-use mathlib.Core.Path.{◌≡◌, refl, sym, ap, ap₂, subst, ◌∙◌}
+use mathlib.Core.Path.{◌≡◌, refl, sym, ap, ap₂, ◌∙◌}
 use Prim.Native.Nat.{ℕ, ◌+◌, ◌*◌, ◌≤◌}
 use native.Mathlib.Nat.{mul-add, mul-le-mul_left, le_of_mul-le-mul_left, mul-zero, eq_of_mul-eq-mul_left}
 use lib.IntN.{ℤ}
+use Rattle.difference_form.proofs.Laws.Distance.{times, distance_weighed}
 use Rattle.clades.specs.Clades.{Clade, tip, fork}
 use Rattle.clades.proofs.Clades.Cost.{cost}
-use Rattle.clades.proofs.Sets.Laws.{Distance, Metric}
+use Rattle.clades.proofs.Sets.Laws.{Metric}
 use Rattle.clades.proofs.OneCharacter.CharacterFit.{length_in, Within, CharacterFit}
-
--- what a change costs if it counts w times
-abbrev pub times : ℕ → (ℤ → ℤ → ℕ) → ℤ → ℤ → ℕ
-times w step a b = w * step a b
 
 -- the cost of a clade in a character of weight w is w times that in a character of weight 1
 pub cost-weighed : (w : ℕ) (step : ℤ → ℤ → ℕ) (f : ℕ → ℤ) (y : ℤ) (t : Clade) → cost (times w step) f y t ≡ w * cost step f y t
@@ -22,16 +19,8 @@ cost-weighed w step f y (fork v a b) =
     ∙ sym (mul-add w (cost step f (f v) a) (cost step f (f v) b)))
     ∙ sym (mul-add w (step (f v) y) (cost step f (f v) a + cost step f (f v) b))
 
--- a distance of states counted w times is one, also if w is 0
-distance_weighed : (w : ℕ) (step : ℤ → ℤ → ℕ) → Distance step → Distance (times w step)
-distance_weighed w step distance = record {
-  self = λ x. ap (λ k. w * k) (distance.self x) ∙ mul-zero w;
-  turned = λ x y. ap (λ k. w * k) (distance.turned x y);
-  triangle = λ x y z. subst (λ k. w * step x z ≤ k) (mul-add w (step x y) (step y z)) (mul-le-mul_left w (distance.triangle x y z));
-}
-
 module _ (w : ℕ) (some : 1 ≤ w) (step : ℤ → ℤ → ℕ) where
-  -- so is one that is 0 only from a state to itself, if w is not 0
+  -- a distance that is 0 only from a state to itself stays so, counted w times, if w is not 0
   pub metric_weighed : Metric step → Metric (times w step)
   metric_weighed metric = record {
     distance = distance_weighed w step metric.distance;

@@ -4,18 +4,10 @@ use mathlib.Core.Logic.{◌↔◌}
 use Prim.Native.Nat.{ℕ, ◌+◌, ◌≤◌}
 use lib.IntN.{ℤ}
 use lib.Signed.{◌≤ℤ◌}
+use Rattle.difference_form.proofs.Laws.Distance.{Distance}
 use Rattle.clades.specs.Kinds.{Kind, offset}
 
--- the cost of a change is a distance of states; counted 0 times it still is one
-pub record Distance (step : ℤ → ℤ → ℕ) : Type 0 where
-  -- nothing from a state to itself
-  pub self : (x : ℤ) → step x x ≡ 0
-  -- the same either way
-  pub turned : (x y : ℤ) → step x y ≡ step y x
-  -- never less over a third state
-  pub triangle : (x y z : ℤ) → step x z ≤ step x y + step y z
-
--- and it is 0 only from a state to itself
+-- the cost of a change is a distance of states, and 0 only from a state to itself
 pub record Metric (step : ℤ → ℤ → ℕ) : Type 0 where
   pub distance : Distance step
   pub same : (x y : ℤ) → step x y ≡ 0 → x ≡ y

@@ -25,7 +25,8 @@ use Rattle.clades.proofs.OneCharacter.Basic.{Own, EachProper}
 use Rattle.clades.proofs.OneCharacter.CharacterFit.{Node}
 use Rattle.clades.proofs.OneCharacter.Row1.{character-fit, range_proper}
 use Rattle.clades.proofs.OneCharacter.Vanishing.{Meet, above_node}
-use Rattle.clades.proofs.OneCharacter.Weighed.{times, metric_weighed, weighed-fit}
+use Rattle.difference_form.proofs.Laws.Distance.{times}
+use Rattle.clades.proofs.OneCharacter.Weighed.{metric_weighed, weighed-fit}
 use Rattle.clades.proofs.Several.Together.{LeastTotal, OccursIn, EachFitted, ours-least, range_occurs}
 use Rattle.clades.proofs.Several.Vanish.{CanVanish, length_between, AllMeet, can_vanish_iff}
 

@@ -11,11 +11,12 @@ use lib.Dec.{T, leb→le}
 use lib.IntN.{ℤ, pos, negsuc, nat_abs, sub_ℕ, ◌-ℤ◌, +ℤ_idr}
 use lib.Signed.{◌≤ℤ◌, ≤ℤ_refl, le_z, lt_z, non_neg, pos-nat_abs}
 use Rattle.std.specs.Int.{int_min, int_max}
-use Rattle.matrix_form.specs.Shape.{in_range}
-use Rattle.difference_form.specs.Rows.{apart, lower, higher, median}
+use Rattle.matrix_form.specs.Shape.{in_range, highest_code}
+use Rattle.difference_form.specs.Rows.{apart, most_apart, lower, higher, median}
+use Rattle.difference_form.proofs.Laws.Distance.{Distance}
 use Rattle.difference_form.proofs.Laws.Order.{le_z-true, le_z-false, lt_z-true, lt_z-false, ≤ℤ-total, cond-keeps, median-keeps}
-use Rattle.difference_form.proofs.Laws.Places.{place, sub_cases, everywhere, place_le, le_place, apart-place, lower-place, higher-place}
-use Rattle.difference_form.proofs.Laws.Places.{median-place}
+use Rattle.difference_form.proofs.Laws.Points.{point, sub_cases, everywhere, point_le, le_point, apart-point, lower-point, higher-point}
+use Rattle.difference_form.proofs.Laws.Points.{median-point}
 
 -- ---- the order of codes, and the lower and the higher of two
 
@@ -23,14 +24,14 @@ use Rattle.difference_form.proofs.Laws.Places.{median-place}
 pub ≤ℤ-trans : {a b c : ℤ} → a ≤ℤ b → b ≤ℤ c → a ≤ℤ c
 ≤ℤ-trans {a} {b} {c} =
     everywhere (λ z. z 0 ≤ℤ z 1 → z 1 ≤ℤ z 2 → z 0 ≤ℤ z 2)
-    (λ K n h k. le_place K (n 0) (n 2) (le_trans (place_le K (n 0) (n 1) h) (place_le K (n 1) (n 2) k)))
+    (λ K n h k. le_point K (n 0) (n 2) (le_trans (point_le K (n 0) (n 1) h) (point_le K (n 1) (n 2) k)))
     (a ∷ b ∷ c ∷ [])
 
 -- codes that are at most each other are equal
 pub ≤ℤ-antisym : {a b : ℤ} → a ≤ℤ b → b ≤ℤ a → a ≡ b
 ≤ℤ-antisym {a} {b} =
     everywhere (λ z. z 0 ≤ℤ z 1 → z 1 ≤ℤ z 0 → z 0 ≡ z 1)
-    (λ K n h k. ap (place K) (omega (arith, place_le K (n 0) (n 1) h, place_le K (n 1) (n 0) k)))
+    (λ K n h k. ap (point K) (omega (arith, point_le K (n 0) (n 1) h, point_le K (n 1) (n 0) k)))
     (a ∷ b ∷ [])
 
 -- the lower of two codes in order is the first
@@ -85,30 +86,34 @@ int_max_higher a b =
 
 -- the difference of two codes is the same either way round
 pub apart-sym : (a b : ℤ) → apart a b ≡ apart b a
-apart-sym a b = everywhere (λ z. apart (z 0) (z 1) ≡ apart (z 1) (z 0)) (λ K n. simp apart-place (omega arith)) (a ∷ b ∷ [])
+apart-sym a b = everywhere (λ z. apart (z 0) (z 1) ≡ apart (z 1) (z 0)) (λ K n. simp apart-point (omega arith)) (a ∷ b ∷ [])
 
 -- a code is at difference 0 from itself
 pub apart_self : (a : ℤ) → apart a a ≡ 0
-apart_self a = everywhere (λ z. apart (z 0) (z 0) ≡ 0) (λ K n. simp apart-place (omega arith)) (a ∷ [])
+apart_self a = everywhere (λ z. apart (z 0) (z 0) ≡ 0) (λ K n. simp apart-point (omega arith)) (a ∷ [])
 
 -- codes at difference 0 are equal
 pub apart-zero : (a b : ℤ) → apart a b ≡ 0 → a ≡ b
 apart-zero a b =
-    everywhere (λ z. apart (z 0) (z 1) ≡ 0 → z 0 ≡ z 1) (λ K n e. ap (place K) (omega (arith, apart-place K (n 0) (n 1)))) (a ∷ b ∷ [])
+    everywhere (λ z. apart (z 0) (z 1) ≡ 0 → z 0 ≡ z 1) (λ K n e. ap (point K) (omega (arith, apart-point K (n 0) (n 1)))) (a ∷ b ∷ [])
 
 -- the difference of a and c is at most those of a and b and of b and c together
 pub apart_triangle : (a b c : ℤ) → apart a c ≤ apart a b + apart b c
 apart_triangle a b c =
-    everywhere (λ z. apart (z 0) (z 2) ≤ apart (z 0) (z 1) + apart (z 1) (z 2)) (λ K n. simp apart-place (omega arith)) (a ∷ b ∷ c ∷ [])
+    everywhere (λ z. apart (z 0) (z 2) ≤ apart (z 0) (z 1) + apart (z 1) (z 2)) (λ K n. simp apart-point (omega arith)) (a ∷ b ∷ c ∷ [])
+
+-- so the absolute difference of codes is a distance
+pub apart_distance : Distance apart
+apart_distance = record { self = apart_self; turned = apart-sym; triangle = apart_triangle }
 
 -- for codes in order, the differences of a and b and of b and c make that of a and c
 pub apart_add : {a b c : ℤ} → a ≤ℤ b → b ≤ℤ c → apart a b + apart b c ≡ apart a c
 apart_add {a} {b} {c} =
     everywhere (λ z. z 0 ≤ℤ z 1 → z 1 ≤ℤ z 2 → apart (z 0) (z 1) + apart (z 1) (z 2) ≡ apart (z 0) (z 2))
     (λ K n h k.
-    let s = place_le K (n 0) (n 1) h in
-    let t = place_le K (n 1) (n 2) k in
-    simp apart-place (omega arith))
+    let s = point_le K (n 0) (n 1) h in
+    let t = point_le K (n 1) (n 2) k in
+    simp apart-point (omega arith))
     (a ∷ b ∷ c ∷ [])
 
 -- the differences of a third code from two make at least that of the two
@@ -124,9 +129,9 @@ pub between-apart : (s a b : ℤ) → a ≤ℤ b → apart s a + apart s b ≤ a
 between-apart s a b =
     everywhere (λ z. z 1 ≤ℤ z 2 → apart (z 0) (z 1) + apart (z 0) (z 2) ≤ apart (z 1) (z 2) → (z 1 ≤ℤ z 0) × (z 0 ≤ℤ z 2))
     (λ K n h k.
-    let s = place_le K (n 1) (n 2) h in
-    let t = simp apart-place at k in
-    (le_place K (n 1) (n 0) (omega arith), le_place K (n 0) (n 2) (omega arith)))
+    let s = point_le K (n 1) (n 2) h in
+    let t = simp apart-point at k in
+    (le_point K (n 1) (n 0) (omega arith), le_point K (n 0) (n 2) (omega arith)))
     (s ∷ a ∷ b ∷ [])
 
 -- two codes between two ends lie no farther apart than these
@@ -135,11 +140,11 @@ between_ends low high a b =
     everywhere
     (λ z. z 0 ≤ℤ z 2 → z 2 ≤ℤ z 1 → z 0 ≤ℤ z 3 → z 3 ≤ℤ z 1 → apart (z 2) (z 3) ≤ apart (z 1) (z 0))
     (λ K n p q r s.
-    let p' = place_le K (n 0) (n 2) p in
-    let q' = place_le K (n 2) (n 1) q in
-    let r' = place_le K (n 0) (n 3) r in
-    let s' = place_le K (n 3) (n 1) s in
-    simp apart-place (omega arith))
+    let p' = point_le K (n 0) (n 2) p in
+    let q' = point_le K (n 2) (n 1) q in
+    let r' = point_le K (n 0) (n 3) r in
+    let s' = point_le K (n 3) (n 1) s in
+    simp apart-point (omega arith))
     (low ∷ high ∷ a ∷ b ∷ [])
 
 -- a natural number less one that is at most it is not negative
@@ -173,9 +178,9 @@ pub apart-most : (k : ℕ) (a b : ℤ) → nat_abs a ≤ k → nat_abs b ≤ k �
 apart-most k a b h l = omega (arith, apart_triangle a (pos 0) b, apart-sym (pos 0) b, apart_from_zero a, apart_from_zero b)
 
 -- codes in range are at most 1998 apart
-pub apart-in_range : (a b : ℤ) → in_range a ≡ true → in_range b ≡ true → apart a b ≤ 1998
+pub apart-in_range : (a b : ℤ) → in_range a ≡ true → in_range b ≡ true → apart a b ≤ most_apart
 unfolding in_range
-apart-in_range a b h k = apart-most 999 a b (leb-true (nat_abs a) 999 h) (leb-true (nat_abs b) 999 k)
+apart-in_range a b h k = apart-most highest_code a b (leb-true (nat_abs a) highest_code h) (leb-true (nat_abs b) highest_code k)
 
 -- ---- the median of three codes
 
@@ -187,7 +192,7 @@ median-in_range = median-keeps (λ z. in_range z ≡ true)
 pub median_swap : (a b c : ℤ) → median a b c ≡ median b a c
 median_swap a b c =
     everywhere (λ z. median (z 0) (z 1) (z 2) ≡ median (z 1) (z 0) (z 2))
-    (λ K n. simp median-place (ap (place K) (swap (n 0) (n 1) (n 2))))
+    (λ K n. simp median-point (ap (point K) (swap (n 0) (n 1) (n 2))))
     (a ∷ b ∷ c ∷ [])
   where
     swap : (x y z : ℕ) → max (min x y) (max (min y z) (min z x)) ≡ max (min y x) (max (min x z) (min z y))
@@ -197,7 +202,7 @@ median_swap a b c =
 pub median_rotate : (a b c : ℤ) → median a b c ≡ median b c a
 median_rotate a b c =
     everywhere (λ z. median (z 0) (z 1) (z 2) ≡ median (z 1) (z 2) (z 0))
-    (λ K n. simp median-place (ap (place K) (turn (min (n 0) (n 1)) (min (n 1) (n 2)) (min (n 2) (n 0)))))
+    (λ K n. simp median-point (ap (point K) (turn (min (n 0) (n 1)) (min (n 1) (n 2)) (min (n 2) (n 0)))))
     (a ∷ b ∷ c ∷ [])
   where
     turn : (x y z : ℕ) → max x (max y z) ≡ max y (max z x)
@@ -208,21 +213,21 @@ pub median-in_order : (a b c : ℤ) → a ≤ℤ b → b ≤ℤ c → median a b
 median-in_order a b c =
     everywhere (λ z. z 0 ≤ℤ z 1 → z 1 ≤ℤ z 2 → median (z 0) (z 1) (z 2) ≡ z 1)
     (λ K n h k.
-    median-place K (n 0) (n 1) (n 2) ∙ ap (place K) (omega (arith, place_le K (n 0) (n 1) h, place_le K (n 1) (n 2) k)))
+    median-point K (n 0) (n 1) (n 2) ∙ ap (point K) (omega (arith, point_le K (n 0) (n 1) h, point_le K (n 1) (n 2) k)))
     (a ∷ b ∷ c ∷ [])
 
 -- the median is no lower than the lower of the first two codes
 pub lower-median : (a b c : ℤ) → lower a b ≤ℤ median a b c
 lower-median a b c =
     everywhere (λ z. lower (z 0) (z 1) ≤ℤ median (z 0) (z 1) (z 2))
-    (λ K n. simp (lower-place, median-place) (le_place K _ _ (omega arith)))
+    (λ K n. simp (lower-point, median-point) (le_point K _ _ (omega arith)))
     (a ∷ b ∷ c ∷ [])
 
 -- the median is no higher than the higher of the first two codes
 pub median-higher : (a b c : ℤ) → median a b c ≤ℤ higher a b
 median-higher a b c =
     everywhere (λ z. median (z 0) (z 1) (z 2) ≤ℤ higher (z 0) (z 1))
-    (λ K n. simp (higher-place, median-place) (le_place K _ _ (omega arith)))
+    (λ K n. simp (higher-point, median-point) (le_point K _ _ (omega arith)))
     (a ∷ b ∷ c ∷ [])
 
 -- the median lies between the first two codes: their differences from it make their difference

@@ -14,7 +14,7 @@ use Rattle.matrix_form.specs.Shape.{weight_at, weight_of}
 use Rattle.difference_form.specs.Rows.{part, difference, weighing, plain}
 use Rattle.difference_form.proofs.Laws.Weights.{weight_at-drop, part-alone, difference-weights, difference-alike}
 
--- the part of the character at a place
+-- the part of the character at an index
 part_at : List ℕ → List ℤ → List ℤ → ℕ → ℕ
 part_at weights xs ys i = part (weight_at weights i) (get_or xs i (pos 0)) (get_or ys i (pos 0))
 

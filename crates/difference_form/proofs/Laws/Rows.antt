@@ -6,13 +6,14 @@ use Prim.Native.Nat.{ℕ, zero, suc, ◌+◌, ◌*◌, ◌≤◌, ◌<◌, min}
 use native.Mathlib.Omega.{arith}
 use lib.IntN.{ℤ, pos}
 use lib.ListN.{length, get_or, take, drop}
-use Rattle.matrix_form.specs.Shape.{in_range, weight_at}
+use Rattle.matrix_form.specs.Shape.{most_characters, in_range, weight_at}
 use Rattle.lists.specs.Tests.{every}
 use Rattle.matrix_form.specs.Questions.{all_in_range, are_weights}
-use Rattle.difference_form.specs.Rows.{part, median, difference, most_difference, unweighted, most_unweighted}
-use Rattle.difference_form.specs.Rows.{medians, interval_difference, interval_by}
+use Rattle.difference_form.specs.Rows.{part, most_apart, most_part, median, difference, most_difference, unweighted, most_unweighted}
+use Rattle.difference_form.specs.Rows.{medians, interval_difference, interval_by, node_difference}
+use Rattle.difference_form.proofs.Laws.Distance.{Distance}
 use Rattle.difference_form.proofs.Laws.Codes.{apart-in_range, median_swap, median_rotate, median-in_range}
-use Rattle.difference_form.proofs.Laws.Weights.{part-sym, part_self, part-zero, part_triangle, part-between, part-in_range}
+use Rattle.difference_form.proofs.Laws.Weights.{part_distance, part-zero, part-between, part-in_range}
 use Rattle.difference_form.proofs.Laws.Weights.{weight_within, weight_at-drop, are_weights-first}
 
 -- ---- the difference of two rows
@@ -23,13 +24,14 @@ unfolding difference
 difference-sym weights [] [] = refl
 difference-sym weights [] (y ∷ ys) = refl
 difference-sym weights (x ∷ xs) [] = refl
-difference-sym weights (x ∷ xs) (y ∷ ys) = ap₂ ◌+◌ (part-sym (weight_at weights 0) x y) (difference-sym (drop 1 weights) xs ys)
+difference-sym weights (x ∷ xs) (y ∷ ys) =
+    ap₂ ◌+◌ ((part_distance (weight_at weights 0)).turned x y) (difference-sym (drop 1 weights) xs ys)
 
 -- a row is at difference 0 from itself
 pub difference_self : (weights : List ℕ) (xs : List ℤ) → difference weights xs xs ≡ 0
 unfolding difference
 difference_self weights [] = refl
-difference_self weights (x ∷ xs) = omega (arith, part_self (weight_at weights 0) x, difference_self (drop 1 weights) xs)
+difference_self weights (x ∷ xs) = omega (arith, (part_distance (weight_at weights 0)).self x, difference_self (drop 1 weights) xs)
 
 -- rows of one length at difference 0, by weights from 1 to 9, are equal
 pub difference-zero : (weights : List ℕ) (xs ys : List ℤ) → are_weights weights (length xs) ≡ true → length xs ≡ length ys
@@ -51,7 +53,17 @@ difference_triangle weights [] b c l = omega arith
 difference_triangle weights (x ∷ a) [] c l = absurd (omega arith)
 difference_triangle weights (x ∷ a) (y ∷ b) [] l = omega arith
 difference_triangle weights (x ∷ a) (y ∷ b) (z ∷ c) l =
-    omega (arith, part_triangle (weight_at weights 0) x y z, difference_triangle (drop 1 weights) a b c (omega arith))
+    omega (arith, (part_distance (weight_at weights 0)).triangle x y z, difference_triangle (drop 1 weights) a b c (omega arith))
+
+-- so the difference of nodes, whose rows all have m codes, is a distance
+pub node_distance : (weights : List ℕ) (row_at : ℕ → List ℤ) (m : ℕ) → ((v : ℕ) → length (row_at v) ≡ m)
+    → Distance (node_difference (difference weights) row_at)
+unfolding node_difference
+node_distance weights row_at m full = record {
+  self = λ x. difference_self weights (row_at x);
+  turned = λ x y. difference-sym weights (row_at x) (row_at y);
+  triangle = λ x y z. difference_triangle weights (row_at x) (row_at y) (row_at z) (omega (arith, full x, full y));
+}
 
 -- of a row with codes in range the first is in range, and so are the others
 in_range-cons : (x : ℤ) (xs : List ℤ) → all_in_range (x ∷ xs) ≡ true → (in_range x ≡ true) × (all_in_range xs ≡ true)
@@ -60,7 +72,7 @@ in_range-cons x xs h = (and-eq-true_iff (in_range x) (all_in_range xs)).0 h
 
 -- rows with codes in range differ by at most 9 times 1998 a character
 pub difference-most : (weights : List ℕ) (xs ys : List ℤ) → are_weights weights (length xs) ≡ true → all_in_range xs ≡ true
-    → all_in_range ys ≡ true → difference weights xs ys ≤ 17982 * length xs
+    → all_in_range ys ≡ true → difference weights xs ys ≤ most_part * length xs
 unfolding difference all_in_range every
 difference-most weights [] ys w h k = omega arith
 difference-most weights (x ∷ xs) [] w h k = omega arith
@@ -74,11 +86,11 @@ difference-most weights (x ∷ xs) (y ∷ ys) w h k =
 
 -- rows of at most 128 codes in range differ by at most 2,301,696
 pub difference_limit : (weights : List ℕ) (xs ys : List ℤ) → are_weights weights (length xs) ≡ true → all_in_range xs ≡ true
-    → all_in_range ys ≡ true → length xs ≤ 128 → difference weights xs ys ≤ most_difference
+    → all_in_range ys ≡ true → length xs ≤ most_characters → difference weights xs ys ≤ most_difference
 difference_limit weights xs ys w h k l = omega (arith, difference-most weights xs ys w h k)
 
 -- without weights rows with codes in range differ by at most 1998 a character
-unweighted-most : (xs ys : List ℤ) → all_in_range xs ≡ true → all_in_range ys ≡ true → unweighted xs ys ≤ 1998 * length xs
+unweighted-most : (xs ys : List ℤ) → all_in_range xs ≡ true → all_in_range ys ≡ true → unweighted xs ys ≤ most_apart * length xs
 unfolding unweighted all_in_range every
 unweighted-most [] ys h k = omega arith
 unweighted-most (x ∷ xs) [] h k = omega arith
@@ -86,7 +98,7 @@ unweighted-most (x ∷ xs) (y ∷ ys) h k =
     omega (arith, apart-in_range x y (in_range-cons x xs h).0 (in_range-cons y ys k).0, unweighted-most xs ys (in_range-cons x xs h).1 (in_range-cons y ys k).1)
 
 -- and rows of at most 128 codes in range by at most 255,744
-pub unweighted_limit : (xs ys : List ℤ) → all_in_range xs ≡ true → all_in_range ys ≡ true → length xs ≤ 128
+pub unweighted_limit : (xs ys : List ℤ) → all_in_range xs ≡ true → all_in_range ys ≡ true → length xs ≤ most_characters
     → unweighted xs ys ≤ most_unweighted
 unweighted_limit xs ys h k l = omega (arith, unweighted-most xs ys h k)
 

@@ -4,7 +4,7 @@ use mathlib.Core.Path.{◌≡◌, refl, sym, ap, ap₂, ◌∙◌}
 use mathlib.Core.Bool.{true, and-eq-true_iff}
 use mathlib.Core.List.{List, [], ◌∷◌}
 use Prim.Native.Nat.{ℕ, zero, suc, ◌+◌, ◌-◌, ◌*◌, ◌^◌, ◌≤◌, ◌<◌}
-use native.Mathlib.Nat.{mul-add, mul-zero, one-mul, mul-le-mul_left, mul-le-mul, eq_of_mul-eq-mul_left}
+use native.Mathlib.Nat.{mul-add, mul-zero, one-mul, mul-le-mul, eq_of_mul-eq-mul_left}
 use native.Mathlib.Omega.{arith}
 use borrow.Author.Tests.{leb-true}
 use lib.Dec.{leb}
@@ -13,31 +13,22 @@ use lib.ListN.{length, drop}
 use Rattle.lists.specs.Tests.{every}
 use Rattle.matrix_form.specs.Shape.{in_range, is_weight, weight_at, weight_of, heaviest}
 use Rattle.matrix_form.specs.Questions.{are_weights}
-use Rattle.difference_form.specs.Rows.{apart, part, median, difference, unweighted}
-use Rattle.difference_form.proofs.Laws.Codes.{apart-sym, apart_self, apart-zero, apart_triangle, apart-most, apart-in_range}
+use Rattle.difference_form.specs.Rows.{apart, part, most_part, median, difference, unweighted}
+use Rattle.difference_form.proofs.Laws.Distance.{Distance, distance_weighed}
+use Rattle.difference_form.proofs.Laws.Codes.{apart_distance, apart-zero, apart-most, apart-in_range}
 use Rattle.difference_form.proofs.Laws.Codes.{median-between}
 
 -- ---- the part of one character
 
--- a character's part is the same either way round
-pub part-sym : (w : ℕ) (a b : ℤ) → part w a b ≡ part w b a
+-- the part of a character is a distance of codes
+pub part_distance : (w : ℕ) → Distance (part w)
 unfolding part
-part-sym w a b = ap (λ k. w * k) (apart-sym a b)
-
--- from a code to itself there is no part
-pub part_self : (w : ℕ) (a : ℤ) → part w a a ≡ 0
-unfolding part
-part_self w a = ap (λ k. w * k) (apart_self a) ∙ mul-zero w
+part_distance w = distance_weighed w apart apart_distance
 
 -- codes with no part between them, in a character that weighs something, are equal
 pub part-zero : (w : ℕ) (a b : ℤ) → 1 ≤ w → part w a b ≡ 0 → a ≡ b
 unfolding part
 part-zero w a b h e = apart-zero a b (eq_of_mul-eq-mul_left w h (apart a b) 0 (e ∙ sym (mul-zero w)))
-
--- the part from a to c is at most those from a to b and from b to c together
-pub part_triangle : (w : ℕ) (a b c : ℤ) → part w a c ≤ part w a b + part w b c
-unfolding part
-part_triangle w a b c = rw (sym (mul-add w (apart a b) (apart b c))) (mul-le-mul_left w (apart_triangle a b c))
 
 -- the parts to the median and on from it make the part of the two codes
 pub part-between : (w : ℕ) (a b c : ℤ) → part w a (median a b c) + part w (median a b c) b ≡ part w a b
@@ -57,7 +48,7 @@ weight_within w e =
     (leb-true 1 w both.0, leb-true w heaviest both.1)
 
 -- codes in range make a part of at most 9 times 1998
-pub part-in_range : (w : ℕ) (a b : ℤ) → is_weight w ≡ true → in_range a ≡ true → in_range b ≡ true → part w a b ≤ 17982
+pub part-in_range : (w : ℕ) (a b : ℤ) → is_weight w ≡ true → in_range a ≡ true → in_range b ≡ true → part w a b ≤ most_part
 unfolding part
 part-in_range w a b e h k = mul-le-mul (weight_within w e).1 (apart-in_range a b h k)
 

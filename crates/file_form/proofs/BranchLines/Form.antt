@@ -13,11 +13,7 @@ use Rattle.lists.proofs.Every.{same_numbers_iff}
 use Rattle.file_form.specs.Bytes.{word_c}
 use Rattle.file_form.specs.Decimal.{number_form, number_of}
 use Rattle.file_form.specs.Branches.{branch_form}
-
--- what is asked together with "no" is "no"
-and-false : (b : Bool) → (b && false) ≡ false
-and-false true = refl
-and-false false = refl
+use Rattle.file_form.proofs.File.FirstForm.{and-false}
 
 -- the fields of the line of node v, test by test
 module _ (v : ℕ) (fields : List (List ℕ)) where

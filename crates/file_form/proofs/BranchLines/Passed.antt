@@ -5,19 +5,18 @@ use mathlib.Core.List.{List, [], ◌∷◌, map, zip_with}
 use Prim.Native.Nat.{ℕ, zero, suc, ◌+◌, ◌<◌}
 use native.Mathlib.Nat.{zero-add}
 use native.Mathlib.Omega.{arith}
-use lib.ListN.{length, get_or, take, drop}
+use lib.ListN.{length, get_or, take}
 use Rattle.lists.specs.Numbers.{numbers}
-use Rattle.matrix_form.specs.Outcomes.{ask, Outcome, value}
 use Rattle.matrix_form.specs.declared.refusal.Refusal.TheVariants.{BranchForm}
 use Rattle.std.specs.Prelude.{Ok}
 use Rattle.matrix_form.proofs.Passing.{ask_passed}
 use Rattle.file_form.specs.Bytes.{tab, joined_by}
 use Rattle.file_form.specs.Decimal.{digits_of}
 use Rattle.file_form.specs.Lines.{fields_of}
-use Rattle.file_form.specs.Branches.{branch_form, ancestor_in, branch_text, ask_branches}
+use Rattle.file_form.specs.Branches.{branch_form, ancestor_in, branch_text, branch_sort}
 use Rattle.file_form.proofs.Decimal.Digits.{digits_of_number}
-use Rattle.file_form.proofs.Text.Parts.{joined_parts}
-use Rattle.file_form.proofs.File.Outcomes.{line_passed, not-refused}
+use Rattle.file_form.proofs.Text.Parts.{joined_pieces}
+use Rattle.file_form.proofs.File.InTurn.{AllPass}
 use Rattle.file_form.proofs.BranchLines.Form.{form_tells}
 
 -- a list of three items is these three
@@ -38,7 +37,7 @@ branch_written v line e =
     ∙ ap (λ third. joined_by tab (get_or (fields_of line) 0 [] ∷ get_or (fields_of line) 1 [] ∷ third ∷ []))
     (digits_of_number (get_or (fields_of line) 2 []) told.above)
     ∙ ap (joined_by tab) (three_items (fields_of line) told.three)
-    ∙ joined_parts tab line
+    ∙ joined_pieces tab line
 
 -- some lines and what they say: `C` lines of the nodes from v on, written in the one way
 pub record BranchesRead (v left : ℕ) (lines : List (List ℕ)) : Type 0 where
@@ -46,33 +45,27 @@ pub record BranchesRead (v left : ℕ) (lines : List (List ℕ)) : Type 0 where
   pub formed : (k : ℕ) → k < left → branch_form (k + v) (fields_of (get_or lines k [])) ≡ true
   pub written : zip_with branch_text (numbers v left) (map ancestor_in (take left lines)) ≡ take left lines
 
--- `C` lines that pass were read so, and what follows them passes, with the next line's number and the lines left
-pub branches_read_lem : {A : Type 0} (line v left : ℕ) (lines : List (List ℕ)) (follow : ℕ → List (List ℕ) → Outcome A) (a : A)
-    → ask_branches line v left lines follow ≡ value a → BranchesRead v left lines × (follow (line + left) (drop left lines) ≡ value a)
-unfolding ask_branches zip_with numbers
-branches_read_lem line v zero lines follow a e =
-    let number : line + 0 ≡ line = omega arith in
-    (record { count = refl; formed = λ k h. absurd (omega arith); written = refl }, ap (λ k. follow k lines) number ∙ e)
-branches_read_lem line v (suc left) [] follow a e = absurd (not-refused _ line a e)
-branches_read_lem line v (suc left) (behind ∷ []) follow a e = absurd (not-refused _ line a e)
-branches_read_lem line v (suc left) (text ∷ next ∷ lines) follow a e =
-    let passed = line_passed line (ask (branch_form v (fields_of text)) BranchForm (Ok tt)) _ a e in
-    let formed = (ask_passed (branch_form v (fields_of text)) BranchForm (Ok tt) passed.0).0 in
-    let others = branches_read_lem (suc line) (suc v) left (next ∷ lines) follow a passed.1 in
-    let number : line + suc left ≡ suc line + left = omega arith in (
-      record {
-        count = ap suc others.0.count;
-        formed = each formed others.0.formed;
-        written = ap₂ ◌∷◌ (branch_written v text formed) others.0.written;
-      },
-      ap (λ k. follow k (drop left (next ∷ lines))) number ∙ others.1,
-    )
+-- `C` lines that pass were read so
+pub branches_read_lem : (v left : ℕ) (earlier lines : List (List ℕ)) → v ≡ length earlier + 2 → length (take left lines) ≡ left
+    → AllPass branch_sort earlier (take left lines) → BranchesRead v left lines
+unfolding zip_with numbers
+branches_read_lem v zero earlier lines turn count pass = record { count = refl; formed = λ k h. absurd (omega arith); written = refl }
+branches_read_lem v (suc left) earlier [] turn count pass = absurd (omega arith)
+branches_read_lem v (suc left) earlier (line ∷ lines) turn count pass =
+    let formed : branch_form v (fields_of line) ≡ true =
+    ap (λ u. branch_form u (fields_of line)) turn
+    ∙ (ask_passed (branch_form (length earlier + 2) (fields_of line)) BranchForm (Ok tt) pass.0).0 in
+    let others = branches_read_lem (suc v) left (line ∷ earlier) lines (omega (arith, turn)) (omega arith) pass.1 in
+    record {
+      count = count;
+      formed = each formed others.formed;
+      written = ap₂ ◌∷◌ (branch_written v line formed) others.written;
+    }
   where
     -- the first line has the form of its node, and the others have that of theirs
-    each : branch_form v (fields_of text) ≡ true
-        → ((k : ℕ) → k < left → branch_form (k + suc v) (fields_of (get_or (next ∷ lines) k [])) ≡ true)
-        → (k : ℕ) → k < suc left → branch_form (k + v) (fields_of (get_or (text ∷ next ∷ lines) k [])) ≡ true
+    each : branch_form v (fields_of line) ≡ true → ((k : ℕ) → k < left → branch_form (k + suc v) (fields_of (get_or lines k [])) ≡ true)
+        → (k : ℕ) → k < suc left → branch_form (k + v) (fields_of (get_or (line ∷ lines) k [])) ≡ true
     each first behind zero h = rw zero-add first
     each first behind (suc k) h =
         let node : k + suc v ≡ suc k + v = omega arith in
-        ap (λ u. branch_form u (fields_of (get_or (next ∷ lines) k []))) (sym node) ∙ behind k (omega arith)
+        ap (λ u. branch_form u (fields_of (get_or lines k []))) (sym node) ∙ behind k (omega arith)

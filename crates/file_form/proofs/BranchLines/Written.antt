@@ -1,6 +1,6 @@
 -- `C` lines that are written as document 02 wants them say what was written, and pass their questions.
-use mathlib.Core.Path.{◌≡◌, refl, ap, ap₂, ◌∙◌}
-use mathlib.Core.List.{List, [], ◌∷◌, ◌++◌, map, zip_with}
+use mathlib.Core.Path.{◌≡◌, refl, sym, ap, ap₂, ◌∙◌}
+use mathlib.Core.List.{List, [], ◌∷◌, map, zip_with}
 use mathlib.Core.Bool.{true}
 use Prim.Native.Nat.{ℕ, suc, ◌+◌, ◌^◌, ◌≤◌, ◌<◌}
 use native.Mathlib.Omega.{arith}
@@ -10,8 +10,12 @@ use Rattle.lists.specs.Numbers.{numbers}
 use Rattle.lists.specs.Tests.{every, same_numbers as same_text}
 use Rattle.lists.proofs.Both.{and_both}
 use Rattle.lists.proofs.Every.{every-cons}
-use Rattle.matrix_form.specs.Outcomes.{Outcome}
-use Rattle.tree_form.specs.Ancestors.{ancestor, tree_with}
+use Rattle.matrix_form.specs.Shape.{most_taxa}
+use Rattle.matrix_form.specs.Outcomes.{ask}
+use Rattle.matrix_form.specs.declared.refusal.Refusal.TheVariants.{BranchForm}
+use Rattle.std.specs.Prelude.{Ok}
+use Rattle.lists.proofs.Filled.{filled_at}
+use Rattle.tree_form.specs.Ancestors.{ancestor, tree_with, tree_size}
 use Rattle.tree_form.specs.Growing.{branching}
 use Rattle.tree_form.specs.LentNumbers.{record_numbers}
 use Rattle.tree_form.proofs.Test.{branching_iff}
@@ -19,9 +23,10 @@ use Rattle.tree_form.proofs.Whole.{growing_ancestor_le}
 use Rattle.file_form.specs.Bytes.{line_feed, word_c}
 use Rattle.file_form.specs.Decimal.{digits_of, number_of}
 use Rattle.file_form.specs.Lines.{fields_of}
-use Rattle.file_form.specs.Branches.{branch_form, ancestor_in, branch_text, ask_branches}
+use Rattle.file_form.specs.Branches.{branch_form, ancestor_in, branch_text, branch_sort}
 use Rattle.file_form.specs.Formed.{record_in}
 use Rattle.file_form.proofs.Decimal.Digits.{number_of_digits, digits_form}
+use Rattle.file_form.proofs.File.InTurn.{AllPass}
 use Rattle.file_form.proofs.Text.Parts.{lacks}
 use Rattle.file_form.proofs.Text.Plain.{plain, digits_plain, line_fields, line_lacks}
 
@@ -58,38 +63,30 @@ module _ (v above : ℕ) where
       rw branch_fields
       (and_both (and_both (digits_form v low) (eq-eqb (number_of (digits_of v)) v (number_of_digits v))) (digits_form above small))
 
--- each of some ancestors is a node's number, at most 126
+-- each of some ancestors is an index of a tree
 abbrev pub AreNodes : List ℕ → Type 0
-AreNodes above = (k : ℕ) → get_or above k 0 ≤ 126
+AreNodes above = (k : ℕ) → get_or above k 0 < tree_size
 
 -- the ancestors of a branching of at most 64 taxa are
-pub branched_nodes : (n : ℕ) (above : List ℕ) → 1 ≤ n → n ≤ 64 → branching n (tree_with above) ≡ true → AreNodes above
+pub branched_nodes : (n : ℕ) (above : List ℕ) → 1 ≤ n → n ≤ most_taxa → branching n (tree_with above) ≡ true → AreNodes above
 unfolding ancestor
 branched_nodes n above some most e k =
-    omega (arith, growing_ancestor_le n (tree_with above) ((branching_iff (tree_with above) n some).0 e) (suc (suc k)))
+    omega (
+      arith,
+      growing_ancestor_le n (tree_with above) ((branching_iff (tree_with above) n some).0 e) (suc (suc k)),
+      filled_at 0 127 (0 ∷ (0 ∷ above)) (suc (suc k)),
+    )
 
--- the questions of a `C` line that passes leave those of the lines behind it
-branches-step : {A : Type 0} (line v left : ℕ) (text : List ℕ) (texts : List (List ℕ)) (next : List ℕ) (others : List (List ℕ))
-    (follow : ℕ → List (List ℕ) → Outcome A) → branch_form v (fields_of text) ≡ true
-    → ask_branches line v (suc left) (text ∷ texts ++ next ∷ others) follow ≡ ask_branches (suc line) (suc v) left (texts ++ next ∷ others) follow
-unfolding ask_branches
-branches-step line v left text [] next others follow e = rw e
-branches-step line v left text (second ∷ texts) next others follow e = rw e
-
--- `C` lines of nodes from v on pass their questions, and what stands behind them decides
-pub branches_pass : {A : Type 0} (line v : ℕ) (above : List ℕ) (next : List ℕ) (others : List (List ℕ))
-    (follow : ℕ → List (List ℕ) → Outcome A) → v + length above ≤ 10 ^ 6 → AreNodes above
-    → ask_branches line v (length above) (zip_with branch_text (numbers v (length above)) above ++ next ∷ others) follow
-    ≡ follow (line + length above) (next ∷ others)
-unfolding ask_branches zip_with numbers
-branches_pass line v [] next others follow few nodes =
-    let number : line ≡ line + 0 = omega arith in ap (λ k. follow k (next ∷ others)) number
-branches_pass line v (a ∷ above) next others follow few nodes =
-    let number : suc line + length above ≡ line + suc (length above) = omega arith in
-    branches-step line v (length above) (branch_text v a) (zip_with branch_text (numbers (suc v) (length above)) above) next others follow
-    (branch_formed v a (omega arith) (omega (arith, nodes 0)))
-    ∙ branches_pass (suc line) (suc v) above next others follow (omega arith) (λ k. nodes (suc k))
-    ∙ ap (λ k. follow k (next ∷ others)) number
+-- `C` lines of nodes from v on pass their questions
+pub branches_pass : (v : ℕ) (earlier : List (List ℕ)) (above : List ℕ) → v ≡ length earlier + 2 → v + length above ≤ 10 ^ 6 → AreNodes above
+    → AllPass branch_sort earlier (zip_with branch_text (numbers v (length above)) above)
+unfolding zip_with numbers
+branches_pass v earlier [] turn few nodes = tt
+branches_pass v earlier (a ∷ above) turn few nodes = (
+  ap (λ b. ask b BranchForm (Ok tt))
+      (ap (λ u. branch_form u (fields_of (branch_text v a))) (sym turn) ∙ branch_formed v a (omega arith) (omega (arith, nodes 0))),
+  branches_pass (suc v) (branch_text v a ∷ earlier) above (omega (arith, turn)) (omega arith) (λ k. nodes (suc k)),
+)
 
 -- the ancestors are read back from the lines
 pub branches_back : (v : ℕ) (above : List ℕ) → map ancestor_in (zip_with branch_text (numbers v (length above)) above) ≡ above

@@ -56,10 +56,10 @@ module _ (n : ℕ) where
 pub decimal_form : (code : ℤ) → in_range code ≡ true → code_form (decimal code) ≡ true
 unfolding in_range decimal code_form
 decimal_form (pos n) e =
-    let small = leb-true n 999 e in
+    let small = leb-true n _ e in
     digits_code_form n ∙ digits_form n (omega arith)
 decimal_form (negsuc n) e =
-    let small = leb-true (suc n) 999 e in
+    let small = leb-true (suc n) _ e in
     and_both (digits_form (suc n) (omega arith)) (rw number_of_digits (le-leb 1 (suc n) (omega arith)))
 
 -- a code is read back from what is written

@@ -22,7 +22,7 @@ unfolding digits_in
 digits_short zero n h = refl
 digits_short (suc steps) n h = rw (lt-ltb n 10 h, digits_in)
 
--- any other number has the digits of its tenth part and a last digit
+-- any other number has the digits of its tenth piece and a last digit
 digits_long : (steps n : ℕ) → 10 ≤ n → digits_in (suc steps) n ≡ digits_in steps (n / 10) ++ (digit_for (n % 10) ∷ [])
 unfolding digits_in
 digits_long steps n h = rw (le-ltb n 10 h, digits_in)
@@ -56,7 +56,7 @@ pub digits_one : (n : ℕ) → n < 10 → digits_of n ≡ digit_for n ∷ []
 unfolding digits_of
 digits_one n h = digits_short n n h
 
--- any other number is written by the digits of its tenth part and its last digit
+-- any other number is written by the digits of its tenth piece and its last digit
 pub digits_last : (n : ℕ) → 10 ≤ n → digits_of n ≡ digits_of (n / 10) ++ (digit_for (n % 10) ∷ [])
 unfolding digits_of
 digits_last n h =
@@ -191,7 +191,7 @@ digits_behind before (digit ∷ digits) h e =
     ∙ append_assoc (digits_of before) (digit_for (digit - zero_digit) ∷ []) digits
     ∙ ap (λ first. digits_of before ++ first ∷ digits) (omega arith)
 
--- the parts of the right form: digits, and no leading zero
+-- the pieces of the right form: digits, and no leading zero
 pub form_digits : (text : List ℕ) → number_form text ≡ true → every is_digit text ≡ true
 unfolding number_form
 form_digits text e =

@@ -12,6 +12,6 @@ use Rattle.file_form.proofs.File.FileOfRead.{file_of_read}
 -- a file is accepted with a job exactly if the job is within the limits and the file is the job's file
 pub accepted_exactly : (file : List ℕ) (job : Job) → (read_answer file ≡ value job) ↔ (JobWithinLimits job × (file ≡ file_of job))
 accepted_exactly file job = (
-  λ read. let found = file_of_read file job read in (found.0, found.1),
+  file_of_read file job,
   λ said. subst⁻¹ (λ text. read_answer text ≡ value job) said.1 (read_of_file job said.0),
 )

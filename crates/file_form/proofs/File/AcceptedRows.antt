@@ -7,21 +7,22 @@ use native.Mathlib.Omega.{arith}
 use lib.ListN.{length, take, drop, length-append, length-drop}
 use Rattle.lists.specs.Numbers.{numbers}
 use Rattle.lists.specs.Tests.{every}
+use Rattle.matrix_form.specs.Shape.{most_taxa, most_characters}
 use Rattle.matrix_form.specs.Outcomes.{value}
 use Rattle.tree_form.specs.LentNumbers.{records_for}
-use Rattle.file_form.specs.Bytes.{line_feed, behind_part}
+use Rattle.file_form.specs.Bytes.{line_feed, behind_piece}
 use Rattle.file_form.specs.Job.{Job}
 use Rattle.file_form.specs.Lines.{lines_of}
 use Rattle.file_form.specs.Optional.{optional_fields}
 use Rattle.file_form.specs.Weights.{weights_form}
-use Rattle.file_form.specs.Header.{header_in, header_of, header_lines, behind_header}
+use Rattle.file_form.specs.Header.{header_in, header_lines, behind_header}
 use Rattle.file_form.specs.Rows.{name_in, codes_in}
 use Rattle.file_form.specs.Branches.{branch_count, ancestor_in, branch_text}
 use Rattle.file_form.specs.Reading.{row_lines, behind_rows, branch_lines, weights_of, job_of, job_in, read_answer}
 use Rattle.file_form.specs.Formed.{row_form, RowsFormed, BranchesFormed, record_in}
 use Rattle.file_form.proofs.File.FileOfRead.{FilePassed, file_passed, file_of_read}
 use Rattle.file_form.proofs.File.HeaderRead.{several-lines, weights-formed, header_behind}
-use Rattle.file_form.proofs.Text.FirstPart.{parts_several}
+use Rattle.file_form.proofs.Text.FirstPart.{pieces_several}
 use Rattle.file_form.proofs.Rows.Within.{limits-high}
 use Rattle.file_form.proofs.BranchLines.Passed.{BranchesRead}
 use Rattle.file_form.proofs.BranchLines.Written.{records_back}
@@ -38,7 +39,7 @@ module _ (file : List ℕ) (job : Job) (e : read_answer file ≡ value job) wher
   accepted_job = passed.behind.is
 
   -- it has at most 64 taxa and 128 characters
-  pub accepted_most : (job.n ≤ 64) × (job.m ≤ 128)
+  pub accepted_most : (job.n ≤ most_taxa) × (job.m ≤ most_characters)
   accepted_most = limits-high job.n job.m (file_of_read file job e).0.limits
 
   -- lines stand behind the header
@@ -56,14 +57,14 @@ module _ (file : List ℕ) (job : Job) (e : read_answer file ≡ value job) wher
   accepted_fields = weights-formed (lines_of file) (several-lines (lines_of file) passed.form) passed.weights
 
   -- the header read without a question is that of the job
-  pub accepted_header : header_in (lines_of file) ≡ header_of job
+  pub accepted_header : header_in (lines_of file) ≡ job.header
   unfolding job_of
-  accepted_header = ap header_of passed.behind.is
+  accepted_header = ap (λ (job : Job). job.header) passed.behind.is
 
   -- what stands behind the first line feed has the lines behind line 1
-  pub accepted_text : lines_of (behind_part line_feed file) ≡ drop 1 (lines_of file)
+  pub accepted_text : lines_of (behind_piece line_feed file) ≡ drop 1 (lines_of file)
   unfolding lines_of
-  accepted_text = sym (ap (drop 1) (parts_several line_feed file (several-lines (lines_of file) passed.form)))
+  accepted_text = sym (ap (drop 1) (pieces_several line_feed file (several-lines (lines_of file) passed.form)))
 
   -- a text of the lines behind the header
   module _ (rows : List ℕ) (r : lines_of rows ≡ behind_header (header_in (lines_of file)) (lines_of file)) where
@@ -108,7 +109,7 @@ module _ (file : List ℕ) (job : Job) (e : read_answer file ≡ value job) wher
       count = branch_count job.kind job.n
 
       -- they are the lines behind the rows of the file
-      behind : lines_of rest ≡ behind_rows (header_of job) (lines_of file)
+      behind : lines_of rest ≡ behind_rows job.header (lines_of file)
       behind = d ∙ ap (drop job.n) r ∙ ap (λ header. drop job.n (behind_header header (lines_of file))) accepted_header
 
       -- what was read of them

@@ -18,23 +18,24 @@ use Rattle.file_form.specs.declared.header.Header.{Header}
 use Rattle.file_form.specs.Bytes.{line_feed, joined_by}
 use Rattle.file_form.specs.Optional.{optional_there, optional_fields, lines_taken, optional_line, letter_free}
 use Rattle.file_form.specs.Weights.{letter_v, weight_form, weight_text, weights_form, weights_said}
-use Rattle.file_form.specs.Job.{Job, JobWithinLimits, weight_line, ended, file_of}
+use Rattle.file_form.specs.Job.{Job, most_bytes, JobWithinLimits, weight_line, ended, file_of}
 use Rattle.file_form.specs.Lines.{lines_of}
-use Rattle.file_form.specs.Header.{row_line, first_fields, header_in, behind_header, first_line_form, order_known, ask_weights, ask_header}
-use Rattle.file_form.specs.Rows.{name_in, codes_in}
-use Rattle.file_form.specs.Branches.{branch_count, ancestor_in, branch_text, branch_texts, branched, ask_tree}
-use Rattle.file_form.specs.Reading.{most_bytes, row_lines, behind_rows, branch_lines, job_of, nothing_more, ask_end, ask_after, ask_behind}
+use Rattle.file_form.specs.Header.{row_line, first_fields, header_in, behind_header, first_line_form, order_known, ask_header}
+use Rattle.file_form.specs.Rows.{name_in, codes_in, row_sort}
+use Rattle.file_form.specs.Branches.{branch_count, ancestor_in, branch_text, branch_texts, branch_sort, branched, ask_tree}
+use Rattle.file_form.specs.Reading.{row_lines, behind_rows, branch_lines, job_of, nothing_more, ask_end, ask_after, ask_behind}
 use Rattle.file_form.specs.Reading.{ask_file, ask_length, read_answer}
-use Rattle.file_form.specs.Formed.{row_form}
+use Rattle.file_form.specs.Formed.{ask_weights, row_form}
 use Rattle.file_form.proofs.File.Outcomes.{line_passed, then_passed}
+use Rattle.file_form.proofs.File.InTurn.{lines_passed}
 use Rattle.file_form.proofs.File.WeightFields.{weights_written_lem, said_count, said_known, said_ones}
-use Rattle.file_form.proofs.File.HeaderRead.{header_passed, several-lines, lines_split, own_unsaid, first_written}
+use Rattle.file_form.proofs.File.HeaderRead.{header_passed, several-lines, lines_split, order_fits, first_written}
 use Rattle.file_form.proofs.File.HeaderRead.{weights-formed, drop-behind, header_split}
-use Rattle.file_form.proofs.Text.Parts.{joined_parts, joined-ended}
+use Rattle.file_form.proofs.Text.Parts.{joined_pieces, joined-ended}
 use Rattle.file_form.proofs.Rows.PassedRows.{RowsRead, rows_read, rows-formed}
 use Rattle.file_form.proofs.BranchLines.Passed.{BranchesRead, branches_read_lem}
 
--- nothing behind the last line is one empty part
+-- nothing behind the last line is one empty piece
 nothing-more : (lines : List (List ℕ)) → nothing_more lines ≡ true → lines ≡ [] ∷ []
 unfolding nothing_more
 nothing-more [] e = absurd (false≢true e)
@@ -42,7 +43,7 @@ nothing-more ([] ∷ []) e = refl
 nothing-more ([] ∷ next ∷ lines) e = absurd (false≢true e)
 nothing-more ((byte ∷ bytes) ∷ lines) e = absurd (false≢true e)
 
--- what lines tell whose part behind the header passes: its rows and its `C` lines were read, nothing stands behind these, the branching is
+-- what lines tell whose piece behind the header passes: its rows and its `C` lines were read, nothing stands behind these, the branching is
 -- one, and the lines say the job
 pub record BehindPassed (header : Header) (lines : List (List ℕ)) (job : Job) : Type 0 where
   pub rows : RowsRead header [] header.n (behind_header header lines)
@@ -62,18 +63,18 @@ behind_passed header lines job limits e =
     let rest = behind_rows header lines in
     let count = branch_count header.kind header.n in
     let above = map ancestor_in (branch_lines header lines) in
-    let read = rows_read header [] (row_line header 1) header.n behind (ask_after said) job e in
+    let read = lines_passed (row_sort header) [] (row_line header 1) header.n behind (ask_after said) job e in
     let branches =
-    branches_read_lem (row_line header 1 + header.n) 2 count rest (ask_end (on_line 0 (ask_tree header.kind header.n above) (value said))) job
-    read.1 in
+    lines_passed branch_sort [] (row_line header 1 + header.n) count rest
+    (ask_end (on_line 0 (ask_tree header.kind header.n above) (value said))) job read.1 in
     let end = line_passed (row_line header 1 + header.n + count) _ (on_line 0 (ask_tree header.kind header.n above) (value said)) job
     branches.1 in
     let none = ask_passed (nothing_more (drop count rest)) FileGoesOn (Ok tt) end.0 in
     let tree = line_passed 0 (ask_tree header.kind header.n above) (value said) job end.1 in
     record {
-      rows = read.0;
-      formed = rows-formed header [] (row_line header 1) header.n behind (ask_after said) job limits e;
-      branches = branches.0;
+      rows = rows_read header [] header.n behind read.0;
+      formed = rows-formed header [] (take header.n behind) limits read.0.pass;
+      branches = branches_read_lem 2 count [] rest refl branches.0.count branches.0.pass;
       branching_said = (ask_passed (branched header.kind header.n above) NotBranching (Ok tt) tree.0).0;
       all =
           sym (take-append-drop header.n behind)
@@ -149,32 +150,6 @@ module _ (file : List ℕ) (job : Job) (passed : FilePassed file job) where
   ancestors-count : length (map ancestor_in (branch_lines header lines)) ≡ branch_count header.kind header.n
   ancestors-count = length-map (branch_lines header lines) ancestor_in ∙ passed.behind.branches.count
 
-  -- the job that it says is within the limits
-  job_within : JobWithinLimits (job_of header lines)
-  unfolding job_of header_in
-  job_within =
-      let read = passed.behind.rows in
-      let within = read.within in
-      record {
-        limits = passed.limits;
-        order_unsaid = own_unsaid lines passed.form;
-        weight_count = said_count header.m fields header.weighed formed;
-        weights_known = said_known header.m fields header.weighed formed;
-        weights_unsaid = said_ones header.m fields header.weighed;
-        name_count = length-map (row_lines header lines) name_in ∙ read.count;
-        names_formed = within.formed;
-        names_differ = within.differ;
-        name_free =
-            ap (λ behind. letter_free header.weighed letter_v (map name_in (take header.n behind)))
-            (sym (drop-behind (lines_taken header.weighed) lines))
-            ∙ name_free header.weighed header.n (drop 1 lines) refl;
-        row_count = length-map (row_lines header lines) codes_in ∙ read.count;
-        rows_full = within.full;
-        codes_in_range = within.near;
-        branches_counted = ancestors-count;
-        branching_said = passed.behind.branching_said;
-      }
-
   -- its `C` lines are those of the job
   branches_written : branch_texts (map ancestor_in (branch_lines header lines)) ≡ branch_lines header lines
   unfolding branch_texts
@@ -199,7 +174,7 @@ module _ (file : List ℕ) (job : Job) (passed : FilePassed file job) where
   file_written : file ≡ file_of (job_of header lines)
   unfolding job_of file_of lines_of
   file_written =
-      sym (joined_parts line_feed file)
+      sym (joined_pieces line_feed file)
       ∙ ap (joined_by line_feed) (lines_split lines passed.form)
       ∙ ap (λ behind. joined_by line_feed (get_or lines 0 [] ∷ behind)) lines_written
       ∙ joined-ended (get_or lines 0 [] ∷ weight_line (job_of header lines) ++ texts)
@@ -207,10 +182,35 @@ module _ (file : List ℕ) (job : Job) (passed : FilePassed file job) where
       (first_written lines passed.form passed.order (job_of header lines) refl)
       (ap₂ ◌++◌ passed.behind.rows.written branches_written))
 
--- an accepted file is the file of its job, which is within the limits, and has at most 45,000 bytes
-pub file_of_read : (file : List ℕ) (job : Job) → read_answer file ≡ value job
-    → JobWithinLimits job × (file ≡ file_of job) × (length file ≤ most_bytes)
+  -- the job that it says is within the limits
+  job_within : JobWithinLimits (job_of header lines)
+  unfolding job_of header_in
+  job_within =
+      let read = passed.behind.rows in
+      let within = read.within in
+      record {
+        limits = passed.limits;
+        order_fits = order_fits lines passed.form passed.order;
+        weight_count = said_count header.m fields header.weighed formed;
+        weights_known = said_known header.m fields header.weighed formed;
+        weights_unsaid = said_ones header.m fields header.weighed;
+        name_count = length-map (row_lines header lines) name_in ∙ read.count;
+        names_formed = within.formed;
+        names_differ = within.differ;
+        name_free =
+            ap (λ behind. letter_free header.weighed letter_v (map name_in (take header.n behind)))
+            (sym (drop-behind (lines_taken header.weighed) lines))
+            ∙ name_free header.weighed header.n (drop 1 lines) refl;
+        row_count = length-map (row_lines header lines) codes_in ∙ read.count;
+        rows_full = within.full;
+        codes_in_range = within.near;
+        branches_counted = ancestors-count;
+        branching_said = passed.behind.branching_said;
+        short = subst (λ text. length text ≤ most_bytes) file_written passed.short;
+      }
+
+-- an accepted file is the file of its job, which is within the limits
+pub file_of_read : (file : List ℕ) (job : Job) → read_answer file ≡ value job → JobWithinLimits job × (file ≡ file_of job)
 file_of_read file job e =
     let passed = file_passed file job e in
-    subst (λ said. JobWithinLimits said × (file ≡ file_of said) × (length file ≤ most_bytes)) passed.behind.is
-    (job_within file job passed, file_written file job passed, passed.short)
+    subst (λ said. JobWithinLimits said × (file ≡ file_of said)) passed.behind.is (job_within file job passed, file_written file job passed)

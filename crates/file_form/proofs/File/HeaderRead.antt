@@ -6,7 +6,7 @@ use mathlib.Core.Bool.{true, false≢true}
 use Prim.Native.Nat.{ℕ, zero, suc, ◌+◌, ◌≤◌, ◌<◌}
 use native.Mathlib.Omega.{arith}
 use borrow.Author.Tests.{le-leb}
-use lib.ListN.{length, get_or, drop, length-drop, drop_of_length-le}
+use lib.ListN.{length, get_or, drop, length-drop}
 use Rattle.lists.specs.Tests.{every, same_numbers as same_text}
 use Rattle.lists.proofs.Both.{and_both}
 use Rattle.matrix_form.specs.Outcomes.{value}
@@ -17,28 +17,28 @@ use Rattle.matrix_form.proofs.Passing.{ask_passed}
 use Rattle.file_form.specs.declared.header.Header.{Header}
 use Rattle.file_form.specs.Bytes.{tab, line_feed, joined_by}
 use Rattle.file_form.specs.Decimal.{digits_of}
-use Rattle.file_form.specs.Job.{Job, kind_word, order_fields, first_text}
+use Rattle.file_form.specs.Job.{Job, order_fields, first_text}
+use Rattle.file_form.specs.Kinds.{kind_form, is_kind, kind_said}
+use Rattle.file_form.specs.Formed.{ask_weights}
 use Rattle.file_form.specs.declared.header.Kind.{Kind}
 use Rattle.file_form.specs.declared.header.Kind.TheVariants.{Wagner, Own}
-use Rattle.std.specs.Prelude.{Option, None}
-use Rattle.tree_form.specs.declared.order.Order.{Order}
 use Rattle.file_form.specs.Lines.{fields_of}
 use Rattle.file_form.specs.Optional.{optional_there, optional_fields, lines_taken, optional_line}
 use Rattle.file_form.specs.Weights.{letter_v, weights_form}
-use Rattle.file_form.specs.Header.{is_kind, kind_said, most_fields, order_said, order_in, header_from, first_fields, header_in, header_of, header_lines, behind_header}
-use Rattle.file_form.specs.Header.{first_form, first_line_form, order_known, ask_first_line, ask_weights, ask_header}
+use Rattle.file_form.specs.Header.{order_in, header_from, first_fields, header_in, header_lines, behind_header}
+use Rattle.file_form.specs.Header.{first_form, first_line_form, order_known, ask_first_line, ask_header}
 use Rattle.file_form.proofs.File.Outcomes.{line_passed}
 use Rattle.file_form.proofs.File.OptionalLine.{optional_passed, optional_left, optional_split}
 use Rattle.file_form.proofs.File.FirstForm.{form_tells}
-use Rattle.file_form.proofs.File.Order.{order_written, order_back, order_passes, order-plain, order_single}
+use Rattle.file_form.proofs.File.Order.{order_written, order_back, order_passes, order-plain}
 use Rattle.file_form.proofs.Decimal.Digits.{digits_of_number, number_of_digits, digits_form}
-use Rattle.file_form.proofs.Text.Parts.{lacks, joined_parts}
+use Rattle.file_form.proofs.Text.Parts.{lacks, joined_pieces}
 use Rattle.file_form.proofs.Text.Plain.{plain, digits_plain, line_fields, line_lacks}
 use Rattle.file_form.proofs.Rows.Within.{limits-high}
 
 -- the fields that say a header: the word of its kind, n, m, and the word for the order, if any
 abbrev header_fields : Header → List (List ℕ)
-header_fields header = kind_word header.kind ∷ digits_of header.n ∷ digits_of header.m ∷ order_fields header.order
+header_fields header = (kind_form header.kind).word ∷ digits_of header.n ∷ digits_of header.m ∷ order_fields header.order
 
 -- a list of three items or more is these three, and what stands behind them
 three_first : (fields : List (List ℕ)) → 3 ≤ length fields
@@ -54,10 +54,11 @@ fields_read : (fields behind : List (List ℕ)) → first_form fields ≡ true �
 unfolding order_known order_in
 fields_read fields behind form known =
     let told = form_tells fields form in
+    let said = header_from fields behind in
     let single : length (drop 3 fields) ≤ 1 = omega (arith, length-drop 3 fields, told.few) in
-    ap (λ order. kind_word (header_from fields behind).kind ∷ digits_of (header_from fields behind).n ∷ digits_of (header_from fields behind).m ∷ order)
+    ap (λ order. (kind_form said.kind).word ∷ digits_of said.n ∷ digits_of said.m ∷ order)
     (order_written (drop 3 fields) single known)
-    ∙ ap₂ (λ n m. kind_word (header_from fields behind).kind ∷ n ∷ m ∷ drop 3 fields) (digits_of_number (get_or fields 1 []) told.taxa)
+    ∙ ap₂ (λ n m. (kind_form said.kind).word ∷ n ∷ m ∷ drop 3 fields) (digits_of_number (get_or fields 1 []) told.taxa)
     (digits_of_number (get_or fields 2 []) told.characters)
     ∙ ap (λ word. word ∷ get_or fields 1 [] ∷ get_or fields 2 [] ∷ drop 3 fields) told.word
     ∙ three_first fields told.several
@@ -93,20 +94,25 @@ module _ (lines : List (List ℕ)) (form : first_line_form lines ≡ true) where
       by [] e = absurd (false≢true e)
       by (line ∷ others) e = refl
 
-  -- in an `F` file it has no word for the order
-  pub own_unsaid : (header_in lines).kind ≡ Own → (header_in lines).order ≡ None
-  unfolding header_in order_in
-  own_unsaid own =
-      let three : length (first_fields lines) ≤ 3 = rw own at (form_tells (first_fields lines) first-formed).fits in
-      ap order_said (drop_of_length-le (first_fields lines) three)
+  -- with a word for the order that is known, it has no more fields than its kind allows
+  pub order_fits : order_known (first_fields lines) ≡ true
+      → 3 + length (order_fields (header_in lines).order) ≤ (kind_form (header_in lines).kind).most_fields
+  unfolding header_in
+  order_fits known =
+      omega (
+        arith,
+        ap length (fields_read (first_fields lines) (drop 1 lines) first-formed known),
+        (form_tells (first_fields lines) first-formed).fits,
+      )
 
   -- with a word for the order that is known, it is the line 1 of a job with this header
-  pub first_written : order_known (first_fields lines) ≡ true → (job : Job) → header_of job ≡ header_in lines → first_text job ≡ get_or lines 0 []
+  pub first_written : order_known (first_fields lines) ≡ true → (job : Job) → job.header ≡ header_in lines
+      → first_text job ≡ get_or lines 0 []
   unfolding first_text header_in fields_of
   first_written known job e =
       ap (λ header. joined_by tab (header_fields header)) e
       ∙ ap (joined_by tab) (fields_read (first_fields lines) (drop 1 lines) first-formed known)
-      ∙ joined_parts tab (get_or lines 0 [])
+      ∙ joined_pieces tab (get_or lines 0 [])
 
 -- what a header that passes tells
 pub record HeaderPassed (lines : List (List ℕ)) (header : Header) : Type 0 where
@@ -118,7 +124,7 @@ pub record HeaderPassed (lines : List (List ℕ)) (header : Header) : Type 0 whe
 
 -- a header that passes tells so
 pub header_passed : (lines : List (List ℕ)) (header : Header) → ask_header lines ≡ value header → HeaderPassed lines header
-unfolding ask_header ask_first_line
+unfolding ask_header ask_first_line ask_weights
 header_passed lines header e =
     let first = line_passed 1 (ask_first_line lines) _ header e in
     let second = line_passed 2 (ask_weights (header_in lines) (drop 1 lines)) (value (header_in lines)) header first.1 in
@@ -162,27 +168,22 @@ module _ (lines : List (List ℕ)) (several : 1 < length lines) (asked : ask_wei
       (drop-behind (lines_taken (header_in lines).weighed) lines)
 
 -- the word of a kind is known, says the kind and is plain
-kind-known : (kind : Kind) → is_kind (kind_word kind) ≡ true
+kind-known : (kind : Kind) → is_kind (kind_form kind).word ≡ true
 unfolding is_kind same_text
 kind-known Wagner = refl
 kind-known Own = refl
 
 -- it says the kind
-kind_back : (kind : Kind) → kind_said (kind_word kind) ≡ kind
+kind_back : (kind : Kind) → kind_said (kind_form kind).word ≡ kind
 unfolding kind_said same_text
 kind_back Wagner = refl
 kind_back Own = refl
 
 -- it is plain
-kind-plain : (kind : Kind) → plain (kind_word kind) ≡ true
+kind-plain : (kind : Kind) → plain (kind_form kind).word ≡ true
 unfolding every
 kind-plain Wagner = refl
 kind-plain Own = refl
-
--- a line 1 whose word for the order is left out in an `F` file has not too many fields
-few_fields : (kind : Kind) (order : Option Order) → (kind ≡ Own → order ≡ None) → 3 + length (order_fields order) ≤ most_fields kind
-few_fields Wagner order unsaid = omega (arith, order_single order)
-few_fields Own order unsaid = rw (unsaid refl) (omega arith)
 
 -- line 1 of a job is the word of its kind, n, m, and the word for the order, if any
 module _ (job : Job) where
@@ -191,25 +192,26 @@ module _ (job : Job) where
   behind = digits_of job.n ∷ digits_of job.m ∷ order_fields job.order
 
   -- its fields hold neither a tab nor a line feed
-  words_plain : every plain (kind_word job.kind ∷ behind) ≡ true
+  words_plain : every plain ((kind_form job.kind).word ∷ behind) ≡ true
   unfolding every
   words_plain = and_both (kind-plain job.kind) (and_both (digits_plain job.n) (and_both (digits_plain job.m) (order-plain job.order)))
 
   -- its fields are read back
-  pub first_fields_lem : fields_of (first_text job) ≡ kind_word job.kind ∷ behind
+  pub first_fields_lem : fields_of (first_text job) ≡ (kind_form job.kind).word ∷ behind
   unfolding first_text
-  first_fields_lem = line_fields (kind_word job.kind) behind words_plain
+  first_fields_lem = line_fields (kind_form job.kind).word behind words_plain
 
   -- it holds no line feed
   pub first_lacks : lacks line_feed (first_text job) ≡ true
   unfolding first_text
-  first_lacks = line_lacks (kind_word job.kind) behind words_plain
+  first_lacks = line_lacks (kind_form job.kind).word behind words_plain
 
   -- behind it stand lines, and among them the `V` line if the job has one: it says the header of the job, and passes
   module _ (rest : List (List ℕ)) (some : 1 ≤ length rest) (within : within_limits job.n job.m ≡ true)
-      (unsaid : job.kind ≡ Own → job.order ≡ None) (found : optional_there letter_v rest ≡ job.weighed) (asked : ask_weights (header_of job) rest ≡ Ok tt) where
+      (fits : 3 + length (order_fields job.order) ≤ (kind_form job.kind).most_fields) (found : optional_there letter_v rest ≡ job.weighed)
+      (asked : ask_weights job.header rest ≡ Ok tt) where
     -- its header is read back
-    header_back : header_in (first_text job ∷ rest) ≡ header_of job
+    header_back : header_in (first_text job ∷ rest) ≡ job.header
     unfolding header_in order_in
     header_back =
         ap (λ fields. header_from fields rest) first_fields_lem
@@ -223,9 +225,9 @@ module _ (job : Job) where
         by rest some
         ∙ ap first_form first_fields_lem
         ∙ and_both
-        (and_both (le-leb 3 (length (kind_word job.kind ∷ behind)) (omega arith))
+        (and_both (le-leb 3 (length ((kind_form job.kind).word ∷ behind)) (omega arith))
         (rw (kind_back job.kind)
-        (le-leb (length (kind_word job.kind ∷ behind)) (most_fields job.kind) (omega (arith, few_fields job.kind job.order unsaid)))))
+        (le-leb (length ((kind_form job.kind).word ∷ behind)) (kind_form job.kind).most_fields (omega (arith, fits)))))
         (and_both (kind-known job.kind) (and_both (digits_form job.n (omega arith)) (digits_form job.m (omega arith))))
       where
         -- a line stands behind it: its fields decide
@@ -239,6 +241,6 @@ module _ (job : Job) where
     known_back = ap order_known first_fields_lem ∙ order_passes job.order
 
     -- so its questions pass
-    pub header_passes : ask_header (first_text job ∷ rest) ≡ value (header_of job)
-    unfolding ask_header ask_first_line
+    pub header_passes : ask_header (first_text job ∷ rest) ≡ value job.header
+    unfolding ask_header ask_first_line ask_weights
     header_passes = rw (form_back, known_back, header_back, within, asked)

@@ -1,8 +1,8 @@
 -- A file is refused by a number from 1 to 11 or from 14 to 17, and by no other. (That each of them is met is shown by the examples.)
 use mathlib.Core.Path.{◌≡◌, refl, ap, ◌∙◌, subst}
 use mathlib.Core.Bool.{Bool, true, false, ◌&&◌, ◌||◌, not, false≢true}
-use mathlib.Core.List.{List, [], ◌∷◌}
-use Prim.Native.Nat.{ℕ, zero, suc, ◌≤◌}
+use mathlib.Core.List.{List, [], ◌∷◌, map}
+use Prim.Native.Nat.{ℕ, zero, suc, ◌+◌, ◌≤◌}
 use native.Mathlib.Omega.{arith}
 use borrow.Author.Tests.{leb-true, eqb-true}
 use lib.Dec.{leb, eqb}
@@ -12,24 +12,25 @@ use Rattle.lists.proofs.Both.{or_cases}
 use Rattle.lists.proofs.Every.{every-head, every-tail}
 use Rattle.matrix_form.specs.Refusals.{refusal_number}
 use Rattle.matrix_form.specs.Shape.{in_range}
-use Rattle.matrix_form.specs.Outcomes.{ask, Outcome, value, refused, on_line, then_with}
-use Rattle.matrix_form.specs.Questions.{within_limits}
+use Rattle.matrix_form.specs.Outcomes.{ask, and_then, ask_each, Outcome, value, refused, on_line, then_with}
+use Rattle.matrix_form.specs.Questions.{within_limits, ask_code}
 use Rattle.matrix_form.specs.declared.refusal.Refusal.TheVariants.{FileTooLong, FileEmpty, FirstLine, BeyondLimits, NameForm, NameTaken}
-use Rattle.matrix_form.specs.declared.refusal.Refusal.TheVariants.{LineMissing, FieldCount, CodeForm, CodeRange, FileGoesOn}
+use Rattle.matrix_form.specs.declared.refusal.Refusal.TheVariants.{FieldCount, CodeForm, CodeRange, FileGoesOn}
 use Rattle.matrix_form.specs.declared.refusal.Refusal.TheVariants.{UnknownOrder, WeightForm, BranchForm, NotBranching}
 use Rattle.matrix_form.specs.declared.refusal.Refusal.{Refusal}
 use Rattle.matrix_form.specs.Outcomes.{Asked}
 use Rattle.std.specs.Prelude.{Ok, Err}
 use Rattle.file_form.specs.declared.header.Header.{Header}
 use Rattle.file_form.specs.Decimal.{code_form, code_of}
-use Rattle.file_form.specs.Job.{Job, name_form, differs_from_all}
-use Rattle.file_form.specs.Lines.{lines_of, fields_of}
+use Rattle.file_form.specs.Job.{Job, most_bytes, name_form, differs_from_all}
+use Rattle.file_form.specs.Lines.{lines_of, fields_of, LineSort, ask_lines}
 use Rattle.file_form.specs.Optional.{ask_optional}
 use Rattle.file_form.specs.Header.{first_fields, row_line, header_in, behind_header}
-use Rattle.file_form.specs.Header.{first_line_form, order_known, ask_first_line, ask_weights, ask_header}
-use Rattle.file_form.specs.Rows.{name_in, ask_codes, ask_row, ask_rows}
-use Rattle.file_form.specs.Branches.{branch_count, branch_form, ask_branches, branched, ask_tree}
-use Rattle.file_form.specs.Reading.{most_bytes, job_of, nothing_more, ask_end, ask_after, ask_behind, ask_file, ask_length, read_answer}
+use Rattle.file_form.specs.Header.{first_line_form, order_known, ask_first_line, ask_header}
+use Rattle.file_form.specs.Formed.{ask_weights}
+use Rattle.file_form.specs.Rows.{name_in, ask_field, ask_codes, ask_row, row_sort}
+use Rattle.file_form.specs.Branches.{branch_count, branch_form, branch_sort, branched, ask_tree}
+use Rattle.file_form.specs.Reading.{job_of, nothing_more, ask_end, ask_after, ask_behind, ask_file, ask_length, read_answer}
 
 -- the numbers of the refusals that a file can meet
 abbrev pub file_numbers : List ℕ
@@ -71,13 +72,22 @@ numbered_then : {A B : Type 0} {outcome : Outcome A} (follow : A → Outcome B) 
 numbered_then follow (with_value {a = a}) others = others a
 numbered_then follow (with_number own) others = with_number own
 
+-- a question put to each item of a list
+numbered_each : {A : Type 0} (question : A → Asked) → ((x : A) → Numbered (question x)) → (xs : List A) → Numbered (ask_each question xs)
+unfolding ask_each
+numbered_each question own [] = passed
+numbered_each question own (x ∷ xs) = by (own x) (numbered_each question own xs)
+  where
+    by : {first rest : Asked} → Numbered first → Numbered rest → Numbered (and_then first rest)
+    by passed others = others
+    by (numbered first) others = numbered first
+
 -- the codes of a row
 numbered_codes : (fields : List (List ℕ)) → Numbered (ask_codes fields)
-unfolding ask_codes among
-numbered_codes [] = passed
-numbered_codes (field ∷ fields) =
-    numbered_ask (code_form field) CodeForm refl
-    (numbered_ask (in_range (code_of field)) CodeRange refl (numbered_codes fields))
+unfolding ask_codes ask_field ask_code among
+numbered_codes fields =
+    numbered_each ask_field
+    (λ field. numbered_ask (code_form field) CodeForm refl (numbered_ask (in_range (code_of field)) CodeRange refl passed)) fields
 
 -- a row
 numbered_row : (header : Header) (earlier : List (List ℕ)) (line : List ℕ) → Numbered (ask_row header earlier line)
@@ -87,17 +97,17 @@ numbered_row header earlier line =
     (numbered_ask (name_form (name_in line)) NameForm refl
     (numbered_ask (differs_from_all (name_in line) earlier) NameTaken refl (numbered_codes (drop 1 (fields_of line)))))
 
--- the rows, and what follows them
-numbered_rows : {A : Type 0} (header : Header) (earlier : List (List ℕ)) (line left : ℕ) (lines : List (List ℕ))
-    (follow : ℕ → List (List ℕ) → Outcome A) → ((k : ℕ) (others : List (List ℕ)) → FileNumbered (follow k others))
-    → FileNumbered (ask_rows header earlier line left lines follow)
-unfolding ask_rows among
-numbered_rows header earlier line zero lines follow own = own line lines
-numbered_rows header earlier line (suc left) [] follow own = with_number {number = refusal_number LineMissing} refl
-numbered_rows header earlier line (suc left) (behind ∷ []) follow own = with_number {number = refusal_number LineMissing} refl
-numbered_rows header earlier line (suc left) (row ∷ next ∷ lines) follow own =
-    numbered_line line (numbered_row header earlier row)
-    (numbered_rows header (name_in row ∷ earlier) (suc line) left (next ∷ lines) follow own)
+-- lines of one sort, and what follows them
+numbered_lines : {A : Type 0} (sort : LineSort) (earlier : List (List ℕ)) (number left : ℕ) (lines : List (List ℕ))
+    (follow : ℕ → List (List ℕ) → Outcome A) → OfFile (refusal_number sort.missing)
+    → ((before : List (List ℕ)) (line : List ℕ) → Numbered (sort.asks before line))
+    → ((k : ℕ) (others : List (List ℕ)) → FileNumbered (follow k others)) → FileNumbered (ask_lines sort earlier number left lines follow)
+unfolding ask_lines
+numbered_lines sort earlier number zero lines follow none each own = own number lines
+numbered_lines sort earlier number (suc left) [] follow none each own = with_number none
+numbered_lines sort earlier number (suc left) (behind ∷ []) follow none each own = with_number none
+numbered_lines sort earlier number (suc left) (line ∷ next ∷ lines) follow none each own =
+    numbered_line number (each earlier line) (numbered_lines sort (line ∷ earlier) (suc number) left (next ∷ lines) follow none each own)
 
 -- the end of the file
 numbered_end : {A : Type 0} (rest : Outcome A) → FileNumbered rest → (line : ℕ) (lines : List (List ℕ))
@@ -105,23 +115,13 @@ numbered_end : {A : Type 0} (rest : Outcome A) → FileNumbered rest → (line :
 unfolding ask_end among
 numbered_end rest others line lines = numbered_line line (numbered_ask (nothing_more lines) FileGoesOn refl passed) others
 
--- the `C` lines, and what follows them
-numbered_branches : {A : Type 0} (line v left : ℕ) (lines : List (List ℕ)) (follow : ℕ → List (List ℕ) → Outcome A)
-    → ((k : ℕ) (others : List (List ℕ)) → FileNumbered (follow k others)) → FileNumbered (ask_branches line v left lines follow)
-unfolding ask_branches among
-numbered_branches line v zero lines follow own = own line lines
-numbered_branches line v (suc left) [] follow own = with_number {number = refusal_number BranchForm} refl
-numbered_branches line v (suc left) (behind ∷ []) follow own = with_number {number = refusal_number BranchForm} refl
-numbered_branches line v (suc left) (text ∷ next ∷ lines) follow own =
-    numbered_line line (numbered_ask (branch_form v (fields_of text)) BranchForm refl passed)
-    (numbered_branches (suc line) (suc v) left (next ∷ lines) follow own)
-
 -- what stands behind the rows
 numbered_after : (job : Job) (line : ℕ) (lines : List (List ℕ)) → FileNumbered (ask_after job line lines)
 unfolding ask_after among
 numbered_after job line lines =
     let tree = ask_tree job.kind job.n job.ancestors in
-    numbered_branches line 2 (branch_count job.kind job.n) lines (ask_end (on_line 0 tree (value job)))
+    numbered_lines branch_sort [] line (branch_count job.kind job.n) lines (ask_end (on_line 0 tree (value job))) refl
+    (λ before text. numbered_ask (branch_form (length before + 2) (fields_of text)) BranchForm refl passed)
     (numbered_end (on_line 0 tree (value job))
     (numbered_line 0 (numbered_ask (branched job.kind job.n job.ancestors) NotBranching refl passed) with_value))
 
@@ -143,10 +143,10 @@ numbered_header lines =
 
 -- what stands behind it
 numbered_behind : (header : Header) (lines : List (List ℕ)) → FileNumbered (ask_behind header lines)
-unfolding ask_behind
+unfolding ask_behind among
 numbered_behind header lines =
-    numbered_rows header [] (row_line header 1) header.n (behind_header header lines) (ask_after (job_of header lines))
-    (numbered_after (job_of header lines))
+    numbered_lines (row_sort header) [] (row_line header 1) header.n (behind_header header lines) (ask_after (job_of header lines)) refl
+    (λ before line. numbered_row header (map name_in before) line) (numbered_after (job_of header lines))
 
 -- a whole file
 numbered_file : (file : List ℕ) → FileNumbered (read_answer file)

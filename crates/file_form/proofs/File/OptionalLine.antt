@@ -16,7 +16,7 @@ use Rattle.matrix_form.proofs.Passing.{ask_passed}
 use Rattle.file_form.specs.Bytes.{tab, line_feed, joined_by}
 use Rattle.file_form.specs.Lines.{fields_of}
 use Rattle.file_form.specs.Optional.{optional_there, optional_fields, ask_optional, lines_taken, optional_line}
-use Rattle.file_form.proofs.Text.Parts.{lacks, parts_some, joined_parts}
+use Rattle.file_form.proofs.Text.Parts.{lacks, pieces_some, joined_pieces}
 use Rattle.file_form.proofs.Text.Plain.{plain, line_fields, line_lacks}
 
 -- a line that is there and whose question passes is ended by a line feed and has the right fields
@@ -39,10 +39,10 @@ letter_line : (letter : ℕ) (line : List ℕ) → same_text (get_or (fields_of 
     → line ≡ joined_by tab ((letter ∷ []) ∷ drop 1 (fields_of line))
 unfolding fields_of
 letter_line letter line e =
-    let found = parts_some tab line in
+    let found = pieces_some tab line in
     let first : get_or (fields_of line) 0 [] ≡ letter ∷ [] = (same_numbers_iff (get_or (fields_of line) 0 []) (letter ∷ [])).0 e in
     let split : fields_of line ≡ get_or (fields_of line) 0 [] ∷ drop 1 (fields_of line) = rw found.2 in
-    sym (joined_parts tab line) ∙ ap (joined_by tab) (split ∙ ap (λ field. field ∷ drop 1 (fields_of line)) first)
+    sym (joined_pieces tab line) ∙ ap (joined_by tab) (split ∙ ap (λ field. field ∷ drop 1 (fields_of line)) first)
 
 -- lines whose optional line passes are that line, if it is there, and those behind it
 pub optional_split : (letter : ℕ) (there formed : Bool) (refusal : Refusal) (lines : List (List ℕ)) → there ≡ optional_there letter lines

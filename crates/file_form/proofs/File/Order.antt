@@ -63,7 +63,7 @@ order_single None = omega arith
 order_single (Some Advance) = omega arith
 order_single (Some Closest) = omega arith
 
--- fields that `count` tabs part
+-- fields that `count` tabs piece
 module _ (fields : List (List ℕ)) (count : ℕ) (e : count + 1 ≡ length fields) where
   -- no fourth field
   none : count < 3 → drop 3 fields ≡ []

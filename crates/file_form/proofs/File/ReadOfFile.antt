@@ -10,7 +10,7 @@ use lib.Seq.{take_at, drop_at}
 use borrow.Author.Tests.{le-leb, not-true}
 use Rattle.lists.specs.Tests.{every, same_numbers as same_text}
 use Rattle.lists.proofs.Every.{every-cons, every_append}
-use Rattle.matrix_form.specs.Shape.{is_weight}
+use Rattle.matrix_form.specs.Shape.{most_taxa, most_characters, is_weight}
 use Rattle.lists.specs.Numbers.{numbers}
 use Rattle.lists.proofs.Numbers.{length-numbers}
 use Rattle.lists.proofs.Maps.{length_zip}
@@ -18,23 +18,25 @@ use Rattle.lists.proofs.Both.{and_left}
 use Rattle.matrix_form.specs.Questions.{one_to, within_limits}
 use Rattle.matrix_form.specs.Outcomes.{value, on_line, then_with}
 use Rattle.matrix_form.proofs.Passing.{one_to-true}
-use Rattle.file_form.specs.Bytes.{line_feed, parts_at}
+use Rattle.file_form.specs.Bytes.{line_feed, pieces_at}
 use Rattle.matrix_form.specs.declared.refusal.Refusal.TheVariants.{WeightForm}
 use Rattle.std.specs.Prelude.{Ok}
 use Rattle.file_form.specs.Optional.{optional_there, optional_fields, optional_line, letter_free}
 use Rattle.file_form.specs.Weights.{letter_v, weight_in, weight_text, weights_form, weights_said}
-use Rattle.file_form.specs.Job.{Job, JobWithinLimits, first_text, weight_line, row_text, row_texts, ended, file_of}
-use Rattle.file_form.specs.Lines.{lines_of, fields_of}
-use Rattle.file_form.specs.Header.{row_line, header_of, behind_header, ask_weights}
-use Rattle.file_form.specs.Rows.{name_in, codes_in, ask_rows}
-use Rattle.file_form.specs.Branches.{branch_count, ancestor_in, branch_text, branch_texts, ask_branches, ask_tree}
-use Rattle.file_form.specs.Reading.{most_bytes, row_lines, behind_rows, branch_lines, job_of, nothing_more, ask_end, ask_after, ask_behind}
+use Rattle.file_form.specs.Job.{Job, most_bytes, JobWithinLimits, first_text, weight_line, row_text, row_texts, ended, file_of}
+use Rattle.file_form.specs.Lines.{lines_of, fields_of, ask_lines}
+use Rattle.file_form.specs.Header.{row_line, behind_header}
+use Rattle.file_form.specs.Formed.{ask_weights}
+use Rattle.file_form.specs.Rows.{name_in, codes_in, row_sort}
+use Rattle.file_form.specs.Branches.{branch_count, ancestor_in, branch_text, branch_texts, branch_sort, ask_tree}
+use Rattle.file_form.specs.Reading.{row_lines, behind_rows, branch_lines, job_of, nothing_more, ask_end, ask_after, ask_behind}
 use Rattle.file_form.specs.Reading.{ask_file, ask_length, read_answer}
-use Rattle.file_form.proofs.File.FileLength.{count_most, job_nodes, file_short}
+use Rattle.file_form.proofs.BranchLines.Nodes.{count_most, job_nodes}
+use Rattle.file_form.proofs.File.InTurn.{lines_pass}
 use Rattle.file_form.proofs.File.OptionalLine.{optional_found, optional_fields_lem, optional_behind, optional_passes, optional_lacks}
 use Rattle.file_form.proofs.File.WeightFields.{weights_back, weights-plain, written_form}
 use Rattle.file_form.proofs.File.HeaderRead.{first_lacks, header_passes}
-use Rattle.file_form.proofs.Text.Parts.{lacks, parts_ended}
+use Rattle.file_form.proofs.Text.Parts.{lacks, pieces_ended}
 use Rattle.file_form.proofs.Rows.Within.{RowsWithin, rows-first, job_rows, limits-high}
 use Rattle.file_form.proofs.BranchLines.Written.{AreNodes, branches_pass, branches_back, branches_lack}
 use Rattle.file_form.proofs.Rows.WrittenRows.{row_name, rows_lack, rows_pass, names_back, rows_back}
@@ -42,7 +44,7 @@ use Rattle.file_form.proofs.Rows.WrittenRows.{row_name, rows_lack, rows_pass, na
 -- without a `V` line, row 1 is not named `V`, and so no `V` line is found
 row_first : {m : ℕ} {earlier : List (List ℕ)} (names : List (List ℕ)) (rows : List (List ℤ)) (rest : List (List ℕ)) → 1 ≤ length names
     → RowsWithin m earlier names rows → letter_free false letter_v names ≡ true → optional_there letter_v (zip_with row_text names rows ++ rest) ≡ false
-unfolding letter_free optional_there zip_with name_in fields_of parts_at same_text
+unfolding letter_free optional_there zip_with name_in fields_of pieces_at same_text
 row_first [] rows rest some within free = absurd (omega arith)
 row_first (name ∷ names) [] rest some within free = absurd (omega (arith, within.count))
 row_first (name ∷ names) (codes ∷ rows) rest some within free =
@@ -89,7 +91,7 @@ module _ (job : Job) (within : JobWithinLimits job) where
   unfolding lines_of file_of branch_texts
   lines_back =
       let said = row_texts job ++ branch_texts job.ancestors in
-      parts_ended (first_text job ∷ weight_line job ++ said)
+      pieces_ended (first_text job ∷ weight_line job ++ said)
       (every-cons (lacks line_feed) (first_text job) (weight_line job ++ said) (first_lacks job)
       (every_append (lacks line_feed) (weight_line job) said
       (optional_lacks job.weighed letter_v (map weight_text job.weights) (weights-plain job.weights))
@@ -115,7 +117,7 @@ module _ (job : Job) (within : JobWithinLimits job) where
       omega (
         arith,
         within.name_count,
-        (one_to-true 64 job.n (and_left (one_to 64 job.n) (one_to 128 job.m) within.limits)).0,
+        (one_to-true most_taxa job.n (and_left (one_to most_taxa job.n) (one_to most_characters job.m) within.limits)).0,
       )
 
   -- each ancestor is a node's number
@@ -133,14 +135,14 @@ module _ (job : Job) (within : JobWithinLimits job) where
       by false free = row_first job.names job.rows rest some-names (job_rows job within) free
 
   -- its weights pass their question
-  weights_pass : ask_weights (header_of job) behind ≡ Ok tt
+  weights_pass : ask_weights job.header behind ≡ Ok tt
   unfolding ask_weights
   weights_pass =
       optional_passes job.weighed _ WeightForm letter_v (map weight_text job.weights) texts some_texts
       (form_back job.m job.weights within.weight_count within.weights_known texts job.weighed)
 
   -- the lines behind the header are read back
-  behind_back : behind_header (header_of job) (first_text job ∷ behind) ≡ texts
+  behind_back : behind_header job.header (first_text job ∷ behind) ≡ texts
   behind_back = optional_behind job.weighed letter_v (map weight_text job.weights) texts
 
   -- there are n rows
@@ -148,40 +150,40 @@ module _ (job : Job) (within : JobWithinLimits job) where
   rows-count = length_zip row_text job.names job.rows (job_rows job within).count ∙ within.name_count
 
   -- the first n of them are the rows
-  texts_back : row_lines (header_of job) (first_text job ∷ behind) ≡ row_texts job
+  texts_back : row_lines job.header (first_text job ∷ behind) ≡ row_texts job
   texts_back =
       ap (take job.n) behind_back ∙ take_at (row_texts job) rest job.n rows-count
 
   -- the lines behind them are its `C` lines
-  rest_back : behind_rows (header_of job) (first_text job ∷ behind) ≡ rest
+  rest_back : behind_rows job.header (first_text job ∷ behind) ≡ rest
   rest_back = ap (drop job.n) behind_back ∙ drop_at (row_texts job) rest job.n rows-count
 
-  -- as many as there are ancestors
-  branches_texts : branch_lines (header_of job) (first_text job ∷ behind) ≡ branch_texts job.ancestors
+  -- there are as many as ancestors
+  branches-count : length (branch_texts job.ancestors) ≡ branch_count job.kind job.n
+  unfolding branch_texts
+  branches-count =
+      length_zip branch_text (numbers 2 (length job.ancestors)) job.ancestors (sym (length-numbers 2 (length job.ancestors)))
+      ∙ length-numbers 2 (length job.ancestors)
+      ∙ within.branches_counted
+
+  -- they are read back
+  branches_texts : branch_lines job.header (first_text job ∷ behind) ≡ branch_texts job.ancestors
   unfolding branch_texts
   branches_texts =
-      let nodes = numbers 2 (length job.ancestors) in
       ap (take (branch_count job.kind job.n)) rest_back
-      ∙ take_at (branch_texts job.ancestors) ([] ∷ []) (branch_count job.kind job.n)
-      (length_zip branch_text nodes job.ancestors (sym (length-numbers 2 (length job.ancestors)))
-      ∙ length-numbers 2 (length job.ancestors)
-      ∙ within.branches_counted)
+      ∙ take_at (branch_texts job.ancestors) ([] ∷ []) (branch_count job.kind job.n) branches-count
 
   -- they say its ancestors
-  ancestors_back : map ancestor_in (branch_lines (header_of job) (first_text job ∷ behind)) ≡ job.ancestors
+  ancestors_back : map ancestor_in (branch_lines job.header (first_text job ∷ behind)) ≡ job.ancestors
   unfolding branch_texts
   ancestors_back = ap (map ancestor_in) branches_texts ∙ branches_back 2 job.ancestors
 
   -- so the lines say the job
-  job_back : job_of (header_of job) (first_text job ∷ behind) ≡ job
+  job_back : job_of job.header (first_text job ∷ behind) ≡ job
   unfolding job_of
   job_back = λ i.
       record {
-        kind = job.kind;
-        n = job.n;
-        m = job.m;
-        order = job.order;
-        weighed = job.weighed;
+        header = job.header;
         weights =
             said_back job.m job.weights within.weight_count within.weights_known texts job.weighed
             within.weights_unsaid i;
@@ -195,29 +197,31 @@ module _ (job : Job) (within : JobWithinLimits job) where
   unfolding ask_after ask_end nothing_more branch_texts
   rest_passes line =
       let follow = ask_end (on_line 0 (ask_tree job.kind job.n job.ancestors) (value job)) in
-      ap (λ count. ask_branches line 2 count rest follow) (sym within.branches_counted)
-      ∙ branches_pass line 2 job.ancestors [] [] follow
-      (omega (arith, within.branches_counted, count_most job.kind job.n, (limits-high job.n job.m within.limits).0)) nodes
+      ap (λ count. ask_lines branch_sort [] line count rest follow) (sym branches-count)
+      ∙ lines_pass branch_sort [] line (branch_texts job.ancestors) [] [] follow
+      (branches_pass 2 [] job.ancestors refl
+      (omega (arith, within.branches_counted, count_most job.kind job.n, (limits-high job.n job.m within.limits).0)) nodes)
       ∙ rw within.branching_said
 
   -- what stands behind the header passes its questions
-  behind_passes : ask_behind (header_of job) (first_text job ∷ behind) ≡ value job
+  behind_passes : ask_behind job.header (first_text job ∷ behind) ≡ value job
   unfolding ask_behind
   behind_passes =
-      let follow = ask_after (job_of (header_of job) (first_text job ∷ behind)) in
+      let follow = ask_after (job_of job.header (first_text job ∷ behind)) in
       let next = begins (branch_texts job.ancestors) [] in
-      ap₂ (λ n lines. ask_rows (header_of job) [] (row_line (header_of job) 1) n lines follow) (sym within.name_count)
+      ap₂ (λ n lines. ask_lines (row_sort job.header) [] (row_line job.header 1) n lines follow) (sym rows-count)
       (behind_back ∙ ap (λ others. row_texts job ++ others) next.2)
-      ∙ rows_pass (header_of job) [] (row_line (header_of job) 1) job.names job.rows next.0 next.1 follow (job_rows job within)
-      ∙ ap₂ (λ said lines. ask_after said (row_line (header_of job) 1 + length job.names) lines) job_back (sym next.2)
-      ∙ rest_passes (row_line (header_of job) 1 + length job.names)
+      ∙ lines_pass (row_sort job.header) [] (row_line job.header 1) (row_texts job) next.0 next.1 follow
+      (rows_pass job.header [] job.names job.rows (job_rows job within))
+      ∙ ap₂ (λ said lines. ask_after said (row_line job.header 1 + length (row_texts job)) lines) job_back (sym next.2)
+      ∙ rest_passes (row_line job.header 1 + length (row_texts job))
 
   -- and so do all lines
-  lines_pass : ask_file (first_text job ∷ behind) ≡ value job
+  file_passes : ask_file (first_text job ∷ behind) ≡ value job
   unfolding ask_file
-  lines_pass =
+  file_passes =
       ap (λ outcome. then_with outcome (λ header. ask_behind header (first_text job ∷ behind)))
-      (header_passes job behind (rw length-append (omega (arith, some_texts))) within.limits within.order_unsaid line_found weights_pass)
+      (header_passes job behind (rw length-append (omega (arith, some_texts))) within.limits within.order_fits line_found weights_pass)
       ∙ behind_passes
 
   -- so its file is accepted with the job
@@ -225,8 +229,8 @@ module _ (job : Job) (within : JobWithinLimits job) where
   unfolding read_answer ask_length
   read_of_file =
       rw (
-        le-leb (length (file_of job)) most_bytes (file_short job within),
+        le-leb (length (file_of job)) most_bytes within.short,
         le-leb 1 (length (file_of job)) some_bytes,
         lines_back,
       )
-      lines_pass
+      file_passes

@@ -23,23 +23,22 @@ use Rattle.lists.specs.Numbers.{numbers}
 use Rattle.file_form.specs.Branches.{branch_count}
 use Rattle.file_form.specs.declared.header.Kind.TheVariants.{Wagner}
 use Rattle.file_form.specs.declared.header.Header.{Header}
-use Rattle.matrix_form.specs.Shape.{columns, matrix_size, row, is_weight}
+use Rattle.matrix_form.specs.Shape.{most_taxa, most_characters, columns, matrix_size, row, is_weight}
 use Rattle.lists.specs.Tests.{every}
 use Rattle.matrix_form.specs.Questions.{all_in_range, are_weights, LentMatrix, LentWeights, one_to, within_limits}
 use Rattle.file_form.specs.declared.answer.Refused.{Refused}
 use Rattle.file_form.specs.Job.{Job, JobWithinLimits, has_codes, name_form, name_size}
 use Rattle.file_form.specs.Reading.{read_answer}
-use Rattle.file_form.specs.Report.{read_says, ask_size, read_outcome, lists_after, ReadDone}
-use Rattle.file_form.specs.Header.{header_of}
+use Rattle.file_form.specs.Calls.{read_says, ask_size, read_outcome, lists_after, ReadDone}
 use Rattle.file_form.specs.Written.{names_size, padded, matrix_written, weights_written, names_written, LentLists, job_written}
 use Rattle.matrix_form.proofs.Passing.{ask_passed, one_to-true}
-use Rattle.file_form.proofs.File.FileLength.{name_length}
+use Rattle.file_form.proofs.Rows.Names.{name_length}
 use Rattle.file_form.proofs.File.FileOfRead.{file_of_read}
 use Rattle.file_form.proofs.File.AcceptedRows.{accepted_job}
 use Rattle.file_form.proofs.Lists.Sizes.{lists-full, sized}
 use Rattle.file_form.proofs.File.Outcomes.{line_passed, then_passed}
 
--- items of which none is too wide, by their places
+-- items of which none is too wide, by their indices
 items_narrow : {A : Type 0} (width : ℕ) (items : List (List A)) → ((k : ℕ) → k < length items → length (get_or items k []) ≤ width)
     → Narrow width items
 items_narrow width items narrow k = by (ltb k (length items)) refl
@@ -60,11 +59,11 @@ map_at f (x ∷ xs) none other (suc k) h = map_at f xs none other k (omega arith
 -- a job within the limits
 module _ (job : Job) (within : JobWithinLimits job) where
   -- its numbers are within their limits
-  limits : (1 ≤ job.n) × (job.n ≤ 64) × (1 ≤ job.m) × (job.m ≤ 128)
+  limits : (1 ≤ job.n) × (job.n ≤ most_taxa) × (1 ≤ job.m) × (job.m ≤ most_characters)
   unfolding within_limits
   limits =
-      let taxa = one_to-true 64 job.n (and_left (one_to 64 job.n) (one_to 128 job.m) within.limits) in
-      let characters = one_to-true 128 job.m (and_right (one_to 64 job.n) (one_to 128 job.m) within.limits) in
+      let taxa = one_to-true most_taxa job.n (and_left (one_to most_taxa job.n) (one_to most_characters job.m) within.limits) in
+      let characters = one_to-true most_characters job.m (and_right (one_to most_taxa job.n) (one_to most_characters job.m) within.limits) in
       (taxa.0, taxa.1, characters.0, characters.1)
 
   -- each row has m codes
@@ -186,7 +185,7 @@ pub record Accepting (file : List ℕ) (old new : LentLists) (header : Header) :
   pub job : Job
   pub read : read_answer file ≡ value job
   pub within : JobWithinLimits job
-  pub says : header_of job ≡ header
+  pub says : job.header ≡ header
   pub sizes :
       (length old.matrix ≡ matrix_size) × (length old.weights ≡ columns) × (length old.names ≡ names_size)
       × (length old.branches ≡ lent_numbers)
@@ -197,7 +196,7 @@ pub read_accepting : (file : List ℕ) (old new : LentLists) (r : Result Header 
     → Accepting file old new header
 unfolding read_outcome ask_size lists_after
 read_accepting file old new r header done e =
-    let found = then_passed (read_outcome file old) (λ job. value (header_of job)) header (sym done.says ∙ ap read_says e) in
+    let found = then_passed (read_outcome file old) (λ job. value job.header) header (sym done.says ∙ ap read_says e) in
     let size = line_passed 0 (ask_size old) (read_answer file) found.0 found.1 in
     let full = (ask_passed (sized old) ListSize (Ok tt) size.0).0 in
     record {

@@ -11,7 +11,7 @@ use Rattle.matrix_form.specs.Shape.{columns, matrix_size}
 use Rattle.tree_form.specs.LentNumbers.{lent_numbers}
 use Rattle.file_form.specs.Reading.{read_answer}
 use Rattle.file_form.specs.Written.{names_size, LentLists}
-use Rattle.file_form.specs.Report.{full_size, ask_size, read_outcome}
+use Rattle.file_form.specs.Calls.{full_size, ask_size, read_outcome}
 
 -- lent lists of full size, by their lengths
 module _ (matrix weights names branches : ℕ) where

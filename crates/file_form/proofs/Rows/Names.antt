@@ -1,15 +1,25 @@
--- Names that all differ, and names that each differ from every earlier one.
+-- How long a name is; names that all differ, and names that each differ from every earlier one.
 use mathlib.Core.Path.{◌≡◌, refl, sym, ap, ap₂, ◌∙◌}
 use mathlib.Core.List.{List, [], ◌∷◌}
-use mathlib.Core.Bool.{Bool, true, not, true≢false, ◌&&◌}
-use Prim.Native.Nat.{ℕ, zero, suc, ◌<◌}
+use mathlib.Core.Bool.{Bool, true, not, true≢false, false≢true, ◌&&◌}
+use Prim.Native.Nat.{ℕ, zero, suc, ◌≤◌, ◌<◌}
 use native.Mathlib.Omega.{arith}
-use borrow.Author.Tests.{not-true}
+use borrow.Author.Tests.{not-true, leb-true}
+use lib.Dec.{leb}
 use lib.ListN.{length, get_or}
 use Rattle.lists.specs.Tests.{every, same_numbers as same_text}
-use Rattle.file_form.specs.Job.{differs_from_all, all_differ}
+use Rattle.file_form.specs.Bytes.{is_letter}
+use Rattle.file_form.specs.Job.{name_size, in_name, name_form, differs_from_all, all_differ}
 use Rattle.lists.proofs.Every.{same_numbers_iff}
 use Rattle.lists.proofs.Both.{and_left, and_right, and_both, eqb-sym}
+
+-- a name has at most 16 bytes
+pub name_length : (name : List ℕ) → name_form name ≡ true → length name ≤ name_size
+unfolding name_form
+name_length [] e = absurd (false≢true e)
+name_length (byte ∷ bytes) e =
+    leb-true (length (byte ∷ bytes)) name_size
+    (and_right (every in_name bytes) (leb (length (byte ∷ bytes)) name_size) (and_right (is_letter byte) _ e))
 
 -- whether two texts are the same does not depend on their order
 same-sym : (a b : List ℕ) → same_text a b ≡ same_text b a

@@ -6,10 +6,11 @@ use Prim.Native.Nat.{ℕ, ◌≤◌}
 use native.Mathlib.Omega.{arith}
 use lib.IntN.{ℤ}
 use lib.ListN.{length}
-use Rattle.matrix_form.specs.Questions.{all_in_range, one_to, within_limits}
+use Rattle.matrix_form.specs.Questions.{all_in_range, within_limits}
+use Rattle.matrix_form.specs.Shape.{most_taxa, most_characters}
 use Rattle.lists.specs.Tests.{every}
 use Rattle.file_form.specs.Job.{Job, name_form, differs_from_all, all_differ, has_codes, JobWithinLimits}
-use Rattle.matrix_form.proofs.Passing.{one_to-true}
+use Rattle.matrix_form.proofs.Passing.{limits_passed}
 use Rattle.lists.proofs.Both.{and_left, and_right, and_both}
 use Rattle.lists.proofs.Every.{every-head, every-tail, every-cons}
 use Rattle.file_form.proofs.Rows.Names.{apart_from, apart_more, apart_fewer, apart_none}
@@ -89,9 +90,5 @@ job_rows job within =
     }
 
 -- n is at most 64, and m at most 128
-pub limits-high : (n m : ℕ) → within_limits n m ≡ true → (n ≤ 64) × (m ≤ 128)
-unfolding within_limits
-limits-high n m e = (
-  (one_to-true 64 n (and_left (one_to 64 n) (one_to 128 m) e)).1,
-  (one_to-true 128 m (and_right (one_to 64 n) (one_to 128 m) e)).1,
-)
+pub limits-high : (n m : ℕ) → within_limits n m ≡ true → (n ≤ most_taxa) × (m ≤ most_characters)
+limits-high n m e = let told = limits_passed n m e in (told.1, told.3)

@@ -1,28 +1,29 @@
 -- A row that is written as document 01 wants it says what was written, and passes its questions.
-use mathlib.Core.Path.{◌≡◌, refl, ap, ap₂, ◌∙◌}
-use mathlib.Core.List.{List, [], ◌∷◌, ◌++◌, map, zip_with}
+use mathlib.Core.Path.{◌≡◌, refl, ap, ap₂, ◌∙◌, subst⁻¹}
+use mathlib.Core.List.{List, [], ◌∷◌, map, zip_with}
 use mathlib.Core.Bool.{true}
-use Prim.Native.Nat.{ℕ, suc, ◌+◌}
+use Prim.Native.Nat.{ℕ, suc}
 use native.Mathlib.Omega.{arith}
 use lib.IntN.{ℤ}
 use lib.ListN.{length, length-map}
 use borrow.Author.Tests.{eq-eqb, eqb-true}
 use Rattle.matrix_form.specs.Shape.{in_range}
-use Rattle.matrix_form.specs.Questions.{all_in_range}
+use Rattle.matrix_form.specs.Questions.{all_in_range, ask_code}
 use Rattle.std.specs.Prelude.{Ok}
-use Rattle.matrix_form.specs.Outcomes.{Outcome}
+use Rattle.matrix_form.specs.Outcomes.{ask_each}
 use Rattle.file_form.specs.declared.header.Header.{Header}
 use Rattle.lists.specs.Tests.{every}
 use Rattle.file_form.specs.Bytes.{line_feed}
 use Rattle.file_form.specs.Decimal.{decimal, code_of}
 use Rattle.file_form.specs.Job.{name_form, has_codes, row_text}
 use Rattle.file_form.specs.Lines.{fields_of}
-use Rattle.file_form.specs.Rows.{name_in, codes_in, ask_codes, ask_row, ask_rows}
+use Rattle.file_form.specs.Rows.{name_in, codes_in, ask_field, ask_codes, ask_row, row_sort}
 use Rattle.lists.proofs.Both.{and_left, and_right}
 use Rattle.lists.proofs.Every.{every-head, every-tail, every-cons}
 use Rattle.file_form.proofs.Text.Parts.{lacks}
 use Rattle.file_form.proofs.Decimal.Codes.{decimal_form, code_of-decimal}
 use Rattle.file_form.proofs.Text.Plain.{plain, name_plain, decimals_plain, line_fields, line_lacks}
+use Rattle.file_form.proofs.File.InTurn.{AllPass}
 use Rattle.file_form.proofs.Rows.Within.{RowWithin, RowsWithin, rows-first, rows-others}
 
 -- codes are read back from what is written
@@ -32,7 +33,7 @@ codes_back (code ∷ codes) = ap₂ ◌∷◌ (code_of-decimal code) (codes_back
 
 -- codes from -999 to 999 pass their questions
 codes_pass : (codes : List ℤ) → all_in_range codes ≡ true → ask_codes (map decimal codes) ≡ Ok tt
-unfolding ask_codes all_in_range every
+unfolding ask_codes ask_each ask_field ask_code all_in_range every
 codes_pass [] e = refl
 codes_pass (code ∷ codes) e =
     let near = and_left (in_range code) (all_in_range codes) e in
@@ -73,15 +74,6 @@ row_passes header earlier name codes within =
     let same = eq-eqb (suc (length (map decimal codes))) (suc header.m) (ap suc count) in
     rw (row_fields name codes within.formed, same, within.formed, within.apart) (codes_pass codes within.near)
 
--- the questions of a row that passes leave those of the rows behind it
-rows_step : {A : Type 0} (header : Header) (earlier : List (List ℕ)) (line left : ℕ) (row : List ℕ) (rows : List (List ℕ)) (next : List ℕ)
-    (others : List (List ℕ)) (follow : ℕ → List (List ℕ) → Outcome A) → ask_row header earlier row ≡ Ok tt
-    → ask_rows header earlier line (suc left) (row ∷ rows ++ next ∷ others) follow
-    ≡ ask_rows header (name_in row ∷ earlier) (suc line) left (rows ++ next ∷ others) follow
-unfolding ask_rows
-rows_step header earlier line left row [] next others follow e = rw e
-rows_step header earlier line left row (second ∷ rows) next others follow e = rw e
-
 -- the lines of rows hold no line feed
 pub rows_lack : (names : List (List ℕ)) (rows : List (List ℤ)) → every name_form names ≡ true
     → every (lacks line_feed) (zip_with row_text names rows) ≡ true
@@ -93,24 +85,19 @@ rows_lack (name ∷ names) (codes ∷ rows) e =
     (row_lacks name codes (every-head name_form name names e))
     (rows_lack names rows (every-tail name_form name names e))
 
--- rows within the limits pass their questions, and what stands behind them decides
-pub rows_pass : {A : Type 0} (header : Header) (earlier : List (List ℕ)) (line : ℕ) (names : List (List ℕ)) (rows : List (List ℤ))
-    (next : List ℕ) (others : List (List ℕ)) (follow : ℕ → List (List ℕ) → Outcome A) → RowsWithin header.m earlier names rows
-    → ask_rows header earlier line (length names) (zip_with row_text names rows ++ next ∷ others) follow
-    ≡ follow (line + length names) (next ∷ others)
-unfolding zip_with ask_rows
-rows_pass header earlier line [] rows next others follow within =
-    let number : line ≡ line + 0 = omega arith in ap (λ k. follow k (next ∷ others)) number
-rows_pass header earlier line (name ∷ names) [] next others follow within = absurd (omega arith)
-rows_pass header earlier line (name ∷ names) (codes ∷ rows) next others follow within =
-    let first = rows-first within in
-    let number : suc line + length names ≡ line + suc (length names) = omega arith in
-    rows_step header earlier line (length names) (row_text name codes) (zip_with row_text names rows) next others follow
-    (row_passes header earlier name codes first)
-    ∙ ap (λ said. ask_rows header (said ∷ earlier) (suc line) (length names) (zip_with row_text names rows ++ next ∷ others) follow)
-    (row_name name codes first.formed)
-    ∙ rows_pass header (name ∷ earlier) (suc line) names rows next others follow (rows-others within)
-    ∙ ap (λ k. follow k (next ∷ others)) number
+-- rows within the limits pass their questions
+pub rows_pass : (header : Header) (earlier names : List (List ℕ)) (rows : List (List ℤ))
+    → RowsWithin header.m (map name_in earlier) names rows → AllPass (row_sort header) earlier (zip_with row_text names rows)
+unfolding zip_with
+rows_pass header earlier [] rows within = tt
+rows_pass header earlier (name ∷ names) [] within = tt
+rows_pass header earlier (name ∷ names) (codes ∷ rows) within =
+    let first = rows-first within in (
+      row_passes header (map name_in earlier) name codes first,
+      rows_pass header (row_text name codes ∷ earlier) names rows
+          (subst⁻¹ (λ said. RowsWithin header.m (said ∷ map name_in earlier) names rows) (row_name name codes first.formed)
+          (rows-others within)),
+    )
 
 -- names and codes are read back from the rows' lines
 pub names_back : {m : ℕ} {earlier : List (List ℕ)} (names : List (List ℕ)) (rows : List (List ℤ)) → RowsWithin m earlier names rows

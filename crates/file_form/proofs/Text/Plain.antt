@@ -14,7 +14,7 @@ use Rattle.file_form.specs.Job.{in_name, name_form}
 use Rattle.file_form.specs.Lines.{fields_of}
 use Rattle.lists.proofs.Both.{and_left, and_right, or_cases}
 use Rattle.lists.proofs.Every.{every-head, every-tail, every-cons, every_append, every_weaker}
-use Rattle.file_form.proofs.Text.Parts.{lacks, parts_joined}
+use Rattle.file_form.proofs.Text.Parts.{lacks, pieces_joined}
 use Rattle.file_form.proofs.Decimal.Digits.{digit_low, digits_are_digits}
 
 -- every byte of a text is above tab and line feed
@@ -74,16 +74,16 @@ unfolding every
 decimals_plain [] = refl
 decimals_plain (code ∷ codes) = every-cons plain (decimal code) (map decimal codes) (decimal-plain code) (decimals_plain codes)
 
--- parts joined by another byte lack a separator that they lacked
-joined_lacks : (separator by : ℕ) → eqb by separator ≡ false → (parts : List (List ℕ))
-    → every (lacks separator) parts ≡ true → lacks separator (joined_by by parts) ≡ true
+-- pieces joined by another byte lack a separator that they lacked
+joined_lacks : (separator by : ℕ) → eqb by separator ≡ false → (pieces : List (List ℕ))
+    → every (lacks separator) pieces ≡ true → lacks separator (joined_by by pieces) ≡ true
 unfolding every joined_by
 joined_lacks separator by other [] e = refl
-joined_lacks separator by other (part ∷ []) e = every-head (lacks separator) part [] e
-joined_lacks separator by other (part ∷ next ∷ parts) e =
-    every_append (λ byte. not (eqb byte separator)) part (by ∷ joined_by by (next ∷ parts))
-    (every-head (lacks separator) part (next ∷ parts) e)
-    (rw other (joined_lacks separator by other (next ∷ parts) (every-tail (lacks separator) part (next ∷ parts) e)))
+joined_lacks separator by other (piece ∷ []) e = every-head (lacks separator) piece [] e
+joined_lacks separator by other (piece ∷ next ∷ pieces) e =
+    every_append (λ byte. not (eqb byte separator)) piece (by ∷ joined_by by (next ∷ pieces))
+    (every-head (lacks separator) piece (next ∷ pieces) e)
+    (rw other (joined_lacks separator by other (next ∷ pieces) (every-tail (lacks separator) piece (next ∷ pieces) e)))
 
 -- a line of plain fields: its fields are found again, and it holds no line feed
 module _ (field : List ℕ) (fields : List (List ℕ)) (e : every plain (field ∷ fields) ≡ true) where
@@ -91,7 +91,7 @@ module _ (field : List ℕ) (fields : List (List ℕ)) (e : every plain (field �
   pub line_fields : fields_of (joined_by tab (field ∷ fields)) ≡ field ∷ fields
   unfolding fields_of
   line_fields =
-      parts_joined tab field fields (every_weaker plain (lacks tab) (plain_lacks tab (omega arith)) (field ∷ fields) e)
+      pieces_joined tab field fields (every_weaker plain (lacks tab) (plain_lacks tab (omega arith)) (field ∷ fields) e)
 
   -- it holds no line feed
   pub line_lacks : lacks line_feed (joined_by tab (field ∷ fields)) ≡ true

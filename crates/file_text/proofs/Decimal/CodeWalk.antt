@@ -16,7 +16,7 @@ use lib.IntN.{pos, neg_ℤ, ◌-ℤ◌, +ℤ_idl}
 use mir.Facts.{to_z_pos, to_z-of_z}
 use mir.Val.{to_z, of_z, SFits}
 use mir.Syntax.{w32}
-use Rattle.file_text.specs.Text.{read_as}
+use Rattle.file_text.specs.Steps.{read_as}
 use Rattle.file_text.proofs.ReadAs.{read_formed, read_formless, formed_read, formless_read}
 
 -- a text that does not begin with a minus

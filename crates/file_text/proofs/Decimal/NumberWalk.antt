@@ -10,7 +10,7 @@ use lib.ListN.{length, get_or}
 use Rattle.std.specs.Char.{is_ascii_digit}
 use Rattle.std.specs.List.{list_all, fold}
 use Rattle.file_form.specs.Decimal.{number_form, number_of, number_from, no_leading_zero, zero_digit}
-use Rattle.file_text.specs.Text.{NumberSaid}
+use Rattle.file_text.specs.Steps.{NumberSaid}
 use Rattle.file_form.proofs.Decimal.Digits.{form_short, form_digits, leading_one, leading_more}
 use Rattle.file_form.proofs.Decimal.Digits.{digit_high, number_more_small, number_small}
 use Rattle.lists.proofs.Both.{and_left}

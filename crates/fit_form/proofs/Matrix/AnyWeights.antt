@@ -14,6 +14,7 @@ use Rattle.tree_form.specs.Facts.{Branching}
 use Rattle.fit_form.specs.Assignments.{branch_length, total, IsLeast, Occurs}
 use Rattle.fit_form.specs.Fit.{chosen_state, fitted_total}
 use Rattle.fit_form.specs.Rival.{FitIsLeast}
+use Rattle.fit_form.proofs.Marks.{marked_means}
 use Rattle.fit_form.proofs.Matrix.Totals.{lengths-total}
 use Rattle.fit_form.proofs.Matrix.ThirdRival.{third_rival}
 
@@ -55,6 +56,7 @@ least-same one other tree rows n m same claim = record {
         λ i. occurs_same one other tree rows n m same v j s (own.0 i),
         λ o. own.1 (occurs_same other one tree rows n m (λ f. sym (same f)) v j s o),
       );
+  marks = λ v first last. marked_means other tree rows n m v;
 }
 
 module _ (weights : List ℕ) (n m : ℕ) (tree : List ℕ) (rows : List (List ℤ))

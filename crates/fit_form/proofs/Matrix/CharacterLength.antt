@@ -11,7 +11,7 @@ use Rattle.clades.proofs.OneCharacter.CharacterFit.{length_in}
 use Rattle.clades.proofs.OneCharacter.Outside.{least_with}
 use Rattle.clades.proofs.OneCharacter.Row1.{state-length, least_length}
 use Rattle.fit_form.specs.Sets.{only, own_sets, gap, ordered}
-use Rattle.fit_form.specs.declared.spans.Span.{Span}
+use Rattle.matrix_form.specs.declared.spans.Span.{Span}
 use Rattle.fit_form.specs.Assignments.{character}
 use Rattle.fit_form.specs.Fit.{chosen_state}
 use Rattle.fit_form.proofs.Sets.Distance.{only_nonempty}

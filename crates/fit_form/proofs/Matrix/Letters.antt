@@ -8,7 +8,7 @@ use Rattle.clades.proofs.Sets.Laws.{Laws}
 use Rattle.clades.proofs.Marks.IsKind.{unordered_laws}
 use Rattle.clades.proofs.Marks.Single.{only_mark_proper}
 use Rattle.fit_form.specs.Sets.{Nonempty, ordered}
-use Rattle.fit_form.specs.declared.spans.Span.{Span}
+use Rattle.matrix_form.specs.declared.spans.Span.{Span}
 use Rattle.fit_form.proofs.Sets.IsKind.{ordered_laws}
 use Rattle.fit_form.proofs.Matrix.Mixed.{Claim, mixed_claim}
 

@@ -22,7 +22,7 @@ use Rattle.clades.specs.Character.{state_of, range_of, row1_range}
 use Rattle.clades.proofs.Clades.Nodes.{top, has}
 use Rattle.clades.proofs.Clades.Parts.{PartAt, part_at, node_above}
 use Rattle.clades.proofs.Sets.Laws.{Laws}
-use Rattle.clades.proofs.OneCharacter.Weighed.{times}
+use Rattle.difference_form.proofs.Laws.Distance.{times}
 use Rattle.clades.proofs.Several.Together.{total_in, AllAssigned, LeastTotal}
 use Rattle.clades.proofs.Several.Vanish.{length_between}
 use Rattle.clades.proofs.Several.Mixed.{Characters, is_marked, gaps_between, state_in, range_in}

@@ -9,10 +9,11 @@ use Rattle.difference_form.proofs.Laws.Weights.{weight_of-within}
 use Rattle.tree_form.specs.Ancestors.{ancestor}
 use Rattle.tree_form.specs.Facts.{Branching}
 use Rattle.fit_form.specs.Sets.{In, own_sets, gap, ordered}
-use Rattle.fit_form.specs.declared.spans.Span.{Span}
+use Rattle.matrix_form.specs.declared.spans.Span.{Span}
 use Rattle.fit_form.specs.Assignments.{character, branch_length, IsAssignment, IsLeast}
 use Rattle.fit_form.specs.Fit.{chosen_state, range, fitted_total}
 use Rattle.fit_form.specs.Rival.{FitIsLeast}
+use Rattle.fit_form.proofs.Marks.{marked_means}
 use Rattle.fit_form.proofs.Sets.Distance.{only_nonempty}
 use Rattle.fit_form.proofs.Sets.Single.{only_code, code-only}
 use Rattle.fit_form.proofs.Sets.IsKind.{ordered_laws}
@@ -80,6 +81,7 @@ module _ (weights : List ℕ) (n m : ℕ) (tree : List ℕ) (rows : List (List �
               λ i. let h = iff.0 i in record { states = h.states; is_least = least h.states h.is_least; here = h.here },
               λ o. iff.1 (record { states = o.states; is_least = shortest o.states o.is_least; here = o.here }),
             );
+        marks = λ v p q. marked_means step tree rows n m v;
       }
 
   -- a branch cannot vanish exactly if every assignment of least length gives it a length of at least 1

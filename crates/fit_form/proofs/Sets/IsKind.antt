@@ -2,12 +2,12 @@
 use Rattle.std.proofs.Common.{◌≡◌, ℤ, arith}
 use lib.Signed.{≤ℤ_refl}
 use Rattle.difference_form.specs.Rows.{apart}
-use Rattle.difference_form.proofs.Laws.Codes.{apart_self, apart-sym, apart-zero, apart_triangle}
+use Rattle.difference_form.proofs.Laws.Codes.{apart_distance, apart-zero}
 use Rattle.clades.specs.Kinds.{among}
 use Rattle.clades.proofs.Sets.Laws.{Metric, Laws}
 use Rattle.clades.proofs.Sets.Among.{among-nearest, among_proper}
 use Rattle.fit_form.specs.Sets.{Nonempty, only, in_order, six_ends, ordered}
-use Rattle.fit_form.specs.declared.spans.Span.{Span}
+use Rattle.matrix_form.specs.declared.spans.Span.{Span}
 use Rattle.fit_form.proofs.Sets.Distance.{only_nonempty, nearest_member_in, join_nonempty, offset-join, offset_in_join}
 use Rattle.fit_form.proofs.Sets.Order.{third}
 use Rattle.fit_form.proofs.Sets.Three.{middle_least, least-middle, middle_nonempty}
@@ -15,10 +15,7 @@ use Rattle.fit_form.proofs.Sets.Single.{nearest_least, only_code, only_one}
 
 -- the absolute difference is a distance of states
 pub apart_metric : Metric apart
-apart_metric = record {
-  distance = record { self = apart_self; turned = apart-sym; triangle = apart_triangle };
-  same = apart-zero;
-}
+apart_metric = record { distance = apart_distance; same = apart-zero }
 
 -- the laws of the kind
 pub ordered_laws : Laws ordered

@@ -1,11 +1,11 @@
 -- Document 01's words about the join of two sets: it is their intersection, or, if that is empty, the smallest interval that touches both.
 use Rattle.std.proofs.Common.{◌≡◌, min, max, ◌↔◌, [], ◌∷◌, ℤ, arith}
 use native.Mathlib.Nat.{max_comm, min_comm}
-use Rattle.difference_form.proofs.Laws.Places.{place, everywhere}
+use Rattle.difference_form.proofs.Laws.Points.{point, everywhere}
 use Rattle.fit_form.specs.Sets.{Nonempty, In, join, nearest_member}
-use Rattle.fit_form.specs.declared.spans.Span.{Span}
+use Rattle.matrix_form.specs.declared.spans.Span.{Span}
 use Rattle.fit_form.proofs.Cases.{either}
-use Rattle.fit_form.proofs.Sets.Distance.{span, join-places, nearest_member-places, nonempty_places, in_places, places_in}
+use Rattle.fit_form.proofs.Sets.Distance.{span, join-points, nearest_member-points, nonempty_points, in_points, points_in}
 use Rattle.fit_form.proofs.Sets.Distance.{nearest_member_in}
 
 -- two sets touch if they have a state in common
@@ -24,16 +24,16 @@ join_intersection a b t s = everywhere
     (λ z. In (z 1) (span (z 2) (z 3)) → In (z 1) (span (z 4) (z 5)) →
     In (z 0) (join (span (z 2) (z 3)) (span (z 4) (z 5))) ↔ (In (z 0) (span (z 2) (z 3)) × In (z 0) (span (z 4) (z 5))))
     (λ K n p q.
-    let p' = places_in K (n 1) (n 2) (n 3) p in
-    let q' = places_in K (n 1) (n 4) (n 5) q in
-    rw (join-places K (n 2) (n 3) (n 4) (n 5)) (
+    let p' = points_in K (n 1) (n 2) (n 3) p in
+    let q' = points_in K (n 1) (n 4) (n 5) q in
+    rw (join-points K (n 2) (n 3) (n 4) (n 5)) (
       λ i.
-          let i' = places_in K (n 0) _ _ i in
-          (in_places K (omega arith) (omega arith), in_places K (omega arith) (omega arith)),
+          let i' = points_in K (n 0) _ _ i in
+          (in_points K (omega arith) (omega arith), in_points K (omega arith) (omega arith)),
       λ both.
-          let a' = places_in K (n 0) (n 2) (n 3) both.0 in
-          let b' = places_in K (n 0) (n 4) (n 5) both.1 in
-          in_places K (omega arith) (omega arith),
+          let a' = points_in K (n 0) (n 2) (n 3) both.0 in
+          let b' = points_in K (n 0) (n 4) (n 5) both.1 in
+          in_points K (omega arith) (omega arith),
     ))
     (s ∷ t.state ∷ a.low ∷ a.high ∷ b.low ∷ b.high ∷ []) t.in_first t.in_second
 
@@ -41,7 +41,7 @@ join_intersection a b t s = everywhere
 pub join_comm : (a b : Span) → join a b ≡ join b a
 join_comm a b = everywhere (λ z. join (span (z 0) (z 1)) (span (z 2) (z 3)) ≡ join (span (z 2) (z 3)) (span (z 0) (z 1)))
     (λ K n.
-    rw (join-places K (n 0) (n 1) (n 2) (n 3), join-places K (n 2) (n 3) (n 0) (n 1), max_comm (n 0) (n 2), min_comm (n 1) (n 3)))
+    rw (join-points K (n 0) (n 1) (n 2) (n 3), join-points K (n 2) (n 3) (n 0) (n 1), max_comm (n 0) (n 2), min_comm (n 1) (n 3)))
     (a.low ∷ a.high ∷ b.low ∷ b.high ∷ [])
 
 -- the member of a set nearest to the other set's low end is in their join
@@ -50,9 +50,9 @@ nearest_member_in_join a b = everywhere
     (λ z. Nonempty (span (z 0) (z 1)) → Nonempty (span (z 2) (z 3)) →
     In (nearest_member (z 2) (span (z 0) (z 1))) (join (span (z 0) (z 1)) (span (z 2) (z 3))))
     (λ K n p q.
-    let p' = nonempty_places K (n 0) (n 1) p in
-    let q' = nonempty_places K (n 2) (n 3) q in
-    rw (nearest_member-places K (n 2) (n 0) (n 1), join-places K (n 0) (n 1) (n 2) (n 3)) (in_places K (omega arith) (omega arith)))
+    let p' = nonempty_points K (n 0) (n 1) p in
+    let q' = nonempty_points K (n 2) (n 3) q in
+    rw (nearest_member-points K (n 2) (n 0) (n 1), join-points K (n 0) (n 1) (n 2) (n 3)) (in_points K (omega arith) (omega arith)))
     (a.low ∷ a.high ∷ b.low ∷ b.high ∷ [])
 
 -- the join of two sets touches the first
@@ -71,17 +71,17 @@ join_smallest a b d c t u s = everywhere
     In (z 7) (span (z 5) (z 6)) → In (z 7) (span (z 1) (z 2)) → In (z 8) (span (z 5) (z 6)) → In (z 8) (span (z 3) (z 4)) →
     In (z 0) (join (span (z 1) (z 2)) (span (z 3) (z 4))) → In (z 0) (span (z 5) (z 6)))
     (λ K n disjoint xc xa yc yb i.
-    let xc' = places_in K (n 7) (n 5) (n 6) xc in
-    let xa' = places_in K (n 7) (n 1) (n 2) xa in
-    let yc' = places_in K (n 8) (n 5) (n 6) yc in
-    let yb' = places_in K (n 8) (n 3) (n 4) yb in
-    let i' = places_in K (n 0) _ _ (rw (join-places K (n 1) (n 2) (n 3) (n 4)) at i) in
+    let xc' = points_in K (n 7) (n 5) (n 6) xc in
+    let xa' = points_in K (n 7) (n 1) (n 2) xa in
+    let yc' = points_in K (n 8) (n 5) (n 6) yc in
+    let yb' = points_in K (n 8) (n 3) (n 4) yb in
+    let i' = points_in K (n 0) _ _ (rw (join-points K (n 1) (n 2) (n 3) (n 4)) at i) in
     either (max (n 1) (n 3)) (min (n 2) (n 4))
     (λ meet. absurd (disjoint (record {
-      state = place K (max (n 1) (n 3));
-      in_first = in_places K (omega arith) (omega arith);
-      in_second = in_places K (omega arith) (omega arith);
+      state = point K (max (n 1) (n 3));
+      in_first = in_points K (omega arith) (omega arith);
+      in_second = in_points K (omega arith) (omega arith);
     })))
-    (λ none. in_places K (omega arith) (omega arith)))
+    (λ none. in_points K (omega arith) (omega arith)))
     (s ∷ a.low ∷ a.high ∷ b.low ∷ b.high ∷ c.low ∷ c.high ∷ t.state ∷ u.state ∷ [])
     d t.in_first t.in_second u.in_first u.in_second

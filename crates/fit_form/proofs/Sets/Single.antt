@@ -3,11 +3,11 @@ use Rattle.std.proofs.Common.{◌≡◌, ◌≤◌, min, max, [], ◌∷◌, ℤ
 use lib.Signed.{≤ℤ_refl}
 use Rattle.difference_form.specs.Rows.{apart}
 use Rattle.difference_form.proofs.Laws.Codes.{≤ℤ-antisym}
-use Rattle.difference_form.proofs.Laws.Places.{place, apart-place, everywhere}
+use Rattle.difference_form.proofs.Laws.Points.{point, apart-point, everywhere}
 use Rattle.clades.specs.Kinds.{offset as offset_in}
 use Rattle.fit_form.specs.Sets.{Nonempty, In, only, nearest_member}
-use Rattle.fit_form.specs.declared.spans.Span.{Span}
-use Rattle.fit_form.proofs.Sets.Distance.{offset, span, nearest_member-places, places_in}
+use Rattle.matrix_form.specs.declared.spans.Span.{Span}
+use Rattle.fit_form.proofs.Sets.Distance.{offset, span, nearest_member-points, points_in}
 
 -- a member of a set is no nearer than the nearest one
 pub nearest_least : (s : ℤ) (a : Span) → Nonempty a → (x : ℤ) → In x a → offset s a ≤ apart s x
@@ -15,8 +15,8 @@ unfolding offset_in
 nearest_least s a p x i = everywhere
     (λ z. In (z 1) (span (z 2) (z 3)) → apart (z 0) (nearest_member (z 0) (span (z 2) (z 3))) ≤ apart (z 0) (z 1))
     (λ K n i.
-    let j = places_in K (n 1) (n 2) (n 3) i in
-    rw (nearest_member-places K (n 0) (n 2) (n 3), apart-place K (n 0) (n 1), apart-place K (n 0) (max (n 2) (min (n 0) (n 3))))
+    let j = points_in K (n 1) (n 2) (n 3) i in
+    rw (nearest_member-points K (n 0) (n 2) (n 3), apart-point K (n 0) (n 1), apart-point K (n 0) (max (n 2) (min (n 0) (n 3))))
     (omega arith))
     (s ∷ x ∷ a.low ∷ a.high ∷ []) i
 
@@ -24,7 +24,7 @@ nearest_least s a p x i = everywhere
 pub nearest-only : (s c : ℤ) → nearest_member s (only c) ≡ c
 unfolding only
 nearest-only s c = everywhere (λ z. nearest_member (z 0) (span (z 1) (z 1)) ≡ z 1)
-    (λ K n. nearest_member-places K (n 0) (n 1) (n 1) ∙ ap (place K) (omega arith))
+    (λ K n. nearest_member-points K (n 0) (n 1) (n 1) ∙ ap (point K) (omega arith))
     (s ∷ c ∷ [])
 
 -- the only state of a code's set is the code

@@ -3,7 +3,7 @@
 use Rattle.std.proofs.Common.{◌≡◌, ℕ, ◌+◌, ◌*◌, ◌≤◌, List, ℤ, ◌∙◌, arith}
 use Rattle.difference_form.specs.Rows.{apart}
 use Rattle.fit_form.specs.Sets.{Nonempty, In, in_order, six_ends, middle}
-use Rattle.fit_form.specs.declared.spans.Span.{Span}
+use Rattle.matrix_form.specs.declared.spans.Span.{Span}
 use Rattle.fit_form.proofs.Sets.Order.{spread, rising_in_order, spread_in_order}
 use Rattle.fit_form.proofs.Sets.Order.{length-in_order, third, third_to_fourth, third_to_fourth_of}
 use Rattle.fit_form.proofs.Sets.Distance.{offset, offset-ends}

@@ -10,7 +10,7 @@ use Rattle.clades.proofs.Clades.Sides.{Side, on, other}
 use Rattle.clades.proofs.OneCharacter.Basic.{EachProper, up_proper_lem}
 use Rattle.clades.proofs.OneCharacter.Outside.{handed_proper}
 use Rattle.fit_form.specs.Sets.{Nonempty, only, own_sets, join, gap, nearest_member, middle, ordered}
-use Rattle.fit_form.specs.declared.spans.Span.{Span}
+use Rattle.matrix_form.specs.declared.spans.Span.{Span}
 use Rattle.fit_form.specs.Assignments.{character}
 use Rattle.fit_form.specs.Fit.{chosen_state, range}
 use Rattle.fit_passes.specs.Steps.{set_of, cost_of, outside_of}

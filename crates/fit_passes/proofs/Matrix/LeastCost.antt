@@ -2,7 +2,7 @@
 -- from the clade's set.
 use Rattle.std.proofs.Common.{◌≡◌, ℕ, ◌+◌, ◌-◌, ◌*◌, ◌≤◌, true, List, [], ◌∷◌, ℤ, sym, ap, ◌∙◌, arith}
 use Rattle.matrix_form.specs.Shape.{in_range}
-use Rattle.difference_form.specs.Rows.{apart, lower, higher}
+use Rattle.difference_form.specs.Rows.{apart, most_apart, lower, higher}
 use Rattle.difference_form.proofs.Laws.Codes.{apart-in_range}
 use Rattle.difference_form.proofs.Laws.Order.{lower-keeps, higher-keeps}
 use Rattle.tree_form.specs.Ancestors.{ancestor, descendants}
@@ -10,7 +10,7 @@ use Rattle.tree_form.specs.Nodes.{other_nodes}
 use Rattle.tree_form.specs.Facts.{Grown}
 use Rattle.clades.specs.Passes.{least_cost}
 use Rattle.fit_form.specs.Sets.{only, own_sets, gap, ordered}
-use Rattle.fit_form.specs.declared.spans.Span.{Span}
+use Rattle.matrix_form.specs.declared.spans.Span.{Span}
 use Rattle.clades.specs.Clades.{Clade, tip, fork}
 use Rattle.clades.specs.Character.{up}
 use Rattle.fit_form.specs.Assignments.{character}
@@ -27,7 +27,7 @@ abbrev Known : ℤ → Type 0
 Known z = in_range z ≡ true
 
 -- sets with such ends lie at most 1998 from each other
-gap-most : (a b : Span) → Each Known a → Each Known b → gap a b ≤ 1998
+gap-most : (a b : Span) → Each Known a → Each Known b → gap a b ≤ most_apart
 unfolding gap
 gap-most a b p q =
     let start = higher a.low b.low in
@@ -38,7 +38,7 @@ gap-most a b p q =
 
 -- the least cost of a clade is at most 1998 for each of its nodes
 least_cost-most : (n : ℕ) (tree : List ℕ) (code : ℕ → ℤ) → ((u : ℕ) → 1 ≤ u → u ≤ n → Known (code u)) →
-    (t : Clade) → Made n tree t → least_cost ordered (own_sets code) t ≤ size t * 1998
+    (t : Clade) → Made n tree t → least_cost ordered (own_sets code) t ≤ size t * most_apart
 unfolding least_cost
 least_cost-most n tree code known (tip v) made = omega arith
 least_cost-most n tree code known (fork v a b) made =
@@ -72,8 +72,8 @@ module _ (n : ℕ) (tree : List ℕ) (grown : Grown n n tree) (rows : List (List
       ∙ ap (λ t. least_cost ordered (own_sets code) t + gap (up ordered (own_sets code) t) (only (code 1))) (sym same)
 
   module _ (known : (u : ℕ) → 1 ≤ u → u ≤ n → Known (code u)) (v : ℕ) (second : 2 ≤ v) (last : v ≤ 2 * n - 2) where
-    -- the least cost of a node's clade is at most 3996 for each taxon
-    pub cost-most : cost_of tree n code v ≤ 3996 * n
+    -- the least cost of a node's clade is at most twice 1998 for each taxon
+    pub cost-most : cost_of tree n code v ≤ 2 * most_apart * n
     unfolding cost_of
     cost-most =
         omega (
@@ -83,7 +83,7 @@ module _ (n : ℕ) (tree : List ℕ) (grown : Grown n n tree) (rows : List (List
         )
 
     -- its set lies at most 1998 from row 1's code
-    pub gap_row1 : gap (set_of tree n code v) (only (code 1)) ≤ 1998
+    pub gap_row1 : gap (set_of tree n code v) (only (code 1)) ≤ most_apart
     unfolding set_of
     gap_row1 =
         let own = known 1 (omega arith) (omega (arith, grown.at_least_two)) in

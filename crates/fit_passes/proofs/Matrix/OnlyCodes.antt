@@ -9,7 +9,7 @@ use Rattle.clades.proofs.Clades.Sides.{Side, left, right, on, other, on_each}
 use Rattle.clades.proofs.Clades.Parts.{Part, whole, below, handed}
 use Rattle.clades.proofs.OneCharacter.Passes.{state_to, outside_to}
 use Rattle.fit_form.specs.Sets.{only, own_sets, join, nearest_member, insert, in_order, six_ends, middle, ordered}
-use Rattle.fit_form.specs.declared.spans.Span.{Span}
+use Rattle.matrix_form.specs.declared.spans.Span.{Span}
 use Rattle.clades.specs.Clades.{Clade, tip, fork}
 use Rattle.clades.specs.Kinds.{among}
 use Rattle.clades.specs.Character.{up, state_of}

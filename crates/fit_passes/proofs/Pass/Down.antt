@@ -4,7 +4,7 @@ use mathlib.Core.Logic.{by_cases}
 use native.Mathlib.Decide.{ℕ_discrete}
 use Rattle.matrix_form.specs.Shape.{last_node}
 use Rattle.tree_form.specs.Ancestors.{ancestor}
-use Rattle.branching.specs.Places.{PlaceOf}
+use Rattle.branching.specs.Index.{TreeIndex}
 use Rattle.tree_form.specs.Facts.{Grown}
 use Rattle.tree_form.specs.Within.{branching_within}
 use Rattle.tree_walk.specs.Walks.{WalkOf, node_at, Belows, below_at}
@@ -13,7 +13,7 @@ use Rattle.fit_form.specs.Assignments.{character}
 use Rattle.fit_form.specs.Fit.{chosen_state}
 use Rattle.fit_passes.specs.Plans.{sister_in}
 use Rattle.fit_passes.specs.Steps.{code_in, Codes, PartsAre, part_at, set_of, outside_of, state_of, outside_from, seen_at, SeenIs}
-use Rattle.fit_form.specs.declared.spans.Span.{Span}
+use Rattle.matrix_form.specs.declared.spans.Span.{Span}
 use Rattle.tree_walk.specs.declared.walk.Below.{Below}
 use Rattle.fit_passes.specs.declared.characters.Part.{Part}
 use Rattle.fit_passes.specs.declared.characters.Seen.{Seen}
@@ -36,7 +36,7 @@ module _ (n : ℕ) (tree : List ℕ) (rows : List (List ℤ)) (j : ℕ) (codes :
     abbrev code : ℕ → ℤ
     code = character rows j
 
-    -- the node at place i
+    -- the node at index i
     abbrev v : ℕ
     v = node_at nodes i
 
@@ -73,8 +73,8 @@ module _ (n : ℕ) (tree : List ℕ) (rows : List (List ℤ)) (j : ℕ) (codes :
       within : (2 ≤ v) × (v ≤ 2 * n - 2)
       within = (omega (arith, codes_are.taxon), omega (arith, walk.within i high, last_several n several))
 
-      -- its ancestor has a place in a tree, and what is kept of it is right
-      module _ (u : ℕ) (place : PlaceOf (ancestor tree v) u) where
+      -- its ancestor is an index of a tree, and what is kept of it is right
+      module _ (u : ℕ) (place : TreeIndex (ancestor tree v) u) where
         -- where it stands
         is-above : u ≡ ancestor tree v
         is-above =
@@ -134,7 +134,7 @@ module _ (n : ℕ) (tree : List ℕ) (rows : List (List ℤ)) (j : ℕ) (codes :
         }
 
     -- one place further down the walk
-    pub down_next : (u : ℕ) → PlaceOf (ancestor tree v) u → (s : ℤ) (o : Span) → v ≤ 126
+    pub down_next : (u : ℕ) → TreeIndex (ancestor tree v) u → (s : ℤ) (o : Span) → v ≤ 126
         → s ≡ state_of (code_in codes v) (part_at parts v).set (seen_at seen u).state
         → o ≡ outside_from (code_in codes u) (part_at parts (sister_in (below_at below u) v)).set (seen_at seen u).outside
         → DownTo tree rows n j nodes (set seen v (record { state = s; outside = o })) (i + 1)

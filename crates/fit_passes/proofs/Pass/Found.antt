@@ -7,7 +7,7 @@ use Rattle.fit_form.specs.Assignments.{character}
 use Rattle.fit_form.specs.Fit.{chosen_state, range, states_in}
 use Rattle.tree_walk.specs.Walks.{Belows, below_at}
 use Rattle.fit_passes.specs.Steps.{code_in, Codes, PartsAre, part_at, set_of, SeenIs, states_from}
-use Rattle.fit_form.specs.declared.spans.Span.{Span}
+use Rattle.matrix_form.specs.declared.spans.Span.{Span}
 use Rattle.tree_walk.specs.declared.walk.Below.{Below}
 use Rattle.fit_passes.specs.declared.characters.Part.{Part}
 use Rattle.fit_passes.specs.declared.characters.Seen.{Seen}

@@ -10,7 +10,7 @@ use Rattle.tree_walk.specs.Walks.{WalkOf, node_at, Belows, below_at}
 use Rattle.fit_form.specs.Sets.{only, join, gap}
 use Rattle.fit_form.specs.Assignments.{character}
 use Rattle.fit_passes.specs.Steps.{code_in, Codes, PartOf, part_at, part_for, PartsAre, set_of, cost_of}
-use Rattle.fit_form.specs.declared.spans.Span.{Span}
+use Rattle.matrix_form.specs.declared.spans.Span.{Span}
 use Rattle.tree_walk.specs.declared.walk.Below.{Below}
 use Rattle.fit_passes.specs.declared.characters.Part.{Part}
 use Rattle.fit_form.proofs.Cases.{either}
@@ -20,7 +20,7 @@ use Rattle.fit_passes.proofs.Matrix.ByNode.{set-taxon, set-htu, cost-taxon, cost
 use Rattle.fit_passes.proofs.Matrix.LeastCost.{cost-most}
 use Rattle.fit_passes.proofs.Pass.Standing.{taxa-most, grown_of, last_several, two_kept, descendant_behind}
 
--- of two taxa or more what is kept is right for each node that stands at place i of the walk or behind it
+-- of two taxa or more what is kept is right for each node that stands at index i of the walk or behind it
 abbrev pub UpFrom : List ℕ → ℕ → (ℕ → ℤ) → List ℕ → List Part → ℕ → Type 0
 UpFrom tree n code nodes parts i =
     (k : ℕ) → i ≤ k → k < last_node n → 2 ≤ n → part_at parts (node_at nodes k) ≡ part_for tree n code (node_at nodes k)
@@ -65,7 +65,7 @@ module _ (n : ℕ) (tree : List ℕ) (rows : List (List ℤ)) (j : ℕ) (codes :
   abbrev code : ℕ → ℤ
   code = character rows j
 
-  -- the step at place i of the walk
+  -- the step at index i of the walk
   module _ (i : ℕ) (high : i < last_node n) (inv : UpFrom tree n code nodes parts (i + 1)) (several : 2 ≤ n) where
     -- the node there
     abbrev v : ℕ
@@ -108,7 +108,7 @@ module _ (n : ℕ) (tree : List ℕ) (rows : List (List ℤ)) (j : ℕ) (codes :
         (is.set over ∙ ap₂ (λ (p : Part) (q : Part). join p.set q.set) x y ∙ sym (set-htu n tree grown rows j v a b htu))
         (is.cost over (omega arith) ∙ far ∙ sym cost)
 
-    -- the node at place i
+    -- the node at index i
     node_right_lem : (r : Part)
         → PartOf (code_in codes v) (part_at parts (below_at below v).first) (part_at parts (below_at below v).second) r
         → r ≡ part_for tree n code v

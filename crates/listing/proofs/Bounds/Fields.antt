@@ -10,7 +10,9 @@ use lib.IntN.{ℤ, pos, negsuc}
 use lib.ListN.{length, get_or}
 use borrow.Author.Tests.{leb-true}
 use Rattle.lists.proofs.Every.{every_at}
-use Rattle.matrix_form.specs.Shape.{in_range}
+use Rattle.matrix_form.specs.Shape.{highest_code, in_range}
+use Rattle.difference_form.specs.Rows.{most_difference}
+use Rattle.consistency_form.specs.Index.{thousand}
 use Rattle.file_form.specs.Decimal.{digits_of, decimal}
 use Rattle.file_form.specs.Job.{Job, JobWithinLimits, name_form}
 use Rattle.file_form.specs.Text.{bytes}
@@ -25,11 +27,23 @@ use Rattle.listing_form.proofs.Totals.{limits}
 pub number_size : (n : ℕ) → n < 1000000000 → length (digits_of n) ≤ 9
 number_size n h = digits_length n 8 h
 
--- a code from -999 to 999 has at most 10 bytes
-pub code-size : (z : ℤ) → in_range z ≡ true → length (decimal z) ≤ 10
+-- a length up to the largest difference has at most 7 digits
+pub length_size : (n : ℕ) → n ≤ most_difference → length (digits_of n) ≤ 7
+length_size n h = let small : n < 10000000 = omega arith in digits_length n 6 small
+
+-- thousandths of an index have at most 4
+pub quotient_size : (n : ℕ) → n ≤ thousand → length (digits_of n) ≤ 4
+quotient_size n h = let small : n < 10000 = omega arith in digits_length n 3 small
+
+-- a number below a thousand, as that of a character, has at most 3
+pub short_size : (n : ℕ) → n < 1000 → length (digits_of n) ≤ 3
+short_size n h = digits_length n 2 h
+
+-- a code from -999 to 999 has at most 4 bytes
+pub code-size : (z : ℤ) → in_range z ≡ true → length (decimal z) ≤ 4
 unfolding decimal in_range
-code-size (pos n) e = let small = leb-true n 999 e in omega (arith, number_size n (omega arith))
-code-size (negsuc n) e = let small = leb-true (suc n) 999 e in omega (arith, number_size (suc n) (omega arith))
+code-size (pos n) e = let small = leb-true n highest_code e in omega (arith, short_size n (omega arith))
+code-size (negsuc n) e = let small = leb-true (suc n) highest_code e in omega (arith, short_size (suc n) (omega arith))
 
 -- a mark has one byte
 pub mark-size : (marked : Bool) → length (mark marked) ≡ 1

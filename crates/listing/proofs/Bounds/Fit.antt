@@ -14,7 +14,7 @@ use Rattle.lists.proofs.Sums.{sum_most}
 use Rattle.matrix_form.specs.Shape.{in_range, weight_of}
 use Rattle.matrix_form.specs.Questions.{all_in_range}
 use Rattle.file_form.specs.Job.{Job, JobWithinLimits}
-use Rattle.difference_form.specs.Rows.{most_difference, part}
+use Rattle.difference_form.specs.Rows.{most_part, most_difference, part}
 use Rattle.difference_form.proofs.Laws.Weights.{part-in_range}
 use Rattle.tree_form.specs.Ancestors.{ancestor}
 use Rattle.tree_form.specs.Facts.{Branching, Grown}
@@ -70,7 +70,7 @@ module _ (job : Job) (within : JobWithinLimits job) (tree : List ℕ) (whole : B
       let some : 1 ≤ ancestor tree v = branching_nodes job.n tree whole v first last in
       let above : ancestor tree v ≤ 2 * job.n - 2 = growing_ancestor_le job.n tree whole v in
       let own = chosen_state tree job.rows job.n in
-      let sum = sum_most (λ j. part (weight_of job.weights j) (own v j) (own (ancestor tree v) j)) 17982 (numbers 1 job.m) (λ j m.
+      let sum = sum_most (λ j. part (weight_of job.weights j) (own v j) (own (ancestor tree v) j)) most_part (numbers 1 job.m) (λ j m.
       part-in_range (weight_of job.weights j) (own v j) (own (ancestor tree v) j) (weight_known job.weights within.weights_known j)
       (state_near v j (omega arith) last) (state_near (ancestor tree v) j some above)) in
       omega (arith, sum, length-numbers 1 job.m, known.characters)

@@ -8,26 +8,28 @@ use native.Mathlib.Omega.{arith}
 use lib.ListN.{drop}
 use Rattle.matrix_form.specs.Outcomes.{ask, Outcome, value, refused, on_line, then_with}
 use Rattle.matrix_form.specs.Questions.{within_limits}
-use Rattle.matrix_form.specs.declared.refusal.Refusal.TheVariants.{FirstLine, UnknownOrder, BeyondLimits, FileGoesOn, BranchForm}
+use Rattle.matrix_form.specs.declared.refusal.Refusal.TheVariants.{FirstLine, UnknownOrder, BeyondLimits, FileGoesOn}
 use Rattle.matrix_form.specs.Outcomes.{Asked}
 use Rattle.std.specs.Prelude.{Ok, Err}
+use Rattle.tree_form.specs.Asking.{branches_size}
 use Rattle.file_form.specs.declared.header.Header.{Header}
-use Rattle.file_form.specs.Lines.{lines_of, fields_of}
-use Rattle.file_form.specs.Header.{header_in, row_line, behind_header, first_line_form, first_fields, order_known, ask_first_line, ask_weights}
+use Rattle.file_form.specs.Lines.{LineSort, lines_of, ask_lines}
+use Rattle.file_form.specs.Header.{header_in, row_line, behind_header, first_line_form, first_fields, order_known, ask_first_line}
 use Rattle.file_form.specs.Header.{ask_header}
 use Rattle.matrix_form.proofs.Passing.{ask_passed}
 use Rattle.file_header.proofs.OptionalWalk.{taken_most}
-use Rattle.file_form.specs.Rows.{name_in, ask_row, ask_rows}
+use Rattle.file_form.specs.Formed.{ask_weights}
+use Rattle.file_form.specs.Rows.{row_sort}
 use Rattle.file_form.specs.Job.{Job}
-use Rattle.matrix_file.specs.Walk.{behind_rows_most}
-use Rattle.file_form.specs.Branches.{branch_count, branch_form, ask_branches, ask_tree}
+use Rattle.matrix_file.specs.Steps.{behind_rows_most}
+use Rattle.file_form.specs.Branches.{branch_count, branch_sort, ask_tree}
 use Rattle.file_form.specs.Reading.{job_of, nothing_more, ask_end, ask_after, ask_behind, ask_file, ask_length, read_answer}
-use Rattle.file_form.proofs.File.FileLength.{count_most}
+use Rattle.file_form.proofs.BranchLines.Nodes.{count_most}
 use Rattle.listing_form.proofs.Totals.{Limits, limits}
 
 -- the highest line that a refusal gives
 abbrev pub most_lines : ℕ
-most_lines = 192
+most_lines = behind_rows_most + branches_size
 
 -- the line of a refusal, if there is one, is within a bound
 pub data LineWithin {A : Type 0} (most : ℕ) : Outcome A → Type 0 where
@@ -44,28 +46,17 @@ on_line_within most line (Err refusal) rest h later = some h
 one_on : (line left : ℕ) → suc line + left ≡ line + suc left
 one_on line left = omega arith
 
--- the questions on the rows: no line behind the last row's, if none is given by what follows them
-rows-lines : {A : Type 0} (most : ℕ) (header : Header) (earlier : List (List ℕ)) (line left : ℕ) (lines : List (List ℕ))
+-- the questions on lines of a sort: no line behind the last one's, if none is given by what follows them
+lines_within : {A : Type 0} (most : ℕ) (sort : LineSort) (earlier : List (List ℕ)) (line left : ℕ) (lines : List (List ℕ))
     (follow : ℕ → List (List ℕ) → Outcome A) → line + left ≤ most → ((others : List (List ℕ)) → LineWithin most (follow (line + left) others))
-    → LineWithin most (ask_rows header earlier line left lines follow)
-unfolding ask_rows
-rows-lines most header earlier line zero lines follow h own = rw add-zero at (own lines)
-rows-lines most header earlier line (suc left) [] follow h own = some {line = line} (omega arith)
-rows-lines most header earlier line (suc left) (behind ∷ []) follow h own = some {line = line} (omega arith)
-rows-lines most header earlier line (suc left) (row ∷ next ∷ lines) follow h own =
-    on_line_within most line (ask_row header earlier row) (ask_rows header (name_in row ∷ earlier) (suc line) left (next ∷ lines) follow) (omega arith)
-    (λ e. rows-lines most header (name_in row ∷ earlier) (suc line) left (next ∷ lines) follow (omega arith) (λ others. rw (one_on line left) (own others)))
-
--- the questions on `C` lines: no line behind the last one's, if none is given by what follows them
-branches-lines : {A : Type 0} (most line v left : ℕ) (lines : List (List ℕ)) (follow : ℕ → List (List ℕ) → Outcome A) → line + left ≤ most
-    → ((others : List (List ℕ)) → LineWithin most (follow (line + left) others)) → LineWithin most (ask_branches line v left lines follow)
-unfolding ask_branches
-branches-lines most line v zero lines follow h own = rw add-zero at (own lines)
-branches-lines most line v (suc left) [] follow h own = some {line = line} (omega arith)
-branches-lines most line v (suc left) (behind ∷ []) follow h own = some {line = line} (omega arith)
-branches-lines most line v (suc left) (text ∷ next ∷ lines) follow h own =
-    on_line_within most line (ask (branch_form v (fields_of text)) BranchForm (Ok tt)) (ask_branches (suc line) (suc v) left (next ∷ lines) follow) (omega arith)
-    (λ e. branches-lines most (suc line) (suc v) left (next ∷ lines) follow (omega arith) (λ others. rw (one_on line left) (own others)))
+    → LineWithin most (ask_lines sort earlier line left lines follow)
+unfolding ask_lines
+lines_within most sort earlier line zero lines follow h own = rw add-zero at (own lines)
+lines_within most sort earlier line (suc left) [] follow h own = some {line = line} (omega arith)
+lines_within most sort earlier line (suc left) (behind ∷ []) follow h own = some {line = line} (omega arith)
+lines_within most sort earlier line (suc left) (text ∷ next ∷ lines) follow h own =
+    on_line_within most line (sort.asks earlier text) (ask_lines sort (text ∷ earlier) (suc line) left (next ∷ lines) follow) (omega arith)
+    (λ e. lines_within most sort (text ∷ earlier) (suc line) left (next ∷ lines) follow (omega arith) (λ others. rw (one_on line left) (own others)))
 
 -- the questions on what stands behind the rows of a job of at most 64 taxa
 after_lines : (job : Job) (line : ℕ) (lines : List (List ℕ)) → job.n ≤ 64 → line ≤ behind_rows_most → LineWithin most_lines (ask_after job line lines)
@@ -74,7 +65,7 @@ after_lines job line lines h low =
     let count = branch_count job.kind job.n in
     let tree = ask_tree job.kind job.n job.ancestors in
     let most = count_most job.kind job.n in
-    branches-lines most_lines line 2 count lines (ask_end (on_line 0 tree (value job))) (omega arith)
+    lines_within most_lines branch_sort [] line count lines (ask_end (on_line 0 tree (value job))) (omega arith)
     (λ others.
     on_line_within most_lines (line + count) (ask (nothing_more others) FileGoesOn (Ok tt)) (on_line 0 tree (value job)) (omega arith)
     (λ e. on_line_within most_lines 0 tree (value job) (omega arith) (λ passed. none)))
@@ -92,7 +83,7 @@ behind-lines : (header : Header) (lines : List (List ℕ)) → header.n ≤ 64 �
 unfolding ask_behind job_of
 behind-lines header lines h =
     let taken = taken_most header.weighed in
-    rows-lines most_lines header [] (row_line header 1) header.n (behind_header header lines) (ask_after (job_of header lines)) (omega arith)
+    lines_within most_lines (row_sort header) [] (row_line header 1) header.n (behind_header header lines) (ask_after (job_of header lines)) (omega arith)
     (λ others. after_lines (job_of header lines) (row_line header 1 + header.n) others h (omega arith))
 
 -- two lines' questions with what they bring, and what follows it
@@ -104,7 +95,7 @@ then_lines most (Err refusal) second a follow h later = some {line = 1} (omega a
 
 -- the questions on a file
 pub file-line : (file : List ℕ) → LineWithin most_lines (read_answer file)
-unfolding read_answer ask_file ask_header
+unfolding read_answer ask_file ask_header ask_weights
 file-line file =
     let lines : List (List ℕ) = lines_of file in
     let header : Header = header_in lines in

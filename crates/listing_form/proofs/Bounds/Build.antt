@@ -4,11 +4,12 @@ use mathlib.Core.Path.{◌≡◌}
 use mathlib.Core.Logic.{⊎_elim}
 use mathlib.Core.Bool.{true}
 use mathlib.Core.List.Memᴰ
-use mathlib.Core.List.{List, [], ◌∷◌, Memᴰ}
+use mathlib.Core.List.{List, [], ◌∷◌, ◌++◌, append-nil, Memᴰ}
 use Prim.Native.Nat.{ℕ, zero, suc, ◌-◌, ◌*◌, ◌≤◌}
 use native.Mathlib.Omega.{arith}
 use lib.IntN.{ℤ}
 use lib.ListN.{set}
+use Rattle.matrix_form.specs.NodeRows.{row_of}
 use Rattle.lists.specs.Tests.{every}
 use Rattle.lists.specs.Least.{least_of}
 use Rattle.lists.specs.Numbers.{numbers}
@@ -19,9 +20,9 @@ use Rattle.lists.proofs.Filled.{get_d_replicate}
 use Rattle.matrix_form.specs.Shape.{is_weight}
 use Rattle.difference_form.specs.Rows.{difference, most_difference}
 use Rattle.tree_form.specs.declared.placement.Placement.{Placement}
-use Rattle.tree_form.specs.Ancestors.{ancestor, places}
+use Rattle.tree_form.specs.Ancestors.{ancestor, tree_size}
 use Rattle.tree_form.specs.Nodes.{in_tree, nodes_in, nodes_out, other_nodes, taxa_placed}
-use Rattle.tree_form.specs.Hanging.{no_branches, linked, hung, next_htu}
+use Rattle.tree_form.specs.Hanging.{only_row_one, linked, hung, next_htu}
 use Rattle.tree_form.specs.Placing.{AfterPlacing, from_interval, nearest_interval, median_row, link_first, hang, place_on, place}
 use Rattle.tree_form.specs.declared.order.Order.{Order}
 use Rattle.tree_form.specs.declared.order.Order.TheVariants.{Advance, Closest}
@@ -58,9 +59,9 @@ pub record Small (n : ℕ) (p : Placement) : Type 0 where
   pub added : p.added ≤ most_difference
 
 -- what comes out of a placement is within these bounds
-pub record SmallAfter (n : ℕ) (placed : AfterPlacing) : Type 0 where
+pub record SmallAfter (n : ℕ) (rows : List (List ℤ)) (placed : AfterPlacing) : Type 0 where
   pub ancestors : AncestorsWithin (2 * n) placed.tree
-  pub rows : AllNear placed.rows
+  pub near : AllNear (rows ++ placed.made)
   pub placement : Small n placed.placement
 
 module _ (weights : List ℕ) (weighed : every is_weight weights ≡ true) (n : ℕ) (taxa : 1 ≤ n) where
@@ -70,10 +71,10 @@ module _ (weights : List ℕ) (weighed : every is_weight weights ≡ true) (n : 
   next-within tree = omega (arith, length_keep_le (in_tree tree) (numbers 1 n), length-numbers 1 n)
 
   -- the lower end of an interval is
-  nearest_within : (d : List ℤ → List ℤ → ℕ) (tree : List ℕ) (rows : List (List ℤ)) (b : ℕ) → nearest_interval d n tree rows b ≤ 2 * n
+  nearest_within : (d : List ℤ → List ℤ → ℕ) (tree : List ℕ) (rows : List (List ℤ)) (b : ℕ) → nearest_interval d (row_of rows) n tree b ≤ 2 * n
   unfolding nearest_interval nodes_in other_nodes
   nearest_within d tree rows b =
-      least-within (from_interval d tree rows b) (2 * n) (nodes_in tree (other_nodes n)) λ v m.
+      least-within (from_interval d (row_of rows) tree b) (2 * n) (nodes_in tree (other_nodes n)) λ v m.
       let inside = numbers-within 2 (2 * n - 3) v (keep-mem (in_tree tree) (numbers 2 (2 * n - 3)) v m).0 in
       omega arith
 
@@ -93,11 +94,11 @@ module _ (weights : List ℕ) (weighed : every is_weight weights ≡ true) (n : 
 
   module _ (tree : List ℕ) (rows : List (List ℤ)) (inside : AncestorsWithin (2 * n) tree) (near : AllNear rows) (b : ℕ) (taxon : b ≤ 2 * n) where
     -- a taxon placed on any interval
-    placed-small : (c : ℕ) → c ≤ 2 * n → SmallAfter n (place_on (difference weights) n tree rows b c)
+    placed-small : (c : ℕ) → c ≤ 2 * n → SmallAfter n rows (place_on (difference weights) (row_of rows) n tree b c)
     unfolding place_on link_first hang linked hung
     placed-small zero h = record {
       ancestors = set-within (2 * n) tree b 1 inside (omega arith);
-      rows = near;
+      near = rw (append-nil rows) near;
       placement = record { taxon = taxon; lower = omega arith; upper = omega arith; htu = omega arith; added = node_apart weights weighed rows near b 1 };
     }
     placed-small (suc c) h =
@@ -107,14 +108,14 @@ module _ (weights : List ℕ) (weighed : every is_weight weights ≡ true) (n : 
         let below = set-within (2 * n) (set tree y (ancestor tree (suc c))) (suc c) y above new in
         record {
           ancestors = set-within (2 * n) (set (set tree y (ancestor tree (suc c))) (suc c) y) b y below new;
-          rows = near_more rows (median_row rows b (suc c) (ancestor tree (suc c))) near (near_medians weights weighed rows near b (suc c) (ancestor tree (suc c)));
+          near = near_more rows (median_row (row_of rows) b (suc c) (ancestor tree (suc c))) near (near_medians weights weighed rows near b (suc c) (ancestor tree (suc c)));
           placement = record { taxon = taxon; lower = h; upper = inside (suc c); htu = new; added = interval-apart weights weighed rows near tree b (suc c) };
         }
 
     -- a taxon placed on its interval
-    place-small : SmallAfter n (place (difference weights) n tree rows b)
+    place-small : SmallAfter n rows (place (difference weights) (row_of rows) n tree b)
     unfolding place
-    place-small = placed-small (nearest_interval (difference weights) n tree rows b) (nearest_within (difference weights) tree rows b)
+    place-small = placed-small (nearest_interval (difference weights) (row_of rows) n tree b) (nearest_within (difference weights) tree rows b)
 
   -- what comes out of a build is within these bounds
   pub record SmallBuilt (built : Built) : Type 0 where
@@ -128,14 +129,14 @@ module _ (weights : List ℕ) (weighed : every is_weight weights ≡ true) (n : 
   build-small order (suc count) tree rows inside near =
       let b = next_by (difference weights) order n tree rows in
       let now = place-small tree rows inside near b (taxon-within (difference weights) order tree rows) in
-      let rest = build-small order count (place (difference weights) n tree rows b).tree (place (difference weights) n tree rows b).rows
-      now.ancestors now.rows in
+      let rest = build-small order count (place (difference weights) (row_of rows) n tree b).tree (rows ++ (place (difference weights) (row_of rows) n tree b).made)
+      now.ancestors now.near in
       record {
         placements = λ p m. ⊎_elim (λ e. rw e now.placement) (rest.placements p) (Memᴰ.cases_cons m);
       }
 
   -- the Wagner tree
   pub wagner-small : (order : Order) (rows : List (List ℤ)) → AllNear rows → SmallBuilt (wagner (difference weights) order n rows)
-  unfolding wagner build no_branches ancestor
+  unfolding wagner build only_row_one ancestor
   wagner-small order rows near =
-      build-small order (n - 1) no_branches rows (λ v. rw (get_d_replicate {A = ℕ} 0 places v) (omega arith)) near
+      build-small order (n - 1) only_row_one rows (λ v. rw (get_d_replicate {A = ℕ} 0 tree_size v) (omega arith)) near

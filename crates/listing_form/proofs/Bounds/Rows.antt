@@ -22,7 +22,6 @@ use Rattle.difference_form.proofs.Laws.Rows.{difference_limit}
 use Rattle.difference_form.proofs.Laws.Weights.{are_weights_at}
 use Rattle.tree_form.specs.Ancestors.{ancestor}
 use Rattle.tree_form.specs.Placing.{median_row, from_interval}
-use Rattle.tree_form.specs.RowLengths.{node_interval}
 use Rattle.listing_form.proofs.Totals.{limits}
 
 -- a row has at most 128 codes, each from -999 to 999
@@ -108,12 +107,12 @@ module _ (weights : List ℕ) (weighed : every is_weight weights ≡ true) (rows
       difference_limit weights (row_of rows u) (row_of rows v) (first-known weights weighed (length (row_of rows u))) (near_row u).known (near_row v).known (near_row u).narrow
 
   -- the interval difference of a node from an interval
-  pub interval-apart : (tree : List ℕ) (b c : ℕ) → from_interval (difference weights) tree rows b c ≤ most_difference
-  unfolding from_interval node_interval interval_by node_difference
+  pub interval-apart : (tree : List ℕ) (b c : ℕ) → from_interval (difference weights) (row_of rows) tree b c ≤ most_difference
+  unfolding from_interval interval_by node_difference
   interval-apart tree b c = omega (arith, node_apart b c, node_apart b (ancestor tree c))
 
   -- the medians of three nodes
-  pub near_medians : (b c e : ℕ) → Near (median_row rows b c e)
+  pub near_medians : (b c e : ℕ) → Near (median_row (row_of rows) b c e)
   unfolding median_row
   near_medians b c e = record {
     known = medians-known (row_of rows b) (row_of rows c) (row_of rows e) (near_row b).known (near_row c).known (near_row e).known;

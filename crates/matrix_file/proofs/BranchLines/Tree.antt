@@ -5,16 +5,13 @@ use mathlib.Core.List.{List}
 use Prim.Native.Nat.{ℕ, ◌-◌, ◌*◌, ◌≤◌, min}
 use native.Mathlib.Nat.{min-eq_left}
 use native.Mathlib.Omega.{arith}
-use Rattle.lists.specs.Filled.{filled}
-use Rattle.lists.proofs.Filled.{filled_at}
 use Rattle.matrix_form.specs.Outcomes.{ask}
 use Rattle.matrix_form.specs.declared.refusal.Refusal.TheVariants.{NotBranching}
 use Rattle.std.specs.Prelude.{Ok, Err}
-use Rattle.tree_form.specs.Ancestors.{ancestor, tree_with}
+use Rattle.tree_form.specs.Ancestors.{tree_with}
 use Rattle.tree_form.specs.Growing.{branching}
 use Rattle.tree_form.specs.Within.{branching_within}
 use Rattle.tree_form.proofs.Within.{branching-plain}
-use Rattle.tree_form.proofs.Lending.{branching-same}
 use Rattle.file_form.specs.declared.header.Kind.{Kind}
 use Rattle.file_form.specs.declared.header.Kind.TheVariants.{Wagner, Own}
 use Rattle.file_form.specs.Branches.{branch_count, branched, ask_tree}
@@ -24,13 +21,6 @@ use Rattle.matrix_file.proofs.BranchLines.Said.{said_in}
 -- in a `W` file nothing is asked
 pub tree-none : (text : List ℕ) (kind : Kind) (n : ℕ) → kind ≡ Wagner → Ok tt ≡ ask_tree kind n (said_in text (branch_count kind n))
 tree-none text kind n w = sym (ap (λ k. ask_tree k n (said_in text (branch_count k n))) w)
-
--- a tree with places to spare is a branching exactly if the tree is
-pub places_tested : (n : ℕ) (above : List ℕ) → n ≤ 64 → branching_within n (filled 127 0 (tree_with above)) ≡ branching n (tree_with above)
-unfolding ancestor
-places_tested n above most =
-    branching-plain n (filled 127 0 (tree_with above)) most
-    ∙ branching-same n (filled 127 0 (tree_with above)) (tree_with above) (filled_at 0 127 (tree_with above))
 
 -- an `F` file
 module _ (text : List ℕ) (kind : Kind) (n count : ℕ) (given : (n ≤ 64) × BranchesFormed (branch_count kind n) text) (own : kind ≡ Own)
@@ -44,13 +34,13 @@ module _ (text : List ℕ) (kind : Kind) (n count : ℕ) (given : (n ≤ 64) × 
   count-own = (omega (arith, c), subst (λ k. BranchesFormed k text) (sym own-count) given.1)
 
   -- the tree of the lines was tested
-  module _ (tree : List ℕ) (t : tree ≡ filled 127 0 (tree_with (said_in text count))) (right : Bool) (b : right ≡ branching_within n tree) where
+  module _ (tree : List ℕ) (t : tree ≡ tree_with (said_in text count)) (right : Bool) (b : right ≡ branching_within n tree) where
     -- the answer decides
     right_decides : right ≡ branching n (tree_with (said_in text (branch_count kind n)))
     right_decides =
         b
         ∙ ap (branching_within n) t
-        ∙ places_tested n (said_in text count) given.0
+        ∙ branching-plain n (tree_with (said_in text count)) given.0
         ∙ ap (λ k. branching n (tree_with (said_in text k))) own-count
 
     -- it is that of the question

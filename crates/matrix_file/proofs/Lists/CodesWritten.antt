@@ -11,43 +11,43 @@ use Rattle.std.specs.Prelude.{Option, Some}
 use Rattle.std.specs.Option.{unwrap_or}
 use lib.Dec.{eqb}
 use Rattle.file_form.specs.Bytes.{tab}
-use Rattle.file_form.proofs.Text.Slices.{parts_split}
+use Rattle.file_form.proofs.Text.Slices.{pieces_split}
 use Rattle.std.specs.List.{enumerate_from, slice_split}
 use Rattle.std.proofs.lemmas.List.FromFn.{length-enumerate_from}
-use Rattle.file_text.proofs.LinesSplit.{part_turn}
+use Rattle.file_text.proofs.LinesSplit.{piece_turn}
 use Rattle.file_form.specs.Decimal.{code_form, code_of}
 use Rattle.file_form.specs.Lines.{fields_of}
 use Rattle.file_form.specs.Rows.{codes_in}
 use Rattle.lists.specs.Over.{over}
 use Rattle.lists.specs.Tests.{every}
 use Rattle.lists.proofs.Every.{every_at}
-use Rattle.file_text.specs.Text.{read_as}
+use Rattle.file_text.specs.Steps.{read_as}
 use Rattle.file_text.proofs.ReadAs.{read_formed}
 use Rattle.matrix_file.proofs.Lists.WrittenLines.{over-next, over-all}
 
--- the parts of a line behind the first one, as a loop goes over them
-abbrev parts : List ℕ → List (List ℕ)
-parts line = drop 1 (slice_split (λ byte. eqb byte tab) line)
+-- the pieces of a line behind the first one, as a loop goes over them
+abbrev pieces : List ℕ → List (List ℕ)
+pieces line = drop 1 (slice_split (λ byte. eqb byte tab) line)
 
 -- they are its fields behind the first one
-parts_fields : (line : List ℕ) → parts line ≡ drop 1 (fields_of line)
+pieces_fields : (line : List ℕ) → pieces line ≡ drop 1 (fields_of line)
 unfolding fields_of
-parts_fields line = ap (drop 1) (sym (parts_split tab line))
+pieces_fields line = ap (drop 1) (sym (pieces_split tab line))
 
--- a turn of a loop over them, with their places, behind `count` of them: this field and its place
+-- a turn of a loop over them, with their indices, behind `count` of them: this field and its place
 pub field_turn : (line : List ℕ) (count : ℕ) (p : ℕ × List ℕ)
-    → (count < length (enumerate_from 0 (parts line))) × (p ≡ get_or (enumerate_from 0 (parts line)) count p)
+    → (count < length (enumerate_from 0 (pieces line))) × (p ≡ get_or (enumerate_from 0 (pieces line)) count p)
     → (p.0 ≡ count) × (count < length (drop 1 (fields_of line))) × (p.1 ≡ get_or (drop 1 (fields_of line)) count [])
 field_turn line count p turn =
-    let told = part_turn (parts line) count p turn in (
+    let told = piece_turn (pieces line) count p turn in (
       told.0,
-      omega (arith, told.1, ap length (parts_fields line)),
-      told.2 ∙ ap (λ all. get_or all count []) (parts_fields line),
+      omega (arith, told.1, ap length (pieces_fields line)),
+      told.2 ∙ ap (λ all. get_or all count []) (pieces_fields line),
     )
 
 -- and when it ends, all of them have been passed
-pub fields_passed : (line : List ℕ) (count : ℕ) → count ≡ length (enumerate_from 0 (parts line)) → count ≡ length (drop 1 (fields_of line))
-fields_passed line count e = e ∙ length-enumerate_from 0 (parts line) ∙ ap length (parts_fields line)
+pub fields_passed : (line : List ℕ) (count : ℕ) → count ≡ length (enumerate_from 0 (pieces line)) → count ≡ length (drop 1 (fields_of line))
+fields_passed line count e = e ∙ length-enumerate_from 0 (pieces line) ∙ ap length (pieces_fields line)
 
 -- the codes of a line whose fields behind the first one have the form of codes
 module _ (line : List ℕ) (all : every code_form (drop 1 (fields_of line)) ≡ true) where
@@ -55,7 +55,7 @@ module _ (line : List ℕ) (all : every code_form (drop 1 (fields_of line)) ≡ 
   abbrev fields : List (List ℕ)
   fields = drop 1 (fields_of line)
 
-  -- what the field at a place says is the next code
+  -- what the field at an index says is the next code
   pub code_next : (old out : List ℤ) (count place : ℕ) (field : List ℕ) (code : ℤ) (r : Option ℤ)
       → (place ≡ count) × (count < length fields) × (field ≡ get_or fields count [])
       → out ≡ over 0 (take count (codes_in line)) old → r ≡ read_as code_form code_of field → code ≡ unwrap_or r (pos 0)

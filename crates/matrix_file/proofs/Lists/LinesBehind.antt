@@ -2,7 +2,7 @@
 use mathlib.Core.Path.{◌≡◌, sym, ap, ◌∙◌}
 use mathlib.Core.List.{List, [], ◌∷◌}
 use mathlib.Core.Bool.{true, ◌&&◌}
-use Prim.Native.Nat.{ℕ, ◌+◌, ◌≤◌, ◌<◌}
+use Prim.Native.Nat.{ℕ, suc, ◌+◌, ◌≤◌, ◌<◌}
 use native.Mathlib.Numerals.{add-one}
 use native.Mathlib.Omega.{arith}
 use borrow.Author.Tests.{leb-true}
@@ -10,6 +10,7 @@ use lib.Dec.{leb}
 use lib.ListN.{length, get_or, take, drop, length-take, length-drop}
 use lib.Seq.{drop-cons, get_or-take}
 use Rattle.lists.specs.Tests.{every}
+use Rattle.matrix_form.specs.Shape.{most_characters}
 use Rattle.file_form.specs.Decimal.{code_form}
 use Rattle.file_form.specs.Job.{name_form}
 use Rattle.file_form.specs.Lines.{lines_of, fields_of}
@@ -35,7 +36,7 @@ module _ {A : Type 0} (xs : List A) (j : ℕ) (x : A) (others : List A) (e : dro
 -- what a row's line of the right form is made of
 pub record RowFormed (line : List ℕ) : Type 0 where
   pub several : 2 ≤ length (fields_of line)
-  pub few : length (fields_of line) ≤ 129
+  pub few : length (fields_of line) ≤ suc most_characters
   pub named : name_form (name_in line) ≡ true
   pub coded : every code_form (drop 1 (fields_of line)) ≡ true
 
@@ -43,11 +44,11 @@ pub record RowFormed (line : List ℕ) : Type 0 where
 pub row-formed : (line : List ℕ) → row_form line ≡ true → RowFormed line
 unfolding row_form
 row-formed line e =
-    let count = and_left (leb 2 (length (fields_of line)) && leb (length (fields_of line)) 129) _ e in
-    let rest = and_right (leb 2 (length (fields_of line)) && leb (length (fields_of line)) 129) _ e in
+    let count = and_left (leb 2 (length (fields_of line)) && leb (length (fields_of line)) (suc most_characters)) _ e in
+    let rest = and_right (leb 2 (length (fields_of line)) && leb (length (fields_of line)) (suc most_characters)) _ e in
     record {
       several = leb-true 2 (length (fields_of line)) (and_left (leb 2 (length (fields_of line))) _ count);
-      few = leb-true (length (fields_of line)) 129 (and_right (leb 2 (length (fields_of line))) _ count);
+      few = leb-true (length (fields_of line)) (suc most_characters) (and_right (leb 2 (length (fields_of line))) _ count);
       named = and_left (name_form (name_in line)) _ rest;
       coded = and_right (name_form (name_in line)) _ rest;
     }

@@ -1,4 +1,4 @@
--- The text behind the first n lines of another, as the last part that `splitn` gives.
+-- The text behind the first n lines of another, as the last piece that `splitn` gives.
 use mathlib.Core.Path.{◌≡◌, refl, sym, ap, ◌∙◌, subst}
 use mathlib.Core.Bool.{Bool, true, false, cond, false≢true}
 use mathlib.Core.Logic.{◌⊎◌, ⊎_elim}
@@ -22,29 +22,29 @@ use Rattle.std.proofs.lemmas.List.Splits.{slice_split_none, slice_split_at}
 use Rattle.file_form.specs.Bytes.{line_feed}
 use Rattle.file_form.specs.Lines.{lines_of}
 use Rattle.std.proofs.lemmas.List.Sums.{count_by-le-length}
-use Rattle.file_form.proofs.Text.Slices.{parts_split, parts_counted}
+use Rattle.file_form.proofs.Text.Slices.{pieces_split, pieces_counted}
 
 -- a line feed
 abbrev feeds : ℕ → Bool
 feeds byte = eqb byte line_feed
 
--- a text of which a first part is cut off: its lines are this part and those of the rest, if there is one
-part_cut : (text part rest : List ℕ) (last : Bool) → MatchBool last (text ≡ part) ((y : ℕ) × (text ≡ part ++ (y ∷ rest)))
-    → IsFirstMatchOrLen feeds text (length part) → lines_of text ≡ part ∷ cond last [] (lines_of rest)
+-- a text of which a first piece is cut off: its lines are this piece and those of the rest, if there is one
+piece_cut : (text piece rest : List ℕ) (last : Bool) → MatchBool last (text ≡ piece) ((y : ℕ) × (text ≡ piece ++ (y ∷ rest)))
+    → IsFirstMatchOrLen feeds text (length piece) → lines_of text ≡ piece ∷ cond last [] (lines_of rest)
 unfolding lines_of
-part_cut text part rest true e h =
-    parts_split line_feed text
+piece_cut text piece rest true e h =
+    pieces_split line_feed text
     ∙ ap (slice_split feeds) e
-    ∙ slice_split_none feeds part (λ k d l. subst (λ ys. feeds (get_or ys k d) ≡ false) e (h.0 k d (omega arith) l))
-part_cut text part rest false e h =
-    let front : All (λ z. feeds z ≡ false) part =
+    ∙ slice_split_none feeds piece (λ k d l. subst (λ ys. feeds (get_or ys k d) ≡ false) e (h.0 k d (omega arith) l))
+piece_cut text piece rest false e h =
+    let front : All (λ z. feeds z ≡ false) piece =
     λ k d l. let a = h.0 k d (omega arith) l in let b = e.1 in grind (arith, common_steps) in
     let hit : feeds e.0 ≡ true =
     let b = e.1 in let a = h.1 (grind (arith, common_steps)) e.0 in grind (arith, common_steps) in
-    parts_split line_feed text
+    pieces_split line_feed text
     ∙ ap (slice_split feeds) e.1
-    ∙ slice_split_at feeds part e.0 rest front hit
-    ∙ ap (λ parts. part ∷ parts) (sym (parts_split line_feed rest))
+    ∙ slice_split_at feeds piece e.0 rest front hit
+    ∙ ap (λ pieces. piece ∷ pieces) (sym (pieces_split line_feed rest))
 
 -- what a call of `next` of `splitn` does
 abbrev Cuts : {F : Type 0} → Mut F (Bor ℕ × Unit {0}) Bool → SplitN ℕ F → Option (Bor (List ℕ)) → SplitN ℕ F → Type 0
@@ -63,7 +63,7 @@ Cuts g s r t =
     → ComputesKey g p (split_callee (splitn_parts t)) × IsFirstMatchOrLen p (split_rest (splitn_parts s)) (length x.now)))
 
 module _ {F : Type 0} (g : Mut F (Bor ℕ × Unit {0}) Bool) where
-  -- of n + 1 parts of a text, of which as many come as it has n line feeds, the last is the text behind n lines
+  -- of n + 1 pieces of a text, of which as many come as it has n line feeds, the last is the text behind n lines
   pub cut_behind : (xs : List (Bor (List ℕ))) (n : ℕ) (s u : SplitN ℕ F) (r : Option (Bor (List ℕ)))
       → YieldsThen (Cuts g) s xs r u → MatchOption r (length xs ≤ n) (λ _. length xs ≡ n) → splitn_count s ≡ n + 1
       → split_done (splitn_parts s) ≡ false → ComputesKey g feeds (split_callee (splitn_parts s))
@@ -85,18 +85,18 @@ module _ {F : Type 0} (g : Mut F (Bor ℕ × Unit {0}) Bool) where
       let j = ran.1.0 in
       let step : Cuts g s (Some y) j = ran.1.1 in
       let keys = step.1.4 (omega (arith, count)) feeds key in
-      let cut = part_cut (split_rest (splitn_parts s)) y.now (split_rest (splitn_parts j)) (split_done (splitn_parts j)) step.1.2 keys.1 in
+      let cut = piece_cut (split_rest (splitn_parts s)) y.now (split_rest (splitn_parts j)) (split_done (splitn_parts j)) step.1.2 keys.1 in
       by (split_done (splitn_parts j)) refl cut
       (λ d few-lines.
       cut_behind ys n j u r (ran.0, ran.1.2, ran.2) (fewer r few) (omega (arith, step.0, count)) d keys.0 few-lines none)
     where
-      -- one part less
+      -- one piece less
       fewer : (r : Option (Bor (List ℕ))) → MatchOption r (suc (length ys) ≤ suc n) (λ _. suc (length ys) ≡ suc n)
           → MatchOption r (length ys ≤ n) (λ _. length ys ≡ n)
       fewer None h = omega arith
       fewer (Some x) h = omega arith
 
-      -- where the text ends with this part it has too few lines, and else the others are cut from the rest
+      -- where the text ends with this piece it has too few lines, and else the others are cut from the rest
       by : (b : Bool) → split_done (splitn_parts ran.1.0) ≡ b
           → lines_of (split_rest (splitn_parts s)) ≡ y.now ∷ cond b [] (lines_of (split_rest (splitn_parts ran.1.0)))
           → (split_done (splitn_parts ran.1.0) ≡ false
@@ -109,4 +109,4 @@ module _ {F : Type 0} (g : Mut F (Bor ℕ × Unit {0}) Bool) where
 -- a text has at most one line more than bytes
 pub lines_few : (text : List ℕ) → length (lines_of text) ≤ length text + 1
 unfolding lines_of
-lines_few text = omega (arith, parts_counted line_feed text, count_by-le-length feeds text)
+lines_few text = omega (arith, pieces_counted line_feed text, count_by-le-length feeds text)

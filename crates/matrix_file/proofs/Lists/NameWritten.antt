@@ -31,7 +31,7 @@ name_put out name front zeros short room f z =
     ∙ ap (λ k. padded name ++ drop k out) (whole ∙ sym size ∙ sym (zero-add (length (padded name))))
     ∙ sym (over-fits 0 (padded name) out (omega arith))
 
--- the part behind the name has room for so many zeros
+-- the piece behind the name has room for so many zeros
 pub zeros_room : (out name front : List ℕ) → length name ≤ name_size → name_size ≤ length out → front ≡ name
     → length (take (name_size - length name) (drop (length name) (front ++ drop (length name) out))) ≡ name_size - length name
 zeros_room out name front short room f =

@@ -14,26 +14,26 @@ use Rattle.matrix_form.specs.declared.refusal.Refusal.TheVariants.{ListSize}
 use Rattle.file_form.specs.declared.header.Header.{Header}
 use Rattle.std.specs.Prelude.{Result, Ok, Err}
 use Rattle.file_form.specs.declared.answer.Refused.{Refused}
-use Rattle.file_form.specs.Bytes.{line_feed, behind_part}
+use Rattle.file_form.specs.Bytes.{line_feed, behind_piece}
 use Rattle.file_form.specs.Job.{Job}
 use Rattle.file_form.specs.Lines.{lines_of}
 use Rattle.file_form.specs.Optional.{optional_fields}
 use Rattle.file_form.specs.Weights.{weights_form, weights_said}
-use Rattle.file_form.specs.Header.{header_in, header_of, header_lines, behind_header}
+use Rattle.file_form.specs.Header.{header_in, header_lines, behind_header}
 use Rattle.file_form.specs.Rows.{name_in, codes_in}
 use Rattle.tree_form.specs.LentNumbers.{records_for}
 use Rattle.file_form.specs.Branches.{branch_count}
 use Rattle.file_form.specs.Reading.{read_answer, job_in}
 use Rattle.file_form.proofs.Lists.Sizes.{sized, full}
-use Rattle.file_form.specs.Report.{read_says, with_header, ask_size, read_outcome, lists_after, ReadDone}
+use Rattle.file_form.specs.Calls.{read_says, with_header, ask_size, read_outcome, lists_after, ReadDone}
 use Rattle.file_form.specs.Formed.{RowsFormed, BranchesFormed, record_in}
-use Rattle.matrix_file.specs.Walk.{padded_in}
+use Rattle.matrix_file.specs.Steps.{padded_in}
 use Rattle.file_form.specs.Written.{padded, LentLists, job_written}
 use Rattle.file_form.proofs.File.Outcomes.{then_passed, then_refused}
 use Rattle.file_form.proofs.File.AcceptedRows.{accepted_job, accepted_most, accepted_behind, accepted_header, accepted_weights}
 use Rattle.file_form.proofs.File.AcceptedRows.{accepted_text, accepted_fields, accepted_formed, accepted_codes, accepted_names}
 use Rattle.file_form.proofs.File.AcceptedRows.{accepted_branches, accepted_records}
-use Rattle.file_form.proofs.File.FileLength.{count_most}
+use Rattle.file_form.proofs.BranchLines.Nodes.{count_most}
 
 -- lent lists
 module _ (file : List ℕ) (lists : LentLists) where
@@ -58,14 +58,14 @@ module _ (file : List ℕ) (lists : LentLists) where
     pub read_refused : (e : Refused) → answer ≡ Err e → ReadDone file lists lists (Err e)
     read_refused e r =
         done (Err e) (refusal_number e.refusal) e.line refl
-        (full file lists h ∙ then_refused (read_answer file) header_of (refusal_number e.refusal) e.line (sym a ∙ ap read_says r))
+        (full file lists h ∙ then_refused (read_answer file) (λ job. job.header) (refusal_number e.refusal) e.line (sym a ∙ ap read_says r))
 
     -- it is accepted, and what it says is written
     pub read_written : (header : Header) → answer ≡ Ok header → (new : LentLists) → new ≡ job_written (job_in file) lists
         → ReadDone file lists new (Ok header)
     unfolding lists_after
     read_written header e new w =
-        let found = then_passed (read_answer file) (λ job. value (header_of job)) header (sym a ∙ ap read_says e) in
+        let found = then_passed (read_answer file) (λ job. value job.header) header (sym a ∙ ap read_says e) in
         let outcome : read_outcome file lists ≡ value found.0 = full file lists h ∙ found.1 in
         record {
           says = sym (ap with_header outcome ∙ found.2);
@@ -75,11 +75,11 @@ module _ (file : List ℕ) (lists : LentLists) where
 -- an accepted file with a header, whose job is written into lists of full size
 module _ (file : List ℕ) (header : Header) (a : value header ≡ with_header (read_answer file)) where
   -- the job that it says
-  found : (job : Job) × (read_answer file ≡ value job) × (value (header_of job) ≡ value header)
-  found = then_passed (read_answer file) (λ job. value (header_of job)) header (sym a)
+  found : (job : Job) × (read_answer file ≡ value job) × (value job.header ≡ value header)
+  found = then_passed (read_answer file) (λ job. value job.header) header (sym a)
 
   -- the header is that of the job
-  same : header_of found.0 ≡ header
+  same : found.0.header ≡ header
   same = cc found.2
 
   -- and what is read without a question
@@ -154,7 +154,7 @@ module _ (file : List ℕ) (header : Header) (a : value header ≡ with_header (
             ∙ accepted_records file found.0 found.1 rows behind rest job_rest
             ∙ ap (λ k. map record_in (take k (lines_of rest))) job_count
 
-  module _ (text : List ℕ) (t : text ≡ behind_part line_feed file) where
+  module _ (text : List ℕ) (t : text ≡ behind_piece line_feed file) where
     -- it has the lines behind line 1
     lines : lines_of text ≡ drop 1 (lines_of file)
     lines = ap lines_of t ∙ accepted_text file found.0 found.1

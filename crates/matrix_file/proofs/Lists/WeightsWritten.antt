@@ -13,7 +13,7 @@ use Rattle.lists.specs.Over.{over}
 use Rattle.lists.specs.Tests.{every}
 use Rattle.lists.proofs.Both.{and_left, and_right, implies_iff}
 use Rattle.lists.proofs.Every.{every_at}
-use Rattle.file_form.specs.Bytes.{line_feed, first_part}
+use Rattle.file_form.specs.Bytes.{line_feed, first_piece}
 use Rattle.file_form.specs.Lines.{lines_of, fields_of}
 use Rattle.file_form.specs.Optional.{optional_fields}
 use Rattle.file_form.specs.Weights.{weight_form, weight_in, weights_form, weights_said}
@@ -21,7 +21,7 @@ use Rattle.file_header.proofs.OptionalWalk.{line_fields}
 use Rattle.std.specs.Prelude.{Option, Some}
 use Rattle.std.specs.Option.{unwrap_or}
 use Rattle.lists.proofs.Over.{over-fits}
-use Rattle.file_text.specs.Text.{read_as}
+use Rattle.file_text.specs.Steps.{read_as}
 use Rattle.file_text.proofs.ReadAs.{read_formed}
 use Rattle.matrix_file.proofs.Lists.WrittenLines.{over-next, over-all}
 
@@ -47,7 +47,7 @@ module _ (text : List ℕ) (m : ℕ) (weighed : Bool) (given : (not weighed || w
       ∙ ap (λ b. over 0 (weights_said b m (optional_fields (lines_of text))) old) (sym none)
 
   -- with it they are those of its fields
-  module _ (line : List ℕ) (l : line ≡ first_part line_feed text) (there : weighed ≡ true) where
+  module _ (line : List ℕ) (l : line ≡ first_piece line_feed text) (there : weighed ≡ true) where
     -- the fields are m weights
     formed : weights_form m (drop 1 (fields_of line)) ≡ true
     formed = ap (weights_form m) (sym (line_fields text line l)) ∙ required weighed (weights_form m (optional_fields (lines_of text))) given there

@@ -12,11 +12,11 @@ use Rattle.lists.specs.Over.{over, stripes}
 use Rattle.lists.proofs.Over.{over-lent, over-more}
 use Rattle.lists.proofs.Stripes.{length-stripes, stripes-snoc}
 use Rattle.matrix_form.specs.Shape.{columns}
-use Rattle.file_form.specs.Bytes.{tab, first_part}
+use Rattle.file_form.specs.Bytes.{tab, first_piece}
 use Rattle.file_form.specs.Lines.{lines_of, fields_of}
 use Rattle.file_form.specs.Rows.{name_in}
 use Rattle.file_form.specs.Job.{name_size}
-use Rattle.file_form.proofs.File.FileLength.{name_length}
+use Rattle.file_form.proofs.Rows.Names.{name_length}
 use Rattle.file_form.proofs.Text.Fields.{name_first}
 use Rattle.matrix_file.proofs.Lists.LinesBehind.{RowFormed}
 use Rattle.file_text.proofs.LinesSplit.{says_count, says_more}
@@ -37,7 +37,7 @@ pub codes_few : (line : List ℕ) → RowFormed line → length (drop 1 (fields_
 codes_few line formed = let few = formed.few in omega (arith, length-drop 1 (fields_of line))
 
 -- the name of a line of the right form has at most 16 bytes
-module _ (line name : List ℕ) (e : name ≡ first_part tab line) where
+module _ (line name : List ℕ) (e : name ≡ first_piece tab line) where
   -- it is what the line says
   pub name_said : name ≡ name_in line
   name_said = e ∙ sym (name_first line)
@@ -46,10 +46,10 @@ module _ (line name : List ℕ) (e : name ≡ first_part tab line) where
   pub name_short : RowFormed line → length name ≤ name_size
   name_short formed = omega (arith, ap length name_said, name_length (name_in line) formed.named)
 
--- the part of a list from a place on has as much room as is left behind the place
-pub part_room : {A : Type 0} (start size : ℕ) (xs : List A) → start + size ≤ length xs
+-- the piece of a list from an index on has as much room as is left behind the place
+pub piece_room : {A : Type 0} (start size : ℕ) (xs : List A) → start + size ≤ length xs
     → size ≤ length (take (length xs - start) (drop start xs))
-part_room start size xs h = omega (arith, length-take (length xs - start) (drop start xs), length-drop start xs)
+piece_room start size xs h = omega (arith, length-take (length xs - start) (drop start xs), length-drop start xs)
 
 -- what a loop that writes an item for each line knows when it has passed `done` lines
 pub record ItemsWritten

@@ -12,4 +12,4 @@ returns-in_err-ask c =
     rw (told.1, told.2, sym c.ask.ensures ∙ c.in_err-ask.was)
 
 pub returns : goal.returns
-returns c = floor_passed _ _ _ _ _ (sym c.ask.ensures ∙ c.in_ok-ask.was) c.floor_of.ensures
+returns c = floor_passed _ _ _ _ (sym c.ask.ensures ∙ c.in_ok-ask.was) c.floor_of.ensures

@@ -13,5 +13,5 @@ returns-in_err-ask_branching c =
 
 pub returns : goal.returns
 returns c =
-    index_passed _ _ _ _ _ _ _ _ _ (sym c.ask_branching.ensures ∙ c.in_ok-ask_branching.was)
+    index_passed _ _ _ _ _ _ _ _ (sym c.ask_branching.ensures ∙ c.in_ok-ask_branching.was)
     c.tree_of-tree.ensures c.floor_of-floor.ensures c.total_of-total.ensures c.index_of.ensures

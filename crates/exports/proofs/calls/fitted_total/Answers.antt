@@ -6,4 +6,5 @@ use Rattle.exports.proofs.calls.fitted_total.Goals as goal
 pub returns : goal.returns
 returns c =
     let asked = c.in_ok-order.ensures in
-    tree_fitted _ _ _ _ _ _ _ _ (sym c.lists_full.ensures ∙ c.if-not-lists_full.false) asked.0 _ asked.1 _ _ c.in_ok-built.ensures _ _ _ _ c.fit_tree-fit.ensures
+    tree_fitted _ _ _ _ _ _ _ (sym c.lists_full.ensures
+    ∙ c.if-not-lists_full.false) asked.0 _ asked.1 _ _ c.in_ok-built.ensures _ _ _ _ c.fit_tree-fit.ensures

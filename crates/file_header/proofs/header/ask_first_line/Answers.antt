@@ -4,7 +4,7 @@ use Rattle.std.proofs.lemmas.Result.{err_from_is_err_and}
 use Rattle.file_header.proofs.HeaderWalk.{no_feed, bad_first, bad_order, beyond, header_said}
 use Rattle.file_text.proofs.ReadAs.{formed_read}
 use Rattle.file_form.specs.Header.{first_form}
-use Rattle.file_header.specs.Answered.{first_said}
+use Rattle.file_header.specs.Steps.{first_said}
 use Rattle.file_header.proofs.header.ask_first_line.Goals as goal
 
 pub returns-in_default : goal.returns-in_default

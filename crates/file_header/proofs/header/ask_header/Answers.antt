@@ -1,7 +1,7 @@
 -- `file_header::header::ask_header` meets its contract: line 1 decides, and then the weights.
 use mathlib.Core.Path.{sym, ap, ◌∙◌}
 use Rattle.std.proofs.lemmas.Result.{err_from_is_err_and}
-use Rattle.file_header.specs.Answered.{at_line}
+use Rattle.file_header.specs.Steps.{at_line}
 use Rattle.file_header.proofs.WholeHeader.{first_refused, weights-refused, weights_passed}
 use Rattle.file_header.proofs.header.ask_header.Goals as goal
 
@@ -14,10 +14,10 @@ pub returns-in_err-on_line : goal.returns-in_err-on_line
 returns-in_err-on_line c =
     let told = err_from_is_err_and c.from_residual-in_err-on_line.result c.from_residual-in_err-on_line.ensures.1 in
     rw (told.1, told.2)
-    (weights-refused _ _ (ap (at_line 1) (sym c.ask_first_line.ensures) ∙ sym c.on_line.ensures ∙ c.in_ok-header.was) _ c.behind_part.ensures _
+    (weights-refused _ _ (ap (at_line 1) (sym c.ask_first_line.ensures) ∙ sym c.on_line.ensures ∙ c.in_ok-header.was) _ c.behind_piece.ensures _
     c.ask_weights.ensures _ (sym c.on_line-2.ensures ∙ c.in_err-on_line.was))
 
 pub returns : goal.returns
 returns c =
-    weights_passed _ _ (ap (at_line 1) (sym c.ask_first_line.ensures) ∙ sym c.on_line.ensures ∙ c.in_ok-header.was) _ c.behind_part.ensures _
+    weights_passed _ _ (ap (at_line 1) (sym c.ask_first_line.ensures) ∙ sym c.on_line.ensures ∙ c.in_ok-header.was) _ c.behind_piece.ensures _
     c.ask_weights.ensures (sym c.on_line-2.ensures ∙ c.in_ok-on_line.was)

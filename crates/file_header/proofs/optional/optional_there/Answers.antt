@@ -6,10 +6,10 @@ use Rattle.file_header.proofs.OptionalWalk.{word_decides}
 use Rattle.file_header.proofs.optional.optional_there.Goals as goal
 
 pub returns-in_default : goal.returns-in_default
-returns-in_default c = sym (other_text _ _ (λ e. omega (arith, bytes_read e))) ∙ word_decides _ _ _ _ c.first_part.ensures c.field.ensures
+returns-in_default c = sym (other_text _ _ (λ e. omega (arith, bytes_read e))) ∙ word_decides _ _ _ _ c.first_piece.ensures c.field.ensures
 
 pub returns-in_default-2 : goal.returns-in_default-2
-returns-in_default-2 c = sym (other_text _ _ (λ e. omega (arith, bytes_read e))) ∙ word_decides _ _ _ _ c.first_part.ensures c.field.ensures
+returns-in_default-2 c = sym (other_text _ _ (λ e. omega (arith, bytes_read e))) ∙ word_decides _ _ _ _ c.first_piece.ensures c.field.ensures
 
 pub returns : goal.returns
-returns c = letter_is _ _ (omega arith) (omega arith) ∙ word_decides _ _ _ _ c.first_part.ensures c.field.ensures
+returns c = letter_is _ _ (omega arith) (omega arith) ∙ word_decides _ _ _ _ c.first_piece.ensures c.field.ensures

@@ -9,8 +9,8 @@ use Rattle.std.specs.List.{list_all}
 use Rattle.file_form.specs.Bytes.{tab}
 use Rattle.file_form.specs.Lines.{fields_of}
 use Rattle.file_form.specs.Weights.{weight_form, weight_in}
-use Rattle.file_form.proofs.Text.Slices.{parts_split}
-use Rattle.file_text.specs.Text.{read_as}
+use Rattle.file_form.proofs.Text.Slices.{pieces_split}
+use Rattle.file_text.specs.Steps.{read_as}
 use Rattle.file_text.proofs.LinesSplit.{fields_yielded}
 use Rattle.file_header.proofs.WeightFields.{all_read, other-count, fields_decide}
 use Rattle.file_header.proofs.weights.weights_form.Goals as goal
@@ -21,7 +21,7 @@ returns-then-separators-m c =
     all_from_yields_List (λ field. is_some (read_as weight_form weight_in field)) _ _ c.all.result c.all.ensures.ran
     (fields_yielded c.args.line.now c.skip.ensures.source c.skip.ensures.count c.split.ensures.rest c.split.ensures.done c.split.ensures.closure (λ x b q k. search (rules, tests)))
     (λ x b q k. search (rules, tests))
-    ∙ ap (λ parts. list_all (λ field. is_some (read_as weight_form weight_in field)) (drop 1 parts)) (sym (parts_split tab c.args.line.now))
+    ∙ ap (λ pieces. list_all (λ field. is_some (read_as weight_form weight_in field)) (drop 1 pieces)) (sym (pieces_split tab c.args.line.now))
     ∙ all_read (drop 1 (fields_of c.args.line.now))
     ∙ fields_decide _ _ _ c.separators.ensures c.if-separators-m.true
 

@@ -14,15 +14,15 @@ use Rattle.file_lines.proofs.rows.ask_codes.Goals as goal
 pub loop-field-init : goal.loop-field-init
 loop-field-init c = (search (rules, of_calls), search (rules, of_calls), refl)
 
-pub returns-in_err-ask_code : goal.returns-in_err-ask_code
-returns-in_err-ask_code c =
+pub returns-in_err-ask_field : goal.returns-in_err-ask_field
+returns-in_err-ask_field c =
     let told = err_from_is_err_and c.from_residual.result c.from_residual.ensures.1 in
     let turn = YieldsList-turn
     (YieldsList-at c.into_iter-field-iterator.ensures.into_iter_gives
     (fields_yielded c.args.line.now c.skip-field-items.ensures.source c.skip-field-items.ensures.count c.split.ensures.rest c.split.ensures.done c.split.ensures.closure (λ x b q k. search (rules, tests))))
     c.loop-field.yielded c.loop-field.field-iterator c.loop-field.yielded_by c.next.result c.next.new.self c.in-Some.field c.in-Some.is
     c.next.ensures.steps in
-    rw (told.1, told.2) (walk-refused _ _ c.loop-field.invariant.2 _ turn _ (sym c.ask_code.ensures ∙ c.in_err-ask_code.was))
+    rw (told.1, told.2) (walk-refused _ _ c.loop-field.invariant.2 _ turn _ (sym c.ask_field.ensures ∙ c.in_err-ask_field.was))
 
 pub loop-field-preserved : goal.loop-field-preserved
 loop-field-preserved c =
@@ -33,7 +33,7 @@ loop-field-preserved c =
     c.next.ensures.steps in (
       search (rules, of_calls),
       search (rules, of_calls),
-      walk_passed _ _ c.loop-field.invariant.2 _ turn (sym c.ask_code.ensures ∙ c.in_ok-ask_code.was)
+      walk_passed _ _ c.loop-field.invariant.2 _ turn (sym c.ask_field.ensures ∙ c.in_ok-ask_field.was)
           ∙ ap (λ k. ask_codes (drop k (drop 1 (fields_of c.args.line.now)))) (sym (length-append c.loop-field.yielded (c.in-Some.field ∷ []))),
     )
 

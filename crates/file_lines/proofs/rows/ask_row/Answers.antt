@@ -9,14 +9,14 @@ returns-then-separators-header c =
 
 pub returns-then-not-name_form : goal.returns-then-not-name_form
 returns-then-not-name_form c =
-    bad_name _ _ _ _ (fields_count _ _ c.separators.ensures) _ c.first_part-name.ensures c.if-separators-header.false _ c.name_form.ensures c.if-not-name_form.true
+    bad_name _ _ _ _ (fields_count _ _ c.separators.ensures) _ c.first_piece-name.ensures c.if-separators-header.false _ c.name_form.ensures c.if-not-name_form.true
 
 pub returns-then-is_taken : goal.returns-then-is_taken
 returns-then-is_taken c =
-    name_taken _ _ _ _ (fields_count _ _ c.separators.ensures) _ c.first_part-name.ensures c.if-separators-header.false _ c.name_form.ensures c.if-not-name_form.false _
+    name_taken _ _ _ _ (fields_count _ _ c.separators.ensures) _ c.first_piece-name.ensures c.if-separators-header.false _ c.name_form.ensures c.if-not-name_form.false _
     c.is_taken.ensures c.if-is_taken.true
 
 pub returns : goal.returns
 returns c =
-    codes_decide _ _ _ _ (fields_count _ _ c.separators.ensures) _ c.first_part-name.ensures c.if-separators-header.false _ c.name_form.ensures c.if-not-name_form.false _
+    codes_decide _ _ _ _ (fields_count _ _ c.separators.ensures) _ c.first_piece-name.ensures c.if-separators-header.false _ c.name_form.ensures c.if-not-name_form.false _
     c.is_taken.ensures c.if-is_taken.false _ c.ask_codes.ensures

@@ -34,7 +34,7 @@ loop-v-preserved c =
           (up_next plan.n _ rows j c.args.codes.now codes branches plan.walk.items (c.plan.invariant.walking.walks branches)
           plan.below c.plan.invariant.below loop.parts loop.invariant.0 (plan.walk.count - (i + 1))
           (omega (arith, back.0, c.plan.invariant.walking.count branches)) c.part_of.result part
-          (c.plan.invariant.walking.places (plan.walk.count - (i + 1))) (rw before at (loop.invariant.1 rows j codes branches))),
+          (c.plan.invariant.walking.within (plan.walk.count - (i + 1))) (rw before at (loop.invariant.1 rows j codes branches))),
     )
 
 pub returns : goal.returns

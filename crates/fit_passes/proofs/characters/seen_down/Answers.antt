@@ -2,7 +2,6 @@
 use Rattle.std.proofs.Common.{◌≡◌, ℕ, ◌<◌, ◌≤◌, List, length, get_or, ℤ, refl, ap, ◌∙◌, subst, arith, length-set, length-take, get_or-take, to_z-of_z, w32, to_z, of_z}
 use borrow.Author.Rules.{sfits_of}
 use Rattle.matrix_form.specs.Shape.{last_node}
-use Rattle.tree_form.specs.Ancestors.{ancestor}
 use Rattle.tree_walk.specs.Walks.{node_at}
 use Rattle.fit_passes.specs.Steps.{SeenDown, seen_at}
 use Rattle.fit_passes.proofs.Pass.Standing.{sister_within}
@@ -16,21 +15,21 @@ loop-v-init c = (refl, λ rows j codes branches parts k l h. absurd (omega arith
 
 pub offset_bounds-parts-sister : goal.offset_bounds-parts-sister
 offset_bounds-parts-sister c =
-    let most : c.sister.result ≤ 126 = rw c.sister.ensures (sister_within _ _ (c.plan.invariant.below.within c.place_of-u.result)) in
+    let most : c.sister.result ≤ 126 = rw c.sister.ensures (sister_within _ _ (c.plan.invariant.below.within c.tree_index-u.result)) in
     omega (arith, most)
 
 pub bounds-parts-sister : goal.bounds-parts-sister
 bounds-parts-sister c =
-    let most : c.sister.result ≤ 126 = rw c.sister.ensures (sister_within _ _ (c.plan.invariant.below.within c.place_of-u.result)) in
+    let most : c.sister.result ≤ 126 = rw c.sister.ensures (sister_within _ _ (c.plan.invariant.below.within c.tree_index-u.result)) in
     omega (arith, most)
 
 pub loop-v-preserved : goal.loop-v-preserved
-unfolding node_at ancestor
+unfolding node_at
 loop-v-preserved c =
     let loop = c.loop-v in
     let inv = loop.invariant in
     let plan = c.plan.inside in
-    let u = c.place_of-u.result in
+    let u = c.tree_index-u.result in
     let listed = c.as_slice-v-items.ensures in
     let before : loop.v-index < plan.walk.count =
     omega (arith, c.loop-v-test.true, ap length listed, length-take plan.walk.count plan.walk.items) in
@@ -39,7 +38,7 @@ loop-v-preserved c =
     let above : ℤ = (seen_at loop.seen u).state in
     let above-is : to_z w32 (of_z w32 above) ≡ above = to_z-of_z {w = w32} (sfits_of c.struct_told-1.given.0.1) in
     let state = rw (above-is, here) at c.state_of.ensures in
-    let place = rw here at c.place_of-u.ensures in
+    let place = rw (c.ancestor.ensures, here) at c.tree_index-u.ensures in
     let outside = rw (c.sister.ensures, here) at c.outside_of.ensures in (
       simp length-set inv.0,
       λ rows j codes_are branches parts.
@@ -47,7 +46,7 @@ loop-v-preserved c =
           (down_next plan.n _ rows j c.args.codes.now codes_are branches plan.walk.items (c.plan.invariant.walking.walks branches)
           plan.below c.plan.invariant.below c.args.parts.now parts loop.seen inv.0 loop.v-index
           (omega (arith, before, c.plan.invariant.walking.count branches)) (inv.1 rows j codes_are branches parts) u place _ _
-          (c.plan.invariant.walking.places loop.v-index) state outside),
+          (c.plan.invariant.walking.within loop.v-index) state outside),
     )
 
 pub returns : goal.returns

@@ -1,4 +1,4 @@
--- `fit_sets::spans::carry` meets its contract. The loop's invariant: the places passed and what is still carried make up the list.
+-- `fit_sets::spans::carry` meets its contract. The loop's invariant: the entries passed and what is still carried make up the list.
 use Rattle.std.proofs.Common.{◌≡◌, ◌++◌, length, take, drop}
 use Rattle.fit_sets.specs.Steps.{carried}
 use Rattle.fit_sets.proofs.spans.carry.Given as goal

@@ -5,7 +5,7 @@ use borrow.Author.Rules.{sfits_of}
 use lib.Signed.{nat_abs-le}
 use Rattle.difference_form.specs.Rows.{apart, lower, higher}
 use Rattle.difference_form.proofs.Laws.Codes.{apart-most}
-use Rattle.fit_form.specs.declared.spans.Span.{Span}
+use Rattle.matrix_form.specs.declared.spans.Span.{Span}
 use Rattle.fit_form.specs.Sets.{gap}
 use Rattle.fit_sets.specs.Steps.{GapOf}
 use Rattle.fit_form.proofs.Bits.{of_bits}

@@ -3,7 +3,7 @@ use mir.Syntax.{w32}
 use Rattle.std.proofs.Common.{◌≡◌, ℤ, ◌∙◌, ap₂, to_z-of_z}
 use borrow.Author.Rules.{sfits_of}
 use Rattle.difference_form.specs.Rows.{lower, higher}
-use Rattle.fit_form.specs.declared.spans.Span.{Span}
+use Rattle.matrix_form.specs.declared.spans.Span.{Span}
 use Rattle.fit_form.specs.Sets.{join}
 use Rattle.fit_form.proofs.Bits.{of_bits}
 use Rattle.fit_form.proofs.Sets.Distance.{span}

@@ -1,7 +1,7 @@
 -- `fitting::calls::ask_node` meets its contract: each answer follows from the tests that led to it. Assumes nothing.
-use Rattle.std.proofs.Common.{Ok, ◌≡◌, ℕ, ◌-◌, ◌^◌, min, List, length, ℤ, sym, ◌∙◌, rules, eq-eqb}
+use Rattle.std.proofs.Common.{Ok, ◌≡◌, ℕ, ◌-◌, ◌^◌, min, List, length, sym, ◌∙◌, rules, eq-eqb}
 use Rattle.std.proofs.lemmas.Result.{err_from_is_err_and}
-use Rattle.matrix_form.specs.Shape.{last_node}
+use Rattle.matrix_form.specs.Shape.{last_node, MatrixLists}
 use Rattle.matrix_form.specs.Questions.{ask_matrix, one_to}
 use Rattle.matrix_form.specs.Outcomes.{ask}
 use Rattle.matrix_form.specs.declared.refusal.Refusal.TheVariants.{NotThere, NotBranching}
@@ -11,15 +11,16 @@ use Rattle.tree_form.specs.Branches.{lent_branching}
 use Rattle.fit_form.specs.Handing.{ask_node}
 use Rattle.fitting.proofs.LastNode.{last_told}
 use Rattle.fitting.proofs.calls.ask_node.Goals as goal
+use Rattle.matrix.specs.Lent.{lent_lists}
 
 -- the questions, where those on the matrix have passed
-passed_on : (codes : List ℤ) (weights : List ℕ) (n m : ℕ) (records : List Branch) (v j last : ℕ) → length records ≡ 125
-    → ask_matrix codes weights n m ≡ Ok tt → last ≡ min (last_node n) (2 ^ 64 - 1)
-    → ask_node codes weights n m records v j
+passed_on : (lists : MatrixLists) (n m : ℕ) (records : List Branch) (v j last : ℕ) → length records ≡ 125
+    → ask_matrix lists n m ≡ Ok tt → last ≡ min (last_node n) (2 ^ 64 - 1)
+    → ask_node lists n m records v j
     ≡ ask (one_to last v) NotThere (ask (one_to m j) NotThere (ask (lent_branching n records) NotBranching (Ok tt)))
 unfolding ask_node
-passed_on codes weights n m records v j last size passed told =
-    let is = last_told n last (matrix_passed codes weights n m passed).taxa told in
+passed_on lists n m records v j last size passed told =
+    let is = last_told n last (matrix_passed lists n m passed).taxa told in
     rw (eq-eqb _ _ size, passed, is)
 
 pub returns-in_err-ask : goal.returns-in_err-ask
@@ -31,19 +32,22 @@ returns-in_err-ask c =
 
 pub returns-then-not-one_to : goal.returns-then-not-one_to
 returns-then-not-one_to c =
-    let asked = passed_on c.args.lent.now.matrix.now c.args.lent.now.weights.now c.args.lent.now.n c.args.lent.now.m c.args.records.now c.args.node c.args.character _ (search rules)
+    let asked = passed_on (lent_lists c.args.lent.now) c.args.lent.now.n c.args.lent.now.m c.args.records.now c.args.node
+    c.args.character _ (search rules)
     (sym c.ask.ensures ∙ c.in_ok-ask.was) c.last_node.ensures in
     rw (asked, sym c.one_to.ensures ∙ c.if-not-one_to.true)
 
 pub returns-then-not-one_to-2 : goal.returns-then-not-one_to-2
 returns-then-not-one_to-2 c =
-    let asked = passed_on c.args.lent.now.matrix.now c.args.lent.now.weights.now c.args.lent.now.n c.args.lent.now.m c.args.records.now c.args.node c.args.character _ (search rules)
+    let asked = passed_on (lent_lists c.args.lent.now) c.args.lent.now.n c.args.lent.now.m c.args.records.now c.args.node
+    c.args.character _ (search rules)
     (sym c.ask.ensures ∙ c.in_ok-ask.was) c.last_node.ensures in
     rw (asked, sym c.one_to.ensures ∙ c.if-not-one_to.false, sym c.one_to-2.ensures ∙ c.if-not-one_to-2.true)
 
 pub returns-then-not-lent_branching : goal.returns-then-not-lent_branching
 returns-then-not-lent_branching c =
-    let asked = passed_on c.args.lent.now.matrix.now c.args.lent.now.weights.now c.args.lent.now.n c.args.lent.now.m c.args.records.now c.args.node c.args.character _ (search rules)
+    let asked = passed_on (lent_lists c.args.lent.now) c.args.lent.now.n c.args.lent.now.m c.args.records.now c.args.node
+    c.args.character _ (search rules)
     (sym c.ask.ensures ∙ c.in_ok-ask.was) c.last_node.ensures in
     rw (
       asked,
@@ -54,7 +58,8 @@ returns-then-not-lent_branching c =
 
 pub returns : goal.returns
 returns c =
-    let asked = passed_on c.args.lent.now.matrix.now c.args.lent.now.weights.now c.args.lent.now.n c.args.lent.now.m c.args.records.now c.args.node c.args.character _ (search rules)
+    let asked = passed_on (lent_lists c.args.lent.now) c.args.lent.now.n c.args.lent.now.m c.args.records.now c.args.node
+    c.args.character _ (search rules)
     (sym c.ask.ensures ∙ c.in_ok-ask.was) c.last_node.ensures in
     rw (
       asked,

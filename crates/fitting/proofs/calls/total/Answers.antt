@@ -13,4 +13,4 @@ returns-in_err-ask_branching c =
 
 pub returns : goal.returns
 returns c =
-    total_passed _ _ _ _ _ _ _ (sym c.ask_branching.ensures ∙ c.in_ok-ask_branching.was) c.tree_of-tree.ensures c.total_of.ensures
+    total_passed _ _ _ _ _ _ (sym c.ask_branching.ensures ∙ c.in_ok-ask_branching.was) c.tree_of-tree.ensures c.total_of.ensures

@@ -13,6 +13,7 @@ use Rattle.fit_form.proofs.Adding.{added_up}
 use Rattle.fitting.proofs.Columns.{characters-most}
 use Rattle.fitting.proofs.ByCharacter.{total-characters}
 use Rattle.fitting.proofs.totals.sum_costs.Goals as goal
+use Rattle.matrix.specs.Lent.{lent_lists}
 
 pub returns : goal.returns
 returns c =
@@ -27,7 +28,7 @@ returns c =
           fold_from_yields_List _ (λ (a x : ℕ). (a + x) % (2 ^ 64)) 0 c.fold.result c.fold.ensures.ran
           (YieldsList-from_map _ cost (YieldsList-from_range 1 (m + 1) m c.map.ensures.source (omega arith)) c.map.ensures.closure
           (λ x r q k.
-          let is : CostOf nodes.lent.matrix.now nodes.lent.weights.now plan.taxa m plan.tree x r = search (rules, tests) in
+          let is : CostOf (lent_lists nodes.lent) plan.taxa m plan.tree x r = search (rules, tests) in
           (search rules, is.is branches lent weighed)))
           (λ a x b q k. search (rules, tests))
           ∙ ap (λ (xs : List ℕ). fold (λ (a x : ℕ). (a + x) % (2 ^ 64)) 0 (map cost xs)) (range-numbers 1 m)

@@ -20,8 +20,8 @@ loop-v-preserved c =
     let end = last_number _ _ few c.last_node-v-end.ensures in
     let tree = c.args.plan.now.tree in
     let states = c.args.states.now in
-    let place = rw c.ancestor.ensures at c.place_of-u.ensures in
-    let above = states_at states c.place_of-u.result in
+    let place = rw c.ancestor.ensures at c.tree_index-u.ensures in
+    let above = states_at states c.tree_index-u.result in
     let more : Longer c.args.weight (states_at states loop.v) above (branch_at loop.branches loop.v)
     c.lengthened.result = c.lengthened.ensures in
     let same = inv.1.outside loop.v (λ l h. omega arith) in (

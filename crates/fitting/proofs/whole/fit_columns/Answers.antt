@@ -6,11 +6,12 @@ use Rattle.fitting.proofs.Rewriting.{length-column}
 use Rattle.fitting.proofs.Gathering.{start_written, written_more}
 use Rattle.fitting.specs.Lists.{Lengthened}
 use Rattle.fitting.proofs.whole.fit_columns.Goals as goal
+use Rattle.matrix.specs.Lent.{lent_lists}
 
 pub loop-j-init : goal.loop-j-init
 loop-j-init c =
     let none : c.default-branches.result ≡ no_branch = search rules in
-    (refl, refl, refl, rw none (start_written _ _ _ _ _ _ _ _))
+    (refl, refl, refl, rw none (start_written _ _ _ _ _ _ _))
 
 pub loop-j-preserved : goal.loop-j-preserved
 loop-j-preserved c =
@@ -30,7 +31,7 @@ loop-j-preserved c =
       ap length low ∙ length-column n j _ loop.low ∙ inv.0,
       ap length high ∙ length-column n j _ loop.high ∙ inv.1,
       ap length chosen ∙ length-column n j _ loop.chosen ∙ inv.2,
-      written_more c.args.nodes.now.lent.matrix.now c.args.nodes.now.lent.weights.now n c.args.nodes.now.lent.m j first taken c.args.plan.now.tree _
+      written_more (lent_lists c.args.nodes.now.lent) n c.args.nodes.now.lent.m j first taken c.args.plan.now.tree _
           (rw c.taxa.ensures at c.codes_of-codes.ensures)
           _ c.fit_character-states.ensures _ _ _ _ _ _ _ _ _ _ _
           inv.3 low high chosen longer,

@@ -4,10 +4,10 @@ use Rattle.fitting.proofs.Shapes.{shaped, sizes, not_shaped, not_full, tree-fitt
 use Rattle.fitting.proofs.whole.fit_tree.Goals as goal
 
 pub returns-then-not-matrix_shaped : goal.returns-then-not-matrix_shaped
-returns-then-not-matrix_shaped c = not_shaped _ _ _ _ _ _ _ _ _ (sym c.matrix_shaped.ensures ∙ c.if-not-matrix_shaped.true)
+returns-then-not-matrix_shaped c = not_shaped _ _ _ _ _ _ _ _ (sym c.matrix_shaped.ensures ∙ c.if-not-matrix_shaped.true)
 
 pub returns-then-not-lists_full : goal.returns-then-not-lists_full
-returns-then-not-lists_full c = not_full _ _ _ _ _ _ _ _ _ (sym c.lists_full.ensures ∙ c.if-not-lists_full.true)
+returns-then-not-lists_full c = not_full _ _ _ _ _ _ _ _ (sym c.lists_full.ensures ∙ c.if-not-lists_full.true)
 
 pub fit_columns-branches-requires : goal.fit_columns-branches-requires
 fit_columns-branches-requires c = record {
@@ -23,7 +23,7 @@ sum_lengths-requires c = rw c.of-plan.ensures (shaped _ _ _ (sym c.matrix_shaped
 pub returns : goal.returns
 returns c =
     let written = rw c.of-plan.ensures at c.fit_columns-branches.ensures in
-    tree-fitted _ _ _ _ _ _ _ _ _ _ _ _ _ written (rw c.of-plan.ensures at c.sum_lengths.ensures)
+    tree-fitted _ _ _ _ _ _ _ _ _ _ _ _ written (rw c.of-plan.ensures at c.sum_lengths.ensures)
 
 pub invariant_of-nodes : goal.invariant_of-nodes
 invariant_of-nodes c = record { narrow = (shaped _ _ _ (sym c.matrix_shaped.ensures ∙ c.if-not-matrix_shaped.false)).characters }

@@ -18,9 +18,9 @@ returns-then-not-one_to c = record {
       ∙ c.if-not-one_to.true)));
 }
 
-pub returns-then-v-ge-PLACES : goal.returns-then-v-ge-PLACES
+pub returns-then-v-ge-TREE_SIZE : goal.returns-then-v-ge-TREE_SIZE
 unfolding last_node
-returns-then-v-ge-PLACES c = record { are = λ branches lent p q l h. let few = lent.taxa in let far = c.if-v-ge-PLACES.true in absurd (omega arith) }
+returns-then-v-ge-TREE_SIZE c = record { are = λ branches lent p q l h. let few = lent.taxa in let far = c.if-v-ge-TREE_SIZE.true in absurd (omega arith) }
 
 pub returns : goal.returns
 returns c =

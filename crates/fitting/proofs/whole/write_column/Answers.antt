@@ -25,7 +25,7 @@ loop-v-preserved g c =
     let taxa = c.taxa-n.ensures in
     let few : c.taxa-n.result ≤ 64 = omega (arith, taxa, c.requires.shape.2) in
     let end = last_number _ _ few c.last_node-v-end.ensures in
-    let place : c.place_of_code.result ≡ (loop.v - 1) * columns + (c.args.j - 1) = omega (arith, c.place_of_code.ensures) in (
+    let place : c.index_of_code.result ≡ (loop.v - 1) * columns + (c.args.j - 1) = omega (arith, c.index_of_code.ensures) in (
       simp length-set inv.0,
       λ which picks.
           rw (place, to_z-of_z {w = w32} (sfits_of c.state.type_inv), picks _ _ c.state.ensures)

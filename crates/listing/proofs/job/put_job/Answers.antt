@@ -2,7 +2,7 @@
 use mathlib.Core.Path.{◌∙◌, ap}
 use Rattle.tree_form.specs.Branches.{lent_branching}
 use Rattle.tree_form.specs.Within.{branching_within}
-use Rattle.fitting.proofs.Passed.{places-branching}
+use Rattle.fitting.proofs.Passed.{size-branching}
 use Rattle.listing.specs.Found.{lists_of}
 use Rattle.listing.proofs.PutJobs.{built_put, own_put}
 use Rattle.listing.proofs.job.put_job.Goals as goal
@@ -11,7 +11,7 @@ pub fitted_of-fitted-requires-clause-branching : goal.fitted_of-fitted-requires-
 fitted_of-fitted-requires-clause-branching c =
     let one = ap (lent_branching c.args.header.n) c.records_in.ensures ∙ c.requires.branching_lent c.in-Own.is in
     rw c.lent.ensures.n
-    (ap (branching_within c.args.header.n) c.tree_of-tree.ensures ∙ places-branching _ _ _ _ c.requires.lent_matrix.0 one)
+    (ap (branching_within c.args.header.n) c.tree_of-tree.ensures ∙ size-branching _ _ _ _ c.requires.lent_matrix.0 one)
 
 pub returns-in-Wagner : goal.returns-in-Wagner
 returns-in-Wagner c =

@@ -1,4 +1,4 @@
--- `matrix_file::behind::behind_lines` meets its contract: of `count` + 1 parts, the last is what stands behind `count` lines.
+-- `matrix_file::behind::behind_lines` meets its contract: of `count` + 1 pieces, the last is what stands behind `count` lines.
 use mathlib.Core.Path.{◌≡◌, sym, ap, ◌∙◌, subst}
 use Prim.Native.Nat.{◌<◌}
 use native.Mathlib.Omega.{arith}

@@ -11,7 +11,7 @@ use Rattle.tree_form.specs.LentNumbers.{record_size, record_numbers}
 use Rattle.file_form.specs.Branches.{ancestor_in}
 use Rattle.file_form.specs.Formed.{record_in}
 use Rattle.matrix_file.proofs.BranchLines.Said.{line_told}
-use Rattle.matrix_file.proofs.Lists.WrittenLines.{ItemsWritten, part_room, items_start, item_room, items_next, items_all}
+use Rattle.matrix_file.proofs.Lists.WrittenLines.{ItemsWritten, piece_room, items_start, item_room, items_next, items_all}
 use Rattle.matrix_file.proofs.branches.write_branches.Goals as goal
 use Rattle.matrix_file.proofs.branches.write_branches.Goals.{In-Some}
 
@@ -37,7 +37,7 @@ number_in-requires-in-loop-i c = (line_told _ _ c.requires.1 _ _ _ (turn (goal.a
 
 pub write_record-requires : goal.write_record-requires
 write_record-requires c =
-    part_room (c.in-Some.i * record_size) record_size c.loop-i.branches
+    piece_room (c.in-Some.i * record_size) record_size c.loop-i.branches
     (item_room record_size record_in _ _ _ c.requires.1.more c.requires.0 _ _ c.loop-i.invariant.2 _ _ (turn (goal.at.write_record-requires c).In-Some))
 
 pub loop-i-preserved : goal.loop-i-preserved

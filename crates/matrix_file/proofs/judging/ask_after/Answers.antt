@@ -2,8 +2,8 @@
 use mathlib.Core.Path.{sym, ap, ◌∙◌}
 use native.Mathlib.Omega.{arith}
 use Rattle.std.proofs.lemmas.Result.{err_from_is_err_and}
-use Rattle.file_form.proofs.File.FileLength.{count_most}
-use Rattle.file_lines.specs.Asked.{left_of}
+use Rattle.file_form.proofs.BranchLines.Nodes.{count_most}
+use Rattle.matrix_file.specs.Steps.{left_of}
 use Rattle.matrix_file.proofs.FileWalk.{branches-refused, end_refused, branches-formed, tree_decides}
 use Rattle.matrix_file.proofs.judging.ask_after.Goals as goal
 

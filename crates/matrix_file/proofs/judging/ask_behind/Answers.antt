@@ -1,7 +1,7 @@
 -- `matrix_file::judging::ask_behind` meets its contract: a refusal of the rows stands, and then what stands behind them decides.
 use mathlib.Core.Path.{ap}
 use Rattle.std.proofs.lemmas.Result.{err_from_is_err_and}
-use Rattle.file_lines.specs.Asked.{left_of}
+use Rattle.matrix_file.specs.Steps.{left_of}
 use Rattle.matrix_file.proofs.FileWalk.{rows-refused, rest_decides}
 use Rattle.matrix_file.proofs.judging.ask_behind.Goals as goal
 

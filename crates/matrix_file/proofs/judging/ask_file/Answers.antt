@@ -1,8 +1,8 @@
 -- `matrix_file::judging::ask_file` meets its contract: the length decides, then the header, then what stands behind it.
 use mathlib.Core.Path.{sym, ap, ◌∙◌}
 use Rattle.std.proofs.lemmas.Result.{err_from_is_err_and}
-use Rattle.matrix_file.specs.Walk.{passed_says}
-use Rattle.file_header.specs.Answered.{at_line}
+use Rattle.matrix_file.specs.Steps.{passed_says}
+use Rattle.file_header.specs.Steps.{at_line}
 use Rattle.matrix_file.proofs.FileWalk.{length-refused, header_refused, taxa_few, header_several, behind_decides}
 use Rattle.matrix_file.proofs.judging.ask_file.Goals as goal
 

@@ -3,7 +3,7 @@
 use mathlib.Core.Path.{refl, sym, ap, ◌∙◌}
 use Rattle.std.proofs.lemmas.Result.{err_from_is_err_and}
 use mathlib.Core.Bool.{not}
-use Rattle.file_form.specs.Report.{read_says}
+use Rattle.file_form.specs.Calls.{read_says}
 use Rattle.file_form.proofs.Lists.Sizes.{sizes_told}
 use Rattle.matrix_file.proofs.Lists.ReadWalk.{read_unsized, read_refused, read_written}
 use Rattle.matrix_file.proofs.reading.read.Goals as goal

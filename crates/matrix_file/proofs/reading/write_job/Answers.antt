@@ -23,7 +23,7 @@ write_matrix-requires c = (
 
 pub write_weights-requires : goal.write_weights-requires
 write_weights-requires c =
-    let asked = weights_given _ _ c.requires.answered _ c.behind_part.ensures _ (lists-full _ _ _ _ c.requires.full_sizes).1 in
+    let asked = weights_given _ _ c.requires.answered _ c.behind_piece.ensures _ (lists-full _ _ _ _ c.requires.full_sizes).1 in
     record { weights_formed = asked.0; room = asked.1 }
 
 pub write_names-requires : goal.write_names-requires
@@ -66,7 +66,7 @@ returns c =
       weights =
           (c.write_weights.ensures
           ∙ ap (λ items. over 0 items c.args.weights.now)
-          (sym (weights_said_lem _ _ c.requires.answered _ c.behind_part.ensures))) i;
+          (sym (weights_said_lem _ _ c.requires.answered _ c.behind_piece.ensures))) i;
       names =
           (c.write_names.ensures
           ∙ ap (λ items. stripes name_size 0 items c.args.names.now)

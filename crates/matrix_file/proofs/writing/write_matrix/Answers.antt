@@ -11,7 +11,7 @@ use Rattle.file_text.proofs.LinesSplit.{lines_yielded, line_turn, lines_passed}
 use Rattle.matrix_form.specs.Shape.{columns}
 use Rattle.file_form.specs.Rows.{codes_in}
 use Rattle.matrix_file.proofs.Lists.LinesBehind.{line-formed}
-use Rattle.matrix_file.proofs.Lists.WrittenLines.{ItemsWritten, codes_few, part_room, items_start, item_room, items_next, items_all}
+use Rattle.matrix_file.proofs.Lists.WrittenLines.{ItemsWritten, codes_few, piece_room, items_start, item_room, items_next, items_all}
 use Rattle.matrix_file.proofs.writing.write_matrix.Goals as goal
 use Rattle.matrix_file.proofs.writing.write_matrix.Goals.{In-Some}
 
@@ -40,7 +40,7 @@ write_codes-requires-clause-room c =
     omega (
       arith,
       codes_few _ (line-formed _ _ _ _ c.requires.1 this.1 this.2),
-      part_room (c.in-Some.i * columns) columns c.loop-i.matrix (item_room columns codes_in _ _ _ c.requires.1.count c.requires.0 _ _ c.loop-i.invariant.2 _ _ this),
+      piece_room (c.in-Some.i * columns) columns c.loop-i.matrix (item_room columns codes_in _ _ _ c.requires.1.count c.requires.0 _ _ c.loop-i.invariant.2 _ _ this),
     )
 
 pub loop-i-preserved : goal.loop-i-preserved

@@ -9,7 +9,7 @@ use Rattle.file_form.specs.Lines.{lines_of}
 use Rattle.file_text.proofs.LinesSplit.{lines_yielded, line_turn, lines_passed}
 use Rattle.file_form.specs.Job.{name_size}
 use Rattle.file_form.specs.Written.{padded}
-use Rattle.matrix_file.specs.Walk.{padded_in}
+use Rattle.matrix_file.specs.Steps.{padded_in}
 use Rattle.matrix_file.proofs.Lists.LinesBehind.{line-formed}
 use Rattle.matrix_file.proofs.Lists.WrittenLines.{ItemsWritten, name_said, name_short, items_start, items_next, items_all}
 use Rattle.matrix_file.proofs.writing.write_names.Goals as goal
@@ -32,7 +32,7 @@ loop-i-init c = (search (rules, of_calls), search (rules, of_calls), items_start
 pub write_name-requires-clause-name_short : goal.write_name-requires-clause-name_short
 write_name-requires-clause-name_short c =
     let this = turn (goal.at.write_name-requires-clause-name_short c).In-Some in
-    name_short _ _ c.first_part.ensures (line-formed _ _ _ _ c.requires.1 this.1 this.2)
+    name_short _ _ c.first_piece.ensures (line-formed _ _ _ _ c.requires.1 this.1 this.2)
 
 pub loop-i-preserved : goal.loop-i-preserved
 loop-i-preserved c = (
@@ -41,7 +41,7 @@ loop-i-preserved c = (
   subst (ItemsWritten name_size padded_in c.args.rows.now c.args.n c.args.names.now _)
       (sym (length-append c.loop-i.yielded ((c.in-Some.i, c.in-Some.line) ∷ [])))
       (items_next name_size padded_in _ _ _ c.requires.1.count c.requires.0 _ _ c.loop-i.invariant.2 _ _ (turn (goal.at.loop-i-preserved c).In-Some) _ _
-      (ap padded (name_said _ _ c.first_part.ensures)) c.write_name.ensures),
+      (ap padded (name_said _ _ c.first_piece.ensures)) c.write_name.ensures),
 )
 
 pub returns : goal.returns

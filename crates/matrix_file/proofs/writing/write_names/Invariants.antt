@@ -2,7 +2,7 @@
 use lib.ListN.{length}
 use Rattle.matrix_file.proofs.Lists.WrittenLines.{ItemsWritten}
 use Rattle.file_form.specs.Job.{name_size}
-use Rattle.matrix_file.specs.Walk.{padded_in}
+use Rattle.matrix_file.specs.Steps.{padded_in}
 use Rattle.matrix_file.proofs.writing.write_names.Given as goal
 
 abbrev pub invariant-loop-i : goal.invariant-loop-i

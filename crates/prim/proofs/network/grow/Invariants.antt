@@ -1,6 +1,6 @@
 -- `prim::network::grow` meets its contract. The loop's invariant: the links so far are the first of the Prim Network.
 use Prim.Native.Nat.{◌-◌}
-use Rattle.difference.specs.Nodes.{between}
+use Rattle.difference.specs.Steps.{between}
 use Rattle.prim.proofs.Growth.{GrownTo}
 use Rattle.prim.proofs.network.grow.Given as goal
 

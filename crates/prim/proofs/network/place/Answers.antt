@@ -5,7 +5,7 @@ use Prim.Native.Nat.{◌<◌}
 use native.Mathlib.Omega.{arith}
 use lib.ListN.{length, set, get_or}
 use Rattle.std.specs.Prelude.{Option, None, option_and_then}
-use Rattle.difference.specs.Nodes.{between}
+use Rattle.difference.specs.Steps.{between}
 use Rattle.prim_form.specs.Network.{Link}
 use Rattle.prim.specs.Growing.{moved_link}
 use Rattle.prim_form.proofs.InPlace.{changed_more, changed_all}

@@ -1,7 +1,7 @@
 -- `prim::network::start` meets its contract: at each place stands the first link of the taxon two behind it.
 use mathlib.Core.Path.{◌∙◌}
 use Rattle.std.proofs.Common.{rules, ◌+◌, None}
-use Rattle.difference.specs.Nodes.{between}
+use Rattle.difference.specs.Steps.{between}
 use Rattle.lists.proofs.Arrays.{from_fn_is}
 use Rattle.lists.proofs.Numbers.{map_behind}
 use Rattle.prim.specs.Growing.{first_link}

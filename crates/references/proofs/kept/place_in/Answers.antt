@@ -1,7 +1,7 @@
 -- `references::kept::place_in` meets its contract.
 use Rattle.std.proofs.Common.{rules, ◌≡◌, Err}
 use Rattle.branching.specs.declared.placement.NotPlaced.{NotPlaced}
-use Rattle.branching.specs.Placed.{placement_says}
+use Rattle.branching.specs.Calls.{placement_says}
 use Rattle.tree_form.proofs.Mapped.{mapped_err}
 use Rattle.references.proofs.KeptLaws.{refused_stays}
 use Rattle.references.proofs.kept.place_in.Goals as goal

@@ -8,8 +8,8 @@ returns c = rw c.in-Ok.ensures.1.same at c.fit.ensures
 
 pub returns-in_default : goal.returns-in_default
 returns-in_default c = record {
-  refused = other-size _ _ _ _ _ _ _ _ c.in_default.ensures.1;
-  low_kept = refl;
-  high_kept = refl;
-  chosen_kept = refl;
+  refused = other-size _ _ _ _ _ _ _ c.in_default.ensures.1;
+  low_unchanged = refl;
+  high_unchanged = refl;
+  chosen_unchanged = refl;
 }

@@ -16,10 +16,10 @@ loop-i-preserved c =
     let loop = c.loop-i in
     let records = c.args.records.now in
     let here = get_or-take c.record_count.result records loop.i no_branch (omega arith) in
-    (loop.invariant.0, rw here (read_next records (search rules) loop.places loop.i (omega arith) loop.invariant.1))
+    (loop.invariant.0, rw here (read_next records (search rules) loop.above loop.i (omega arith) loop.invariant.1))
 
 pub returns : goal.returns
 returns c =
     let loop = c.loop-i in
     let same : loop.i ≡ c.record_count.result = omega (arith, c.loop-i-test.false) in
-    loop.invariant.1 ∙ read_all _ (search rules) _ loop.i (same ∙ c.record_count.ensures)
+    c.from_ancestors.ensures ∙ loop.invariant.1 ∙ read_all _ (search rules) _ loop.i (same ∙ c.record_count.ensures)

@@ -3,9 +3,10 @@
 use mathlib.Core.Path.{◌≡◌}
 use Prim.Native.Nat.{◌≤◌}
 use lib.ListN.{length}
-use Rattle.tree_walk.specs.Steps.{PlacesBelow}
+use Rattle.branching.specs.Views.{ancestors}
+use Rattle.tree_walk.specs.Steps.{WithinBelow}
 use Rattle.tree_walk.proofs.Descending.{BelowTo}
 use Rattle.tree_walk.proofs.descent.below_of.Given as goal
 
 abbrev pub invariant-loop-u : goal.invariant-loop-u
-invariant-loop-u l = (2 ≤ l.end) × (l.end ≤ 127) × (length l.below ≡ 127) × BelowTo l.tree.ancestors l.u l.below × PlacesBelow l.below
+invariant-loop-u l = (2 ≤ l.end) × (l.end ≤ 127) × (length l.below ≡ 127) × BelowTo (ancestors l.tree) l.u l.below × WithinBelow l.below

@@ -7,14 +7,14 @@ use borrow.Author.Rules.{rules}
 use lib.ListN.{set, replicate}
 use Rattle.matrix_form.specs.Shape.{last_node}
 use Rattle.tree_walk.specs.Walks.{node_at}
-use Rattle.tree_walk.proofs.Walks.{places-start}
+use Rattle.tree_walk.proofs.Walks.{entries-start}
 use Rattle.tree_walk.proofs.Along.{along_start, along_next, walking}
 use Rattle.tree_walk.proofs.descent.walk_down.Goals as goal
 
 pub loop-i-init : goal.loop-i-init
 unfolding last_node
 loop-i-init c =
-    let is = c.last_node-last.ensures in
+    let is = c.last_index-last.ensures in
     let none = c.none-walk.ensures in
     let put = c.push.ensures in
     let count : c.push.new.self.count ≡ 1 = omega (arith, none.count, put.count) in
@@ -25,7 +25,7 @@ loop-i-init c =
       omega arith,
       omega arith,
       search rules,
-      rw items places-start,
+      rw items entries-start,
       λ tree pairs. rw (items, count) (along_start _ tree (omega arith)),
     )
 
@@ -52,7 +52,7 @@ loop-i-preserved c =
       inv.2,
       omega arith,
       two.size ∙ one.size ∙ inv.4,
-      two.places within.1 (one.places within.0 inv.5),
+      two.within within.1 (one.within within.0 inv.5),
       λ tree pairs.
           along_next _ _ _ tree _ _ inv.2 inv.4 below inv.1 pairs (inv.6 tree pairs) _ _ _ _ _ _ (one.size ∙ inv.4) refl refl one two,
     )
@@ -62,4 +62,4 @@ returns c tree belows =
     let loop = c.loop-i in
     let inv = loop.invariant in
     let same : loop.i ≡ loop.walk.count = omega (arith, c.loop-i-test.false) in
-    walking _ _ tree _ _ c.last_node-last.ensures inv.1 inv.5 belows (λ pairs. rw same at (inv.6 tree pairs))
+    walking _ _ tree _ _ c.last_index-last.ensures inv.1 inv.5 belows (λ pairs. rw same at (inv.6 tree pairs))

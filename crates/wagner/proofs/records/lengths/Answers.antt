@@ -8,6 +8,7 @@ use Rattle.branching.specs.Views.{ancestors}
 use Rattle.tree_form.proofs.Ranges.{made-map}
 use Rattle.wagner.proofs.Lengths.{length_in-first}
 use Rattle.wagner.proofs.records.lengths.Goals as goal
+use Rattle.matrix.specs.Lent.{lent_lists}
 
 pub returns : goal.returns
 returns c =
@@ -20,5 +21,5 @@ returns c =
           ap (λ (lengths : List ℕ). get_or lengths v 0) (made-map _ length _ _ 127 0 c.from_fn.ensures.items (λ v y q k. search rules))
           ∙ map-numbers length 0 0 127 v h
           ∙ ap length (zero-add v)
-          ∙ length_in-first a.matrix.now a.weights.now a.m v (ancestor tree v);
+          ∙ length_in-first (lent_lists a) a.m v (ancestor tree v);
     }

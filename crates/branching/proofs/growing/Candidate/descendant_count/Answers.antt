@@ -23,10 +23,10 @@ returns c =
     let tree = ancestors c.args.self.now.tree.now in
     let n = c.args.self.now.n in
     let v = c.args.v in
-    let last = c.last_node-end.ensures in
+    let last = c.last_index-end.ensures in
     count_from_yields_List _ _ c.count.ensures.ran
     (YieldsList-from_filter _ (λ u. eqb (ancestor tree u) v)
-    (YieldsList-from_range 2 (c.last_node-end.result + 1) (2 * n - 3) (search rules) (omega arith))
+    (YieldsList-from_range 2 (c.last_index-end.result + 1) (2 * n - 3) (search rules) (omega arith))
     c.filter.ensures.closure (λ x b q k. search (rules, tests)))
     ∙ kept-range (λ u. eqb (ancestor tree u) v) 2 (2 * n - 3)
     ∙ sym (ap length (descendants-keep tree (other_nodes n) v))

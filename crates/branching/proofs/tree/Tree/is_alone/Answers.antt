@@ -9,12 +9,12 @@ use Rattle.tree_form.specs.Ancestors.{ancestor}
 use Rattle.branching.specs.Views.{ancestors}
 use Rattle.tree_form.specs.Nodes.{has_ancestor}
 use Rattle.tree_form.specs.Growing.{row_one_alone}
-use Rattle.tree_form.specs.Hanging.{no_branches}
+use Rattle.tree_form.specs.Hanging.{only_row_one}
 use Rattle.tree_form.proofs.Ranges.{equal-zeros}
 use Rattle.branching.proofs.tree.Tree.is_alone.Goals as goal
 
 pub returns : goal.returns
-unfolding row_one_alone has_ancestor ancestor no_branches
+unfolding row_one_alone has_ancestor ancestor only_row_one
 returns c =
     let tree = ancestors c.args.self.now in
     let size : length tree ≡ 127 = search rules in

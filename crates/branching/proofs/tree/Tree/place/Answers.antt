@@ -13,9 +13,9 @@ returns-in_err-map_err c =
     let kept : NotPlaced = record { tree = c.args.self; refusal = told.0 } in
     let is : c.in_err-map_err.field-0.0 ≡ kept = search (rules, told.2) in
     let handed : c.from_residual.result ≡ Err c.in_err-map_err.field-0.0 = search rules in
-    rw (handed, is) (hands_refusal _ _ _ _ c.args.self _ told.0 (sym c.ask_placement.ensures ∙ told.1))
+    rw (handed, is) (hands_refusal _ _ _ c.args.self _ told.0 (sym c.ask_placement.ensures ∙ told.1))
 
 pub returns : goal.returns
 returns c =
     let passed = mapped_ok _ c.ask_placement.result _ c.map_err.ensures.cases _ c.in_ok-map_err.was in
-    hands_placement _ _ _ _ _ _ _ _ (sym c.ask_placement.ensures ∙ passed) c.place_unasked.ensures
+    hands_placement _ _ _ _ _ _ _ (sym c.ask_placement.ensures ∙ passed) c.place_unasked.ensures

@@ -1,4 +1,4 @@
--- `branching::tree::Tree::taxa_placed` meets its contract: no taxon beyond the places is placed. Assumes nothing.
+-- `branching::tree::Tree::taxa_placed` meets its contract: no taxon beyond the entries is placed. Assumes nothing.
 use mathlib.Core.Path.{sym, ◌∙◌}
 use Prim.Native.Nat.{◌+◌, min}
 use native.Mathlib.Omega.{arith}
@@ -9,7 +9,7 @@ use Rattle.std.proofs.lemmas.Iterator.Consumers.{count_from_yields_List, YieldsL
 use Rattle.branching.specs.Views.{ancestors}
 use Rattle.tree_form.specs.Nodes.{in_tree}
 use Rattle.tree_form.proofs.Ranges.{kept-range}
-use Rattle.branching.proofs.Places.{taxa_placed-places}
+use Rattle.branching.proofs.Entries.{taxa_placed-entries}
 use Rattle.branching.proofs.tree.Tree.taxa_placed.Goals as goal
 
 pub returns : goal.returns
@@ -21,4 +21,4 @@ returns c =
     (YieldsList-from_range 1 (min n 126 + 1) (min n 126) (search rules) (omega arith))
     c.filter.ensures.closure (λ x b q k. search (rules, tests)))
     ∙ kept-range (in_tree tree) 1 (min n 126)
-    ∙ sym (taxa_placed-places tree (search rules) n)
+    ∙ sym (taxa_placed-entries tree (search rules) n)

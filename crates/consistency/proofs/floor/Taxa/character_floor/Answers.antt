@@ -8,7 +8,7 @@ use mir.Val.{SFits}
 use Rattle.difference_form.specs.Rows.{part}
 use Rattle.difference_form.proofs.Laws.Weights.{part-most}
 use Rattle.fit_form.proofs.Bits.{of_bits}
-use Rattle.fit_form.specs.declared.spans.Span.{Span}
+use Rattle.matrix_form.specs.declared.spans.Span.{Span}
 use Rattle.consistency_form.specs.Floor.{character_floor}
 use Rattle.consistency.proofs.floor.Taxa.character_floor.Goals as goal
 

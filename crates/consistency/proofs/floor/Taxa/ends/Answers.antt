@@ -5,8 +5,8 @@ use Rattle.std.specs.List.{range_with_len}
 use Rattle.std.proofs.lemmas.Iterator.{YieldsList-from_range}
 use Rattle.std.proofs.lemmas.Iterator.Consumers.{fold_from_yields_List}
 use Rattle.fit_form.specs.Sets.{only}
-use Rattle.fit_form.specs.Handing.{state_at}
-use Rattle.fit_form.specs.declared.spans.Span.{Span}
+use Rattle.matrix_form.specs.Shape.{state_at}
+use Rattle.matrix_form.specs.declared.spans.Span.{Span}
 use Rattle.fit_form.proofs.Bits.{of_bit}
 use Rattle.consistency.specs.Steps.{column, widened, ends_of}
 use Rattle.consistency.proofs.Columns.{widened_by, ends_folded}

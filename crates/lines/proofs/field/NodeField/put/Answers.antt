@@ -1,6 +1,6 @@
 -- A node is put by its kind: no node, a taxon or an HTU. Assumes nothing.
 use mathlib.Core.Path.{sym, ap, ◌∙◌}
-use Rattle.file_form.specs.Bytes.{first_part}
+use Rattle.file_form.specs.Bytes.{first_piece}
 use Rattle.file_form.specs.Text.{bytes}
 use Rattle.listing_form.specs.Lines.{htu_name}
 use Rattle.lines.specs.Fields.{node_text}
@@ -15,7 +15,7 @@ returns-then-v-eq0 c = put_same (node_none _ _ _ c.if-v-eq0.true) c.put_byte.ens
 pub returns-then-v-n : goal.returns-then-v-n
 unfolding node_text
 returns-then-v-n c =
-    put_same (ap (first_part 0) c.name_bytes.ensures ∙ node_lent _ _ _ c.if-v-eq0.false c.if-v-n.true) c.put_name.ensures
+    put_same (ap (first_piece 0) c.name_bytes.ensures ∙ node_lent _ _ _ c.if-v-eq0.false c.if-v-n.true) c.put_name.ensures
 
 pub returns : goal.returns
 unfolding node_text htu_name bytes

@@ -5,10 +5,10 @@ use Rattle.std.proofs.lemmas.Iterator.Adapters.{option_map_id}
 use Rattle.std.proofs.lemmas.Iterator.Consumers.{YieldsList-at, YieldsList-from_filter, min_from_yields_List}
 use Rattle.branching.specs.Views.{ancestors}
 use Rattle.tree_form.specs.Nodes.{in_tree, nodes_in, other_nodes}
-use Rattle.wagner.specs.Order.{least_key}
+use Rattle.lists.specs.Least.{least_key}
 use Rattle.wagner.specs.Closeness.{kept}
 use Rattle.tree_form.proofs.Ranges.{filter-range}
-use Rattle.wagner.proofs.LeastKey.{least_from_min}
+use Rattle.lists.proofs.Picked.{least_from_min}
 use Rattle.wagner.proofs.closeness.Made.least_kept.Goals as goal
 
 pub returns : goal.returns
@@ -16,7 +16,7 @@ unfolding kept nodes_in other_nodes
 returns c =
     let n = c.args.self.now.nodes.lent.n in
     let tree = ancestors c.args.self.now.placed.now.tree in
-    let key = kept c.args.places.now in
+    let key = kept c.args.differences.now in
     sym (option_map_id c.min.result)
     ∙ min_from_yields_List {v = λ (x : ℕ). x} _ _ c.min.ensures.ran
     (YieldsList-from_map _ key

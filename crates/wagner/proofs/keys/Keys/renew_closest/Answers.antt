@@ -6,7 +6,7 @@ use Rattle.wagner.proofs.keys.Keys.renew_closest.Goals.{then-not-in_tree, else-n
 use Rattle.wagner.proofs.keys.Keys.renew_closest.Goals as goal
 
 pub loop-v-init : goal.loop-v-init
-loop-v-init c = record { order = refl; long = search rules; up_to = renewed_start _ _ _ _ _ _ _ _ }
+loop-v-init c = record { order = refl; long = search rules; up_to = renewed_start _ _ _ _ _ _ _ }
 
 pub loop-v-preserved : goal.loop-v-preserved
 unfolding kept_of
@@ -19,17 +19,17 @@ loop-v-preserved c =
           rw w.self-is (record {
             order = inv.order;
             long = simp length-set inv.long;
-            up_to = rw w.unwrap_or.ensures (renewed_next _ _ _ _ _ _ _ _ _ _ _ _ room long inv.up_to w.renew-key.ensures);
+            up_to = rw w.unwrap_or.ensures (renewed_next _ _ _ _ _ _ _ _ _ _ _ room long inv.up_to w.renew-key.ensures);
           })
       | else-not-in_tree w ↦
           rw w.self-is (record {
             order = inv.order;
             long = inv.long;
-            up_to = renewed_over _ _ _ _ _ _ _ _ _ _ (sym c.in_tree.ensures ∙ w.if-not-in_tree.false) inv.up_to;
+            up_to = renewed_over _ _ _ _ _ _ _ _ _ (sym c.in_tree.ensures ∙ w.if-not-in_tree.false) inv.up_to;
           })
     ]
 
 pub returns : goal.returns
 returns c =
     let inv = c.loop-v.invariant in
-    record { order = inv.order; keys = renewed_all _ _ _ _ _ _ _ _ c.loop-v.v _ _ (omega arith) inv.up_to }
+    record { order = inv.order; keys = renewed_all _ _ _ _ _ _ _ c.loop-v.v _ _ (omega arith) inv.up_to }

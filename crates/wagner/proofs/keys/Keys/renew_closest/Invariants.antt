@@ -4,6 +4,7 @@ use Rattle.std.proofs.Common.{length, ◌≡◌}
 use Rattle.branching.specs.Views.{ancestors}
 use Rattle.wagner.proofs.Renewing.{RenewedUpTo}
 use Rattle.wagner.proofs.keys.Keys.renew_closest.Given as goal
+use Rattle.matrix.specs.Lent.{lent_lists}
 
 abbrev pub invariant-loop-v : goal.invariant-loop-v
 invariant-loop-v l =
@@ -11,6 +12,6 @@ invariant-loop-v l =
     record {
       order : l.self.order ≡ l.initial.self.order;
       long : length l.self.table ≡ 65;
-      up_to : RenewedUpTo lent.matrix.now lent.weights.now lent.n lent.m (ancestors l.made.placed.now.tree) l.made.placed.now.placement
+      up_to : RenewedUpTo (lent_lists lent) lent.n lent.m (ancestors l.made.placed.now.tree) l.made.placed.now.placement
           l.initial.self.table l.v l.self.table l.self.keys;
     }

@@ -1,9 +1,0 @@
--- `file_text::bytes::first_part` meets its contract: the part lent ends at the first separator.
-use Rattle.file_form.proofs.Text.PartWalk.{counts, first}
-use Rattle.file_text.proofs.bytes.first_part.Goals as goal
-
-pub slice_bounds-result-end : goal.slice_bounds-result-end
-slice_bounds-result-end c = counts _ _ _ c.part_length.ensures
-
-pub returns : goal.returns
-returns c = first _ _ _ c.part_length.ensures

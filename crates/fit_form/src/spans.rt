@@ -1,8 +1,0 @@
-// Sets of states: closed intervals of whole numbers, for every i32.
-
-// The states from low to high.
-#[derive(Clone, Copy, Default)]
-pub struct Span {
-    pub low: i32,
-    pub high: i32,
-}

@@ -1,0 +1,56 @@
+-- `wagner::build::build_tree` meets its contract.
+use Rattle.std.proofs.Common.{arith, refl, sym, ◌∙◌, [], ◌<◌, length, true≢false}
+use Prim.Native.Nat.{suc}
+use Rattle.matrix_form.proofs.Limits.{limits, lent_within}
+use Rattle.wagner.proofs.UnderWay.{begun_under_way, next_under_way, done_under_way}
+use Rattle.wagner.proofs.build.build_tree.Goals as goal
+
+pub returns-then-not-within_limits : goal.returns-then-not-within_limits
+returns-then-not-within_limits c = record {
+  is = λ lent weighted. absurd (true≢false (sym (lent_within _ _ _ lent) ∙ sym c.within_limits.ensures ∙ c.if-not-within_limits.true));
+}
+
+pub invariant_of-first : goal.invariant_of-first
+invariant_of-first c = record { narrow = (limits _ _ (sym c.within_limits.ensures ∙ c.if-not-within_limits.false)).characters }
+
+pub next-b-requires : goal.next-b-requires
+next-b-requires c = (limits _ _ (sym c.within_limits.ensures ∙ c.if-not-within_limits.false)).taxa
+
+pub invariant_of-renew : goal.invariant_of-renew
+invariant_of-renew c =
+    let within = limits _ _ (sym c.within_limits.ensures ∙ c.if-not-within_limits.false) in
+    record { taxon = within.taxon; taxa = within.taxa }
+
+pub loop-turn-init : goal.loop-turn-init
+loop-turn-init c = record {
+  order = refl;
+  size = refl;
+  count = omega (arith, c.alone-built.ensures.placements.count);
+  way = λ lent weighted. ([], begun_under_way _ _ _ _ lent weighted _ c.first-keys.ensures.keys _ _ c.alone-built.ensures);
+}
+
+pub loop-turn-preserved : goal.loop-turn-preserved
+loop-turn-preserved c =
+    let inv = c.loop-turn.invariant in
+    let within = limits _ _ (sym c.within_limits.ensures ∙ c.if-not-within_limits.false) in
+    record {
+      order = c.renew.ensures.order ∙ inv.order;
+      size = c.place_unasked-placed.auto.matrix ∙ inv.size;
+      count = omega (arith, c.push.ensures.placements.count, inv.count, within.taxa, c.loop-turn-test.true);
+      way = λ lent weighted.
+          let way = inv.way lent weighted in
+          let less : suc (length way.0) < c.args.n = omega (arith, way.1.count, inv.count, c.loop-turn-test.true) in
+          let renewed = rw inv.order at c.renew.ensures.keys in
+          let placed = c.place_unasked-placed.ensures in
+          (_, next_under_way _ _ _ _ _ _ _ _ _ way.1 less _ c.next-b.ensures _ _ placed _ _ _ renewed c.push.ensures);
+    }
+
+pub returns : goal.returns
+returns c =
+    let inv = c.loop-turn.invariant in
+    record {
+      is = λ lent weighted.
+          let way = inv.way lent weighted in
+          rw c.first-keys.ensures.order at
+          (done_under_way _ _ _ _ _ _ _ _ _ lent weighted way.1 (omega (arith, way.1.count, inv.count, c.loop-turn-test.false)));
+    }
