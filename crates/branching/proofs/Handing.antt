@@ -1,10 +1,12 @@
--- A placement with its questions: what is handed back on a refusal, and where they pass; and back, what the answer tells where they pass.
+-- A placement with its questions: what is handed back on a refusal, and where they pass; and back, what the answer tells
+-- where they pass and where one refuses.
 use mathlib.Core.Path.{◌≡◌, refl, ap, ◌∙◌}
 use mathlib.Core.List.{List}
 use Prim.Native.Nat.{ℕ}
 use lib.IntN.{ℤ}
 use Rattle.std.specs.Prelude.{Result, Ok, Err}
-use Rattle.matrix_form.specs.Outcomes.{value}
+use Rattle.matrix_form.specs.Outcomes.{value, refused}
+use Rattle.matrix_form.specs.Refusals.{refusal_number}
 use Rattle.matrix_form.specs.declared.refusal.Refusal.{Refusal}
 use Rattle.matrix_form.proofs.Passing.{matrix_passed}
 use Rattle.branching.specs.declared.placement.Placed.{Placed}
@@ -62,3 +64,23 @@ handed lists new n m before b r done pass = go r (rw pass at done.says) (rw pass
     go (Ok placed) says tree =
         record { placed = placed; is = refl; tree = tree; placement = cc; matrix = rw pass at done.matrix }
     go (Err kept) says tree = cc
+
+-- where a question refuses: the refusal handed back has its number, and the tree and the matrix are as before
+pub refusal_leaves : (lists : MatrixLists) (new : List ℤ) (n m : ℕ) (before : List ℕ) (b : ℕ) (r : Result Placed NotPlaced)
+    → PlacementDone lists new n m before b r → (refusal : Refusal) → ask_placement lists n m before b ≡ Err refusal
+    → (back : NotPlaced)
+    × (r ≡ Err back)
+    × (refusal_number back.refusal ≡ refusal_number refusal)
+    × (ancestors back.tree ≡ before)
+    × (new ≡ lists.codes)
+unfolding placement_says
+refusal_leaves lists new n m before b r done refusal e = go r refl (rw e at done.says) (rw e at done.tree)
+  where
+    go : (s : Result Placed NotPlaced) → r ≡ s → placed_says s ≡ refused (refusal_number refusal) 0 → ancestors (tree_back s) ≡ before
+        → (back : NotPlaced)
+        × (r ≡ Err back)
+        × (refusal_number back.refusal ≡ refusal_number refusal)
+        × (ancestors back.tree ≡ before)
+        × (new ≡ lists.codes)
+    go (Ok placed) is says tree = cc
+    go (Err back) is says tree = (back, is, cc, tree, rw e at done.matrix)

@@ -22,7 +22,7 @@ use Rattle.tree_form.proofs.Whole.{branching-grown}
 use Rattle.difference_form.proofs.Laws.Distance.{Distance}
 use Rattle.clades.proofs.OneCharacter.CharacterFit.{Node}
 use Rattle.clades.proofs.OneCharacter.Reach.{reach}
-use Rattle.fit_form.specs.Assignments.{character, total, IsAssignment}
+use Rattle.fit_form.specs.Assignments.{character, total, IsAssignment, IsLeast}
 use Rattle.fit_form.specs.Fit.{chosen_state, fitted_total}
 use Rattle.fit_form.proofs.Clades.Built.{CladeOf, clade_of_lem}
 use Rattle.fit_form.proofs.Clades.Taxa.{node_of}
@@ -117,3 +117,12 @@ unfolding fitted_total
 floor-fitted weights n m tree rows taxon known b =
     (floor_never_passes weights n m rows taxon).least tree b (chosen_state tree rows n)
     (third_rival weights n m tree rows taxon known ((branching_iff tree n taxon).0 b)).assigns
+
+-- and an assignment whose total is no more than the floor is of least length
+pub floor_reached : (step : ℕ → ℤ → ℤ → ℕ) (n m : ℕ) (rows : List (List ℤ)) → FloorNeverPasses step rows n m → (tree : List ℕ)
+    → branching n tree ≡ true → (states : ℕ → ℕ → ℤ) → IsAssignment rows n m states
+    → total step tree n m states ≤ floor step rows n m → IsLeast step tree rows n m states
+floor_reached step n m rows claim tree b states assigns reached = record {
+  assigns = assigns;
+  least = λ others h. omega (arith, reached, claim.least tree b others h);
+}

@@ -1,18 +1,21 @@
--- What holds of the lengths that the calls hand back: of a difference its largest value, of an interval difference that it is the
--- difference from the medians.
-use Rattle.std.specs.Prelude.{Ok}
-use mathlib.Core.Path.{◌≡◌, refl}
+-- What holds of what the calls hand back: of a difference its largest value, of an interval difference that it is the difference from the
+-- medians; and what the call for medians leaves, where its questions pass and where one refuses.
+use Rattle.std.specs.Prelude.{Ok, Err}
+use mathlib.Core.Path.{◌≡◌, refl, ◌∙◌}
 use mathlib.Core.List.Memᴰ
-use mathlib.Core.List.{[], ◌∷◌}
+use mathlib.Core.List.{List, [], ◌∷◌}
 use Prim.Native.Nat.{ℕ, ◌≤◌}
 use native.Mathlib.Omega.{arith}
+use lib.IntN.{ℤ}
 use lib.ListN.{length}
+use Rattle.lists.specs.Over.{over}
 use Rattle.matrix_form.specs.Shape.{row, MatrixLists}
-use Rattle.matrix_form.specs.Outcomes.{value}
+use Rattle.matrix_form.specs.Outcomes.{Asked, value}
+use Rattle.matrix_form.specs.declared.refusal.Refusal.{Refusal}
 use Rattle.matrix_form.specs.Questions.{ask_nodes}
 use Rattle.matrix_form.proofs.Passing.{nodes_passed, node_passed}
 use Rattle.difference_form.specs.Rows.{difference, most_difference, medians}
-use Rattle.difference_form.specs.Calls.{difference_answer, interval_answer}
+use Rattle.difference_form.specs.Calls.{difference_answer, interval_answer, ask_medians, MediansAnswer}
 use Rattle.difference_form.proofs.Laws.Rows.{difference_limit, interval-median}
 
 -- a difference that is handed back is at most 2,301,696
@@ -45,3 +48,13 @@ call_interval lists n m b c d e =
     let bc : length (row lists.codes m b) ≡ length (row lists.codes m c) = omega (arith, at_b.0, at_c.0) in
     let cd : length (row lists.codes m c) ≡ length (row lists.codes m d) = omega (arith, at_c.0, at-d.0) in
     rw (e, interval-median lists.weights (row lists.codes m b) (row lists.codes m c) (row lists.codes m d) bc cd)
+
+module _ (lists : MatrixLists) (n m a b c : ℕ) (old new : List ℤ) (r : Asked) (answer : MediansAnswer lists n m a b c old new r) where
+  -- a call for medians whose questions pass refuses nothing; the lent row then has the medians over its first codes, and all else as before
+  pub medians_passed : ask_medians lists n m a b c old ≡ Ok tt
+      → (r ≡ Ok tt) × (new ≡ over 0 (medians (row lists.codes m a) (row lists.codes m b) (row lists.codes m c)) old)
+  medians_passed e = (answer.says ∙ e, rw e at answer.lent)
+
+  -- one that is refused says the refusal, and the lent row is as before
+  pub medians-refused : (refusal : Refusal) → ask_medians lists n m a b c old ≡ Err refusal → (r ≡ Err refusal) × (new ≡ old)
+  medians-refused refusal e = (answer.says ∙ e, rw e at answer.lent)

@@ -4,3 +4,4 @@ pub mod Examples
 pub mod Zero
 pub mod IndexSaid
 pub mod Listed
+pub mod InWords

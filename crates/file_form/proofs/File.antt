@@ -9,5 +9,6 @@ pub mod ReadOfFile
 pub mod Accepted
 pub mod AcceptedRows
 pub mod Numbered
+pub mod Longer
 pub mod FirstForm
 pub mod Order

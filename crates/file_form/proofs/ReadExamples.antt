@@ -1,10 +1,10 @@
 -- What an answer says; and reads into lent lists, with what these then hold.
 use mathlib.Core.Path.{◌≡◌, refl}
 use mathlib.Core.Bool.{true, false}
-use mathlib.Core.List.{List, [], ◌∷◌, map, zip_with}
+use mathlib.Core.List.{List, [], ◌∷◌, ◌++◌, map, zip_with}
 use Prim.Native.Nat.{ℕ}
 use Prim.Native.String.{String}
-use lib.IntN.{pos}
+use lib.IntN.{pos, negsuc}
 use lib.ListN.{replicate}
 use Rattle.lists.specs.Numbers.{numbers}
 use Rattle.lists.specs.Over.{over, stripes}
@@ -82,6 +82,30 @@ records-handed = refl
 none-handed : (after "W\t2\t1\nA\t0\nB\t2\n").branches ≡ replicate 375 7
 unfolding after sevens bytes zip_with numbers
 none-handed = refl
+
+-- an accepted `W` file with a `V` line and names of several bytes
+abbrev named : String
+named = "W\t2\t2\tclosest\nV\t2\t9\nAb\t0\t-1\nC_2\t5\t7\n"
+
+-- its codes stand in the front of the rows of its taxa
+codes-handed : (after named).matrix ≡ pos 0 ∷ negsuc 0 ∷ replicate 126 (pos 7) ++ pos 5 ∷ pos 7 ∷ replicate 15998 (pos 7)
+unfolding after sevens bytes
+codes-handed = refl
+
+-- its weights in front of the lent ones
+weights_handed : (after named).weights ≡ 2 ∷ 9 ∷ replicate 126 7
+unfolding after sevens bytes
+weights_handed = refl
+
+-- and each of its names, padded to 16 bytes
+names-handed : (after named).names ≡ 65 ∷ 98 ∷ replicate 14 0 ++ 67 ∷ 95 ∷ 50 ∷ replicate 13 0 ++ replicate 992 7
+unfolding after sevens bytes
+names-handed = refl
+
+-- without a `V` line every character has weight 1
+weights_unsaid : (after "W\t1\t3\nA\t0\t1\t2\n").weights ≡ 1 ∷ 1 ∷ 1 ∷ replicate 125 7
+unfolding after sevens bytes
+weights_unsaid = refl
 
 -- and a file that is refused by 14 leaves all lists as they were
 unchanged_by_fourteen : after "F\t2\t1\nA\t0\nB\t1\nC\t2\t2\n" ≡ sevens

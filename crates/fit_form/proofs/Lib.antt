@@ -10,3 +10,4 @@ pub mod Examples
 pub mod CallExamples
 pub mod Refusals
 pub mod Sample
+pub mod Handed

@@ -7,3 +7,4 @@ pub mod Lengths
 pub mod ThirdRival
 pub mod AnyWeights
 pub mod Letters
+pub mod Alike

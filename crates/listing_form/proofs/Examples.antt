@@ -166,3 +166,43 @@ five_listed =
 five_taxa_lem : computed five_taxa ≡ text five_listed
 unfolding computed text flat_map bytes
 five_taxa_lem = refl
+
+-- document 01's example with a word for the order behind the numbers of line 1, or without one
+abbrev four_taxa : String → List String
+four_taxa first = first ∷ "A\t0\t0\t0\n" ∷ "B\t2\t1\t0\n" ∷ "C\t2\t3\t1\n" ∷ "D\t-1\t1\t2\n" ∷ []
+
+-- its listing with `closest`, as the program of other authorship prints it: C is placed before D, where by advancement D comes first
+abbrev closest_listed : List String
+closest_listed =
+    "P\tB\tA\t3\n"
+    ∷ "P\tC\tB\t3\n"
+    ∷ "P\tD\tA\t4\n"
+    ∷ "p\t10\n"
+    ∷ "W\tB\t-\tA\t-\t3\n"
+    ∷ "W\tC\tB\tA\t#1\t3\n"
+    ∷ "W\tD\t#1\tA\t#2\t3\n"
+    ∷ "w\t9\n"
+    ∷ "T\tB\t#1\t1\t+\n"
+    ∷ "T\tC\t#1\t2\t+\n"
+    ∷ "T\tD\t#2\t2\t+\n"
+    ∷ "T\t#1\t#2\t2\t+\n"
+    ∷ "T\t#2\tA\t2\t+\n"
+    ∷ "t\t9\n"
+    ∷ "c\t888\t8\n"
+    ∷ "H\t#1\t1\t2\t2\t2\n"
+    ∷ "H\t#1\t2\t1\t1\t1\n"
+    ∷ "H\t#1\t3\t0\t1\t1\n"
+    ∷ "H\t#2\t1\t0\t0\t0\n"
+    ∷ "H\t#2\t2\t1\t1\t1\n"
+    ∷ "H\t#2\t3\t0\t1\t1\n"
+    ∷ []
+
+-- the closest first
+with_closest : computed (four_taxa "W\t4\t3\tclosest\n") ≡ text closest_listed
+unfolding computed text flat_map bytes
+with_closest = refl
+
+-- by advancement as without the word
+with_advance : computed (four_taxa "W\t4\t3\tadvance\n") ≡ computed (four_taxa "W\t4\t3\n")
+unfolding computed text flat_map bytes
+with_advance = refl

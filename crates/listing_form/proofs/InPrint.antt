@@ -63,6 +63,7 @@ module _ (file : List ℕ) (job : Job) (e : read_answer file ≡ value job) wher
   build_least =
       record {
         connected = claim.network.ours;
+        link_lengths = claim.network.link_lengths;
         p_length = claim.network.length;
         no_network_shorter = claim.network.least;
         no_hanging_adds_less = claim.build (order_meant job.order);

@@ -11,6 +11,7 @@ pub mod SameLines
 pub mod Parts
 pub mod Printed
 pub mod InPrint
+pub mod PrintInWords
 pub mod OfFiles
 pub mod Totals
 pub mod Bounds

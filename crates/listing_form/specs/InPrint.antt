@@ -2,11 +2,12 @@
 -- rival does better than they say; with the index of its tree and the claim about the floor (document 02, M-102), and for a file with its
 -- own branching (M-103).
 use Rattle.std.specs.Prelude.{◌≡◌, ◌↔◌, true, ℕ, ◌*◌, ◌-◌, ◌≤◌, ◌<◌, ℤ, ◌≤ℤ◌}
-use mathlib.Core.List.{List, ◌++◌}
+use mathlib.Core.List.{List, ◌++◌, Memᴰ}
 use Rattle.lists.specs.Sums.{sum_over}
 use Rattle.matrix_form.specs.NodeRows.{row_of}
 use Rattle.file_form.specs.Job.{Job}
 use Rattle.difference_form.specs.Rows.{node_difference}
+use Rattle.prim_form.specs.Network.{Link}
 use Rattle.prim_form.specs.Rival.{Connected, link_ends, links_length}
 use Rattle.tree_form.specs.declared.placement.Placement.{Placement}
 use Rattle.tree_form.specs.Growing.{branching}
@@ -23,8 +24,11 @@ use Rattle.listing_form.specs.Listing.{output}
 
 -- of the numbers of network and build this holds
 pub record BuildLeast (job : Job) (printed : PrintedBuild) : Type 0 where
-  -- the `P` lines are a connected network of the taxa, of length `p`, and no connected network of the taxa is shorter
+  -- the `P` lines are a connected network of the taxa, each as long as its two taxa differ, all together of length `p`, and no connected
+  -- network of the taxa is shorter
   pub connected : Connected job.n (link_ends printed.links)
+  pub link_lengths : (l : Link) → Memᴰ l printed.links
+      → l.length ≡ node_difference (measure_meant job).rows (row_of job.rows) l.taxon l.joined
   pub p_length : links_length (node_difference (measure_meant job).rows (row_of job.rows)) (link_ends printed.links) ≡ printed.p
   pub no_network_shorter : (rival : List (ℕ × ℕ)) → Connected job.n rival
       → printed.p ≤ links_length (node_difference (measure_meant job).rows (row_of job.rows)) rival
@@ -36,7 +40,8 @@ pub record BuildLeast (job : Job) (printed : PrintedBuild) : Type 0 where
 
 -- of the numbers of a fitted tree this holds
 pub record TreeLeast (job : Job) (printed : PrintedTree) : Type 0 where
-  -- the tree is a branching of all taxa; the chosen states are an assignment, of total `t`, whose branches have the lengths of the `T` lines
+  -- the tree is a branching of all taxa; the chosen states are an assignment, of total `t`, whose branches have the lengths of the `T`
+  -- lines
   pub whole : branching job.n printed.tree ≡ true
   pub assigns : IsAssignment job.rows job.n job.m printed.chosen
   pub t_length : total (measure_meant job).step printed.tree job.n job.m printed.chosen ≡ printed.t

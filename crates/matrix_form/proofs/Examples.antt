@@ -168,13 +168,16 @@ pub record NodeExamples : Type 0 where
   pub beyond : ask_nodes (matrix_of bad_htu (ones columns)) 3 1 (4 ∷ 5 ∷ []) ≡ Err NotThere
   pub htu_row : ask_nodes (matrix_of bad_htu (ones columns)) 3 1 (1 ∷ 4 ∷ []) ≡ Err CodeRange
   pub unread : ask_nodes (matrix_of bad_htu (ones columns)) 3 1 (1 ∷ 3 ∷ []) ≡ Ok tt
+  -- row 4 is that of the last of four taxa, and not asked as an HTU's; of three taxa it is the first HTU's
+  pub last_taxon : ask_htu (matrix_of bad_htu (ones columns)) 4 1 4 ∷ ask_htu (matrix_of bad_htu (ones columns)) 3 1 4 ∷ []
+      ≡ Ok tt ∷ Err CodeRange ∷ []
 
 -- they are as said
 pub node_examples : NodeExamples
 unfolding numbers every row in_range last_node one_to within_limits ask_each ask_code ask_row_of ask_rows_of is_weight are_weights
     ask_matrix
     nodes_exist ask_htu ask_nodes
-node_examples = record { last = refl; htu = refl; beyond = refl; htu_row = refl; unread = refl }
+node_examples = record { last = refl; htu = refl; beyond = refl; htu_row = refl; unread = refl; last_taxon = refl }
 
 -- weights, and their questions among those on a matrix of two taxa and one character
 pub record WeightExamples : Type 0 where

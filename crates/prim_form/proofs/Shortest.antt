@@ -10,7 +10,7 @@ use Rattle.prim_form.specs.Network.{network_length, grow, network}
 use Rattle.prim_form.specs.Rival.{Joins, Reached, links_length, IsTaxon, Connected, Shortest}
 use Rattle.prim_form.proofs.Further.{connected_iff}
 use Rattle.prim_form.proofs.Links.{Enlarged, Leaving, Spared, exchange, Reached_mono, others, of_others, links_length-others}
-use Rattle.prim_form.proofs.Placing.{Step, done, placing, placing-step, grow-done, grow-next}
+use Rattle.prim_form.proofs.Placing.{Step, done, placing, placing-step, grow-done, grow-next, network-link}
 use Rattle.prim_form.proofs.Connected.{network-connected, network_sum}
 use Rattle.prim_form.proofs.Unplaced.{decide_mem, IsPlaced, not-placed, not-unplaced}
 
@@ -75,10 +75,11 @@ module _ (d : ℕ → ℕ → ℕ) (symmetric : (x y : ℕ) → d x y ≡ d y x)
         reached = λ v t. Reached_mono (λ x e. Memᴰ.head e) (λ x y k. k) (c.reached v t);
       })
 
--- the Prim Network is a connected network, of length its total, and no connected network is shorter
+-- the Prim Network is a connected network, each link as long as its taxa differ, of length its total, and no connected network is shorter
 pub shortest : (d : ℕ → ℕ → ℕ) → ((x y : ℕ) → d x y ≡ d y x) → (n : ℕ) → Shortest d n
 shortest d symmetric n = record {
   ours = network-connected d n;
+  link_lengths = network-link d n;
   length = network_sum d n;
   least = network-least d symmetric n;
 }

@@ -43,8 +43,10 @@ Connected n links = ConnectedWith n 0 links
 unfoldable pub link_ends : List Link → List (ℕ × ℕ)
 link_ends links = map (λ (l : Link). (l.taxon, l.joined)) links
 
--- the claim about the Prim Network and its rivals: ours is a connected network, its length is the total, and no other is shorter
+-- the claim about the Prim Network and its rivals: ours is a connected network, the length of each link is the difference of its two
+-- taxa, the length of the network is the total, and no other is shorter
 pub record Shortest (d : ℕ → ℕ → ℕ) (n : ℕ) : Type 0 where
   pub ours : Connected n (link_ends (network d n))
+  pub link_lengths : (l : Link) → Memᴰ l (network d n) → l.length ≡ d l.taxon l.joined
   pub length : links_length d (link_ends (network d n)) ≡ network_length (network d n)
   pub least : (links : List (ℕ × ℕ)) → Connected n links → network_length (network d n) ≤ links_length d links

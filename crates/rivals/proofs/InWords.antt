@@ -1,13 +1,13 @@
 -- The claim about the three rivals, part by part, in document 01's words. Each theorem uses the claim, so that a weaker claim would not
 -- prove it. `matrix` is an accepted matrix: one that a read accepts, or a lent one that passes its questions.
 use mathlib.Core.Path.{◌≡◌, refl, sym, ◌∙◌}
-use mathlib.Core.Logic.{◌↔◌, ◌⊎◌, inl, inr}
+use mathlib.Core.Logic.{◌↔◌}
 use mathlib.Core.Bool.{true}
 use mathlib.Core.List.{List, ◌∷◌, ◌++◌}
 use Prim.Native.Nat.{ℕ, ◌+◌, ◌-◌, ◌*◌, ◌≤◌, ◌<◌}
 use native.Mathlib.Omega.{arith}
 use lib.IntN.{ℤ}
-use lib.ListN.{length, drop}
+use lib.ListN.{length}
 use Rattle.std.specs.Prelude.{Ok}
 use Rattle.matrix_form.specs.Shape.{last_node, MatrixLists}
 use Rattle.matrix_form.specs.NodeRows.{row_of, rows_of}
@@ -28,13 +28,17 @@ use Rattle.tree_form.specs.Placing.{place}
 use Rattle.tree_form.specs.Rival.{hung_length}
 use Rattle.tree_form.specs.declared.order.Order.{Order}
 use Rattle.tree_form.specs.declared.order.Order.TheVariants.{Closest}
-use Rattle.wagner_form.specs.Build.{Built, wagner}
+use Rattle.wagner_form.specs.Build.{wagner}
+use Rattle.consistency_form.specs.Floor.{floor}
 use Rattle.fit_form.specs.Sets.{In}
 use Rattle.fit_form.specs.Assignments.{character, IsAssignment, IsLeast, Occurs, total}
 use Rattle.fit_form.specs.Fit.{chosen_state, range, fitted_length, fitted_total, marked}
+use Rattle.fit_form.proofs.Matrix.Alike.{alike_total}
 use Rattle.rivals.specs.Accepted.{Accepted, file_read, matrix_lent, HandedIn}
-use Rattle.rivals.specs.Demand.{NoRivalDoesBetter, EachIsLeast, more, BuildIsLeast, one_taxon, several_taxa}
+use Rattle.rivals.specs.Demand.{NoRivalDoesBetter, EachIsLeast, more, BuildIsLeast}
 use Rattle.rivals.proofs.Demand.{no_rival}
+use Rattle.rivals.proofs.Steps.{first_link, later_placements}
+use Rattle.rivals.proofs.Floor.{floor_lowest}
 
 -- for every file that a read accepts
 pub for_every_file : (file : List ℕ) (job : Job) → read_answer file ≡ value job
@@ -53,13 +57,6 @@ pub no_taxon_adds_less : {d : List ℤ → List ℤ → ℕ} {n m : ℕ} {tree l
     → (b : ℕ) → Unplaced n tree b → (c : ℕ) → 1 ≤ ancestor tree c → (r : List ℤ) → length r ≡ m
     → length_under d n tree rows + next.added ≤ hung_length d n tree rows b c r
 no_taxon_adds_less (more taxon placed chosen least closest others) = (closest refl).least
-
--- a build in the order `closest` is of one taxon, or it is a first link and then placements in turn
-first_and_later : {d : List ℤ → List ℤ → ℕ} {n m : ℕ} {rows : List (List ℤ)} {built : Built} → BuildIsLeast Closest d n m rows built
-    → (n ≡ 1) ⊎ ((b : ℕ) × EachIsLeast Closest d n m (linked only_row_one b) rows (drop 1 built.placements)
-    built.tree built.rows)
-first_and_later (one_taxon one) = inl one
-first_and_later (several_taxa b chosen each) = inr (b, each)
 
 module _ (n m : ℕ) (weights : List ℕ) (rows : List (List ℤ)) (matrix : Accepted n m weights rows) where
   -- the claim about this matrix
@@ -97,13 +94,20 @@ module _ (n m : ℕ) (weights : List ℕ) (rows : List (List ℤ)) (matrix : Acc
   pub each_placement_least : (order : Order) → BuildIsLeast order (difference weights) n m rows (wagner (difference weights) order n rows)
   each_placement_least = claim.build
 
-  -- so in the order `closest` our own build goes on, from its first link, by placements of each of which `no_taxon_adds_less` speaks
-  pub our_closest_build :
-      (n ≡ 1)
-      ⊎ ((b : ℕ)
-      × EachIsLeast Closest (difference weights) n m (linked only_row_one b) rows (drop 1 (wagner (difference weights) Closest n rows).placements)
-      (wagner (difference weights) Closest n rows).tree (wagner (difference weights) Closest n rows).rows)
-  our_closest_build = first_and_later (claim.build Closest)
+  module _ (order : Order) (first : Placement) (others : List Placement)
+      (placed : (wagner (difference weights) order n rows).placements ≡ first ∷ others) where
+    -- in either order our build first links to row 1 a taxon that is not row 1, and adds their difference; a rival who may choose that
+    -- taxon as well links none that is nearer
+    pub our_first_link : (2 ≤ first.taxon) × (first.taxon ≤ n) × (first.lower ≡ 0) × (first.upper ≡ 1) × (first.htu ≡ 0)
+        × (first.added ≡ between first.taxon 1)
+        × ((v : ℕ) → 2 ≤ v → v ≤ n → first.added ≤ between v 1)
+    our_first_link = first_link (claim.build order) first others placed
+
+    -- and it goes on by placements in turn, of each of which `Steps` speaks, and in the order `closest` `no_taxon_adds_less`
+    pub our_later_placements :
+        EachIsLeast order (difference weights) n m (linked only_row_one first.taxon) rows others
+        (wagner (difference weights) order n rows).tree (wagner (difference weights) order n rows).rows
+    our_later_placements = later_placements (claim.build order) first others placed
 
   -- our tree has all n taxa
   pub our_tree_whole : (order : Order) → branching n (wagner (difference weights) order n rows).tree ≡ true
@@ -120,10 +124,19 @@ module _ (n m : ℕ) (weights : List ℕ) (rows : List (List ℤ)) (matrix : Acc
         → fitted_total (weighing weights).step tree rows n m ≤ total (weighing weights).step tree n m states
     no_states_shorter = (claim.fit tree whole).least
 
+    -- where all rows are equal, the total is 0
+    pub alike_rows : ((v : ℕ) → 1 ≤ v → v ≤ n → row_of rows v ≡ row_of rows 1) → fitted_total (weighing weights).step tree rows n m ≡ 0
+    alike_rows = alike_total weights n m tree rows (claim.fit tree whole)
+
     -- a state lies in our range of a node, taxon or HTU, exactly if some least-length choice has it there
     pub range_exactly : (v j : ℕ) (s : ℤ) → 1 ≤ v → v ≤ last_node n → 1 ≤ j → j ≤ m
         → In s (range tree rows n v j) ↔ Occurs (weighing weights).step tree rows n m v j s
     range_exactly = (claim.fit tree whole).ranges
+
+    -- the floor never passes the total of any assignment, ours or another
+    pub floor_below_every_total : (states : ℕ → ℕ → ℤ) → IsAssignment rows n m states
+        → floor (weighing weights).step rows n m ≤ total (weighing weights).step tree n m states
+    floor_below_every_total = (floor_lowest n m weights rows matrix).least tree whole
 
     -- so a taxon's range is its code alone
     pub taxon_range_code : (v j : ℕ) (s : ℤ) → 1 ≤ v → v ≤ n → 1 ≤ j → j ≤ m → In s (range tree rows n v j) ↔ (s ≡ character rows j v)

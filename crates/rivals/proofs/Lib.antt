@@ -7,5 +7,6 @@ pub mod Branches
 pub mod Own
 pub mod Lent
 pub mod Reading
+pub mod Steps
 pub mod InWords
 pub mod Examples

@@ -27,12 +27,13 @@ use Rattle.tree_form.specs.declared.order.Order.TheVariants.{Closest}
 use Rattle.wagner_form.specs.Next.{by_closeness, next_by}
 use Rattle.wagner_form.specs.Build.{build_on, build, wagner}
 use Rattle.wagner_form.proofs.Closest.{adds, closeness_least}
+use Rattle.wagner_form.proofs.First.{first_nearest}
 use Rattle.wagner_form.proofs.Whole.{order_chooses}
 use Rattle.wagner_form.proofs.BuildLength.{place_growth}
 use Rattle.tree_form.proofs.Rival.{difference_laws, placement-least}
 use Rattle.tree_form.proofs.RowLengths.{Growth}
 use Rattle.rivals.specs.Accepted.{HandedIn}
-use Rattle.rivals.specs.Demand.{NoTaxonAddsLess, EachIsLeast, done, more, BuildIsLeast, one_taxon, several_taxa}
+use Rattle.rivals.specs.Demand.{NoTaxonAddsLess, EachIsLeast, done, more, NoTaxonNearer, BuildIsLeast, one_taxon, several_taxa}
 use Rattle.rivals.proofs.Rows.{MatrixRows, rows_sized, rows_append}
 
 -- a growing tree of at least two taxa is a tree of several
@@ -125,7 +126,9 @@ module _ (weights : List ℕ) (n m : ℕ) (taxa : 1 ≤ n) (most : n ≤ 64) whe
         let first = place-first (difference weights) n only_row_one (row_of rows) b only_row_one-none in
         let none = made-first (difference weights) n only_row_one (row_of rows) b only_row_one-none in
         let after = rw (none, append-nil rows, first) at (place_growth (difference weights) n m 1 only_row_one rows g (difference_laws weights m) b chosen) in
-        rw (none, append-nil rows, first) (several_taxa b chosen (each-least count 2 _ _ after (omega arith) (omega arith)))
+        let nearest : NoTaxonNearer (difference weights) n rows b =
+        record { nearest = first_nearest (difference weights) n rows order } in
+        rw (none, append-nil rows, first) (several_taxa b chosen nearest (each-least count 2 _ _ after (omega arith) (omega arith)))
 
     -- the build of the Wagner tree
     pub wagner-least : (rows : List (List ℤ)) → MatrixRows n m weights rows

@@ -36,10 +36,16 @@ pub data EachIsLeast (order : Order) (d : List ℤ → List ℤ → ℕ) (n m : 
       → EachIsLeast order d n m placed.tree (rows ++ placed.made) placements last last_rows
       → EachIsLeast order d n m tree rows (placed.placement ∷ placements) last last_rows
 
--- a build from row 1 alone: no placement for n = 1; else a taxon is linked to row 1, and each placement after it is least
+-- taxon b, the first to be linked to row 1, beside every other taxon: none is nearer to row 1
+pub record NoTaxonNearer (d : List ℤ → List ℤ → ℕ) (n : ℕ) (rows : List (List ℤ)) (b : ℕ) : Type 0 where
+  pub nearest : (v : ℕ) → Unplaced n only_row_one v → node_difference d (row_of rows) b 1 ≤ node_difference d (row_of rows) v 1
+
+-- a build from row 1 alone: no placement for n = 1; else, in either order of placing, a taxon is linked to row 1 than which none that is
+-- not placed is nearer, and each placement after it is least
 pub data BuildIsLeast (order : Order) (d : List ℤ → List ℤ → ℕ) (n m : ℕ) (rows : List (List ℤ)) : Built → Type 0 where
   one_taxon : n ≡ 1 → BuildIsLeast order d n m rows (record { tree = only_row_one; rows = rows; placements = [] })
   several_taxa : {last : List ℕ} {last_rows : List (List ℤ)} {placements : List Placement} (b : ℕ) → Unplaced n only_row_one b
+      → NoTaxonNearer d n rows b
       → EachIsLeast order d n m (linked only_row_one b) rows placements last last_rows
       → BuildIsLeast order d n m rows
       (record { tree = last; rows = last_rows; placements = (link_first d (row_of rows) only_row_one b).placement ∷ placements })
@@ -51,8 +57,8 @@ pub record NoRivalDoesBetter (measure : Measure) (n m : ℕ) (rows : List (List 
   -- our placement of a taxon on a tree handed in is a hanging on one of its intervals, adds its interval difference, and none adds less
   pub placement : (tree : List ℕ) (htus : List (List ℤ)) → HandedIn n m tree htus → (b : ℕ) → Unplaced n tree b
       → PlacementIsLeast measure.rows n m tree (rows ++ htus) b (place measure.rows (row_of (rows ++ htus)) n tree b)
-  -- so is each placement of our Wagner tree, in either order of placing, and in the order `closest` no hanging of any taxon that is not
-  -- placed adds less; the tree is a branching of all n taxa
+  -- so is each placement of our Wagner tree after the first, in either order of placing, and in the order `closest` no hanging of any taxon
+  -- that is not placed adds less; the first links to row 1 a taxon than which none is nearer; the tree is a branching of all n taxa
   pub build : (order : Order) → BuildIsLeast order measure.rows n m rows (wagner measure.rows order n rows)
   pub whole : (order : Order) → branching n (wagner measure.rows order n rows).tree ≡ true
   -- on any branching our chosen states have the least total, a range has exactly the states of assignments of least length, and a mark

@@ -78,6 +78,14 @@ pub record Joint (n : ℕ) (tree : List ℕ) (b c y : ℕ) : Type 0 where
   pub taxon_htu : b ≢ y
   pub lower_htu : c ≢ y
 
+-- where taxon b is hung through y on the interval of c, no other ancestor changes
+pub hung_else : (tree : List ℕ) (b c y v : ℕ) → v ≢ b → v ≢ c → v ≢ y → ancestor (hung tree b c y) v ≡ ancestor tree v
+unfolding hung
+hung_else tree b c y v nb nc ny =
+    ancestor_set_other (set (set tree y (ancestor tree c)) c y) b y v nb
+    ∙ ancestor_set_other (set tree y (ancestor tree c)) c y v nc
+    ∙ ancestor_set_other tree y (ancestor tree c) v ny
+
 module _ (n : ℕ) (tree : List ℕ) (b c y : ℕ) (j : Joint n tree b c y) where
   -- taxon b has y
   pub hung-taxon : ancestor (hung tree b c y) b ≡ y
@@ -101,11 +109,7 @@ module _ (n : ℕ) (tree : List ℕ) (b c y : ℕ) (j : Joint n tree b c y) wher
 
   -- no other ancestor changes
   pub hung-other : (v : ℕ) → v ≢ b → v ≢ c → v ≢ y → ancestor (hung tree b c y) v ≡ ancestor tree v
-  unfolding hung
-  hung-other v nb nc ny =
-      ancestor_set_other (set (set tree y (ancestor tree c)) c y) b y v nb
-      ∙ ancestor_set_other (set tree y (ancestor tree c)) c y v nc
-      ∙ ancestor_set_other tree y (ancestor tree c) v ny
+  hung-other = hung_else tree b c y
 
   -- what a sum over the branches becomes: the old branches of b, c and y go, their new ones come
   pub sum_hung : (f : ℕ → ℕ → ℕ)

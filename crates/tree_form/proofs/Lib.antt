@@ -23,3 +23,5 @@ pub mod RowLengths
 pub mod Rival
 pub mod Passed
 pub mod Mapped
+pub mod Kept
+pub mod EqualNodes

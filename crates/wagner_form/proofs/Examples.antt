@@ -186,6 +186,27 @@ equally_near_closest : shown_by alike Closest 4 three_arms
 unfolding shown_by
 equally_near_closest = refl
 
+-- by closeness taxa 3 and 4 are equally near, taxon 3 to the interval of 5 and taxon 4 to that of 2: the lower row comes first, whatever
+-- the lower ends
+abbrev two_ties : List (List ℤ)
+two_ties =
+    (pos 0 ∷ pos 0 ∷ pos 0 ∷ [])
+    ∷ (pos 2 ∷ pos 0 ∷ pos 0 ∷ [])
+    ∷ (pos 0 ∷ pos 3 ∷ pos 4 ∷ [])
+    ∷ (pos 2 ∷ pos 0 ∷ pos 4 ∷ [])
+    ∷ (pos 0 ∷ pos 3 ∷ pos 0 ∷ [])
+    ∷ []
+
+row_before_end : shown_by alike Closest 5 two_ties
+    ≡ record {
+      placements = line 2 0 1 0 2 ∷ line 5 2 1 6 3 ∷ line 3 5 6 7 4 ∷ line 4 2 6 8 4 ∷ [];
+      ancestors = 0 ∷ 0 ∷ 8 ∷ 7 ∷ 8 ∷ 7 ∷ 1 ∷ 6 ∷ 6 ∷ [];
+      total = 13;
+      is_branching = true;
+    }
+unfolding shown_by
+row_before_end = refl
+
 -- a tree handed in: taxa 1, 2 and 4 of document 01's matrix, with an HTU 5 whose codes are not the medians
 handed : ℕ → AfterPlacing
 unfolding shown_by

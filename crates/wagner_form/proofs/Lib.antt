@@ -1,6 +1,7 @@
 -- The laws of the build, and its definitions computed on examples.
 pub mod Examples
 pub mod Closest
+pub mod First
 pub mod Whole
 pub mod BuildLength
 pub mod Matrix

@@ -2,9 +2,10 @@
 use mathlib.Core.Path.{◌≡◌, refl, sym, ap, ap₂, ◌∙◌}
 use mathlib.Core.Logic.{◌≢◌, by_cases}
 use mathlib.Core.Bool.{Bool, true, false, not, cond, ◌&&◌, ◌||◌}
+use mathlib.Core.List.Memᴰ
 use mathlib.Core.List.{List, [], ◌∷◌, ◌++◌, map, Memᴰ}
 use Prim.Native.Nat.{ℕ, zero, suc, ◌+◌, ◌-◌, ◌≤◌, ◌<◌}
-use native.Mathlib.Nat.{zero-add}
+use native.Mathlib.Nat.{le_trans, zero-add}
 use native.Mathlib.Decide.{ℕ_discrete}
 use native.Mathlib.Omega.{arith}
 use borrow.Author.Tests.{eq-eqb, ne_eqb}
@@ -49,6 +50,27 @@ order_rises key (placed_next {us = us} v mem least rest) = behind rest refl (ord
     behind (placed_next w later first further) e r =
         let kept = (keep-mem (λ u. not (among u (v ∷ []))) us w (rw e at later)).0 in
         more v w (rw (ap key least) (least_of_le key us w kept)) r
+
+-- keys that fall do not rise
+never_falls : Rising (λ v. v) (2 ∷ 1 ∷ []) → ⊥
+never_falls (more u v le rest) = omega (arith, le)
+
+module _ {key : ℕ → ℕ} where
+  -- of rising keys, none behind the first is less
+  first_rises : {v : ℕ} {vs : List ℕ} → Rising key (v ∷ vs) → (w : ℕ) → Memᴰ w vs → key v ≤ key w
+  first_rises (one v) w mem = absurd (Memᴰ.not-nil mem)
+  first_rises (more u v le rest) w (Memᴰ.head e) = rw e le
+  first_rises (more u v le rest) w (Memᴰ.tail mem) = le_trans le (first_rises rest w mem)
+
+  -- keys that rise along a list rise behind its first element
+  behind_rises : {v : ℕ} {vs : List ℕ} → Rising key (v ∷ vs) → Rising key vs
+  behind_rises (one v) = none
+  behind_rises (more u v le rest) = rest
+
+  -- so none behind any element is less
+  pub later_rises : (before : List ℕ) {v : ℕ} {after : List ℕ} → Rising key (before ++ v ∷ after) → (w : ℕ) → Memᴰ w after → key v ≤ key w
+  later_rises [] r = first_rises r
+  later_rises (u ∷ before) r = later_rises before (behind_rises r)
 
 -- the taxa of placements
 abbrev pub taxa_of : List Placement → List ℕ
@@ -160,3 +182,9 @@ module _ (weights : List ℕ) (n m : ℕ) (taxa : 1 ≤ n) (most : n ≤ 64) (ro
   -- so the advancements rise along the placements
   pub wagner_rises : Rising (advancement (difference weights) rows) (taxa_of (wagner (difference weights) Advance n rows).placements)
   wagner_rises = order_rises (advancement (difference weights) rows) wagner-order
+
+  -- so a taxon is no more advanced than any that is placed after it
+  pub later_advanced : (before : List ℕ) (v : ℕ) (after : List ℕ)
+      → taxa_of (wagner (difference weights) Advance n rows).placements ≡ before ++ v ∷ after
+      → (w : ℕ) → Memᴰ w after → advancement (difference weights) rows v ≤ advancement (difference weights) rows w
+  later_advanced before v after e = later_rises before (rw e at wagner_rises)

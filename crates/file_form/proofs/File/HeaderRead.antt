@@ -66,7 +66,7 @@ fields_read fields behind form known =
 -- line 1 of the right form: its fields have it, other lines stand behind it, and it is written in the one way
 module _ (lines : List (List ℕ)) (form : first_line_form lines ≡ true) where
   -- its fields have the right form
-  first-formed : first_form (first_fields lines) ≡ true
+  pub first-formed : first_form (first_fields lines) ≡ true
   unfolding first_line_form
   first-formed = by lines form
     where
