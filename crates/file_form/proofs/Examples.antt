@@ -30,7 +30,7 @@ use Rattle.file_form.specs.Rows.{name_in, codes_in, ask_field, ask_codes, ask_ro
 use Rattle.file_form.specs.Branches.{branch_form, ancestor_in, branch_text, branch_texts}
 use Rattle.file_form.specs.Reading.{job_of, nothing_more, ask_end, ask_after, ask_behind, ask_file, ask_length, read_answer}
 use Rattle.file_form.specs.declared.header.Kind.TheVariants.{Wagner, Own}
-use Rattle.std.specs.Prelude.{Option, None, Some}
+use Rattle.std.specs.Prelude.{Option, None, Some, Ok}
 use Rattle.tree_form.specs.declared.order.Order.{Order}
 use Rattle.tree_form.specs.declared.order.Order.TheVariants.{Advance, Closest}
 use Rattle.file_form.specs.Text.{bytes}
@@ -335,6 +335,11 @@ own_files_read = refl
 too_long : read (replicate 45001 65) ≡ refused 1 0
 unfolding read
 too_long = refl
+
+-- 45,000 bytes are not too many
+longest_passes : ask_length (replicate 45000 65) ≡ Ok tt
+unfolding ask_length
+longest_passes = refl
 
 -- 64 taxa pass, 65 is 4; equal rows under different names pass: taxa `t1`, `t2`, ... with the same row
 alike : ℕ → Job

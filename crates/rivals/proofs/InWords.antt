@@ -19,6 +19,8 @@ use Rattle.difference_form.specs.Rows.{difference, node_difference, weighing}
 use Rattle.prim_form.specs.Network.{network, network_length}
 use Rattle.prim_form.specs.Rival.{Connected, link_ends, links_length}
 use Rattle.tree_form.specs.declared.placement.Placement.{Placement}
+use Rattle.tree_form.specs.declared.branch.Branch.{Branch}
+use Rattle.tree_form.specs.Branches.{ancestors_of, lent_branching}
 use Rattle.tree_form.specs.Ancestors.{ancestor}
 use Rattle.tree_form.specs.Nodes.{Unplaced}
 use Rattle.tree_form.specs.Growing.{branching}
@@ -112,6 +114,13 @@ module _ (n m : ℕ) (weights : List ℕ) (rows : List (List ℤ)) (matrix : Acc
   -- our tree has all n taxa
   pub our_tree_whole : (order : Order) → branching n (wagner (difference weights) order n rows).tree ≡ true
   our_tree_whole = claim.whole
+
+  -- on a branching that is lent as branch records no choice of whole-number inner states has a lower total than our chosen states
+  pub no_states_shorter_lent : (records : List Branch) → lent_branching n records ≡ true
+      → (states : ℕ → ℕ → ℤ) → IsAssignment rows n m states
+      → fitted_total (weighing weights).step (ancestors_of n records) rows n m
+      ≤ total (weighing weights).step (ancestors_of n records) n m states
+  no_states_shorter_lent records lent = (claim.lent_fit records lent).least
 
   module _ (tree : List ℕ) (whole : branching n tree ≡ true) where
     -- our chosen states are an assignment of least length, of total `t`
