@@ -43,7 +43,7 @@ impl<'a> Candidate<'a> {
 
     // Whether entry v is right.
     // Kept: no plainer, an entry of a tree holds 0 for no ancestor, and what is right of it goes by that: an Option would be made of the 0 for this test.
-    #[tactic(auto, using(matrix_form::proofs::Between::nat_between, tree_form::proofs::Nodes::taxa_placed_le), unfolding(crate::specs::Testing::entry_right, tree_form::specs::Nodes::has_ancestor))]
+    #[tactic(auto, using(lists::proofs::Between::nat_between, tree_form::proofs::Nodes::taxa_placed_le), unfolding(crate::specs::Testing::entry_right, tree_form::specs::Nodes::has_ancestor))]
     fn entry_right(&self, v: usize) -> bool
         ensures { result ≡ entry_right self.now.n self.now.placed (ancestors self.now.tree.now) v }
     {

@@ -17,10 +17,12 @@ use Rattle.tree_form.specs.Growing.{descendant_count, descendants_wanted, climbs
 use Rattle.tree_form.specs.Growing.{all_climb, grown, growing_tree, branching}
 use Rattle.matrix_form.specs.Outcomes.{ask_each, Outcome, value, refused}
 use Rattle.lists.specs.Tests.{every, same_numbers as same_text}
-use Rattle.file_form.specs.Bytes.{word_advance, word_closest, is_digit, is_letter, pieces_at, joined_by, piece_length, first_piece}
-use Rattle.file_form.specs.Decimal.{digits_in, digits_of, decimal, no_leading_zero, number_form, number_from, number_of, code_form, code_of}
-use Rattle.file_form.specs.Job.{Job, in_name, name_form, differs_from_all, first_text, row_text, ended, file_of}
-use Rattle.file_form.specs.Lines.{lines_of, fields_of, ask_lines}
+use Rattle.text_form.specs.Bytes.{is_digit, is_letter, pieces_at, joined_by, piece_length, first_piece, in_name}
+use Rattle.file_form.specs.Words.{word_advance, word_closest}
+use Rattle.text_form.specs.Decimal.{digits_in, digits_of, decimal, no_leading_zero, number_form, number_from, number_of, code_form, code_of}
+use Rattle.text_form.specs.Lines.{ended, lines_of, fields_of}
+use Rattle.file_form.specs.Job.{Job, name_form, differs_from_all, first_text, row_text, file_of}
+use Rattle.file_form.specs.Lines.{ask_lines}
 use Rattle.file_form.specs.Optional.{optional_there, optional_fields, ask_optional, optional_line}
 use Rattle.file_form.specs.Weights.{weight_form, weight_in, weights_form, weights_said}
 use Rattle.file_form.specs.Kinds.{is_kind, kind_said}
@@ -33,7 +35,7 @@ use Rattle.file_form.specs.declared.header.Kind.TheVariants.{Wagner, Own}
 use Rattle.std.specs.Prelude.{Option, None, Some, Ok}
 use Rattle.tree_form.specs.declared.order.Order.{Order}
 use Rattle.tree_form.specs.declared.order.Order.TheVariants.{Advance, Closest}
-use Rattle.file_form.specs.Text.{bytes}
+use Rattle.text_form.specs.Text.{bytes}
 use Rattle.file_form.specs.Written.{padded, matrix_written, weights_written, names_written, name_bytes, names_in}
 use Rattle.lists.specs.Over.{over, stripes}
 use Rattle.lists.specs.Filled.{filled}
@@ -362,11 +364,6 @@ sixty_four_taxa = refl
 sixty_five_taxa : read (file_of (alike 65)) ≡ refused 4 1
 unfolding read alike joined_by decimal zip_with numbers first_text optional_line row_text branch_texts ended file_of
 sixty_five_taxa = refl
-
--- a long number is written at once
-long_number : digits_of 9876543210123456789 ≡ bytes "9876543210123456789"
-unfolding digits_in digits_of bytes
-long_number = refl
 
 -- a name as it stands in the lent list
 padded_name : padded (97 ∷ 98 ∷ []) ≡ 97 ∷ 98 ∷ replicate 14 0

@@ -1,6 +1,4 @@
 -- Laws about the form of a matrix file. `File.Accepted` has the law that joins the file of a job and the questions.
-pub mod Text
-pub mod Decimal
 pub mod Rows
 pub mod BranchLines
 pub mod File

@@ -12,12 +12,12 @@ use Rattle.matrix_form.specs.Outcomes.{Outcome, value, refused}
 use Rattle.matrix_form.specs.declared.refusal.Refusal.TheVariants.{BranchForm}
 use Rattle.file_form.specs.declared.header.Kind.{Kind}
 use Rattle.file_form.specs.declared.header.Kind.TheVariants.{Wagner, Own}
-use Rattle.file_form.specs.Bytes.{pieces_at, is_digit}
+use Rattle.text_form.specs.Bytes.{pieces_at, is_digit}
 use Rattle.file_form.specs.Kinds.{kind_form}
-use Rattle.file_form.specs.Lines.{fields_of}
+use Rattle.text_form.specs.Lines.{fields_of}
 use Rattle.file_form.specs.Optional.{Optional, optional_there, optional_fields, ask_optional, all_there, all_taken, ask_optionals}
 use Rattle.file_form.specs.Weights.{weight_form, weights_form, weight_optional}
-use Rattle.file_form.specs.Text.{bytes}
+use Rattle.text_form.specs.Text.{bytes}
 
 -- another optional line: m fields behind the letter `U`, in a file with a branching
 other : Optional

@@ -15,7 +15,7 @@ use Rattle.file_form.specs.declared.header.Kind.TheVariants.{Wagner}
 use Rattle.std.specs.Prelude.{None, Some, Ok, Err}
 use Rattle.tree_form.specs.declared.order.Order.TheVariants.{Closest}
 use Rattle.tree_form.specs.LentNumbers.{records_for}
-use Rattle.file_form.specs.Text.{bytes}
+use Rattle.text_form.specs.Text.{bytes}
 use Rattle.file_form.specs.Reading.{job_in}
 use Rattle.file_form.specs.Written.{LentLists, lent}
 use Rattle.file_form.proofs.Examples.{read}

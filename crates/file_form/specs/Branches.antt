@@ -11,10 +11,12 @@ use Rattle.std.specs.Prelude.{Ok}
 use Rattle.tree_form.specs.Ancestors.{tree_with}
 use Rattle.tree_form.specs.Growing.{branching}
 use Rattle.file_form.specs.declared.header.Kind.{Kind}
-use Rattle.file_form.specs.Bytes.{tab, word_c, joined_by}
-use Rattle.file_form.specs.Decimal.{digits_of, number_form, number_of}
+use Rattle.text_form.specs.Bytes.{tab, joined_by}
+use Rattle.file_form.specs.Words.{word_c}
+use Rattle.text_form.specs.Decimal.{digits_of, number_form, number_of}
 use Rattle.file_form.specs.Kinds.{kind_form}
-use Rattle.file_form.specs.Lines.{fields_of, LineSort}
+use Rattle.text_form.specs.Lines.{fields_of}
+use Rattle.file_form.specs.Lines.{LineSort}
 
 -- how many `C` lines there are: in a file with a branching of its own one for each node from 2 to 2n-2, else none
 abbrev pub branch_count : Kind → ℕ → ℕ

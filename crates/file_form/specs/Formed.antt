@@ -9,9 +9,9 @@ use Rattle.file_form.specs.declared.header.Header.{Header}
 use Rattle.file_form.specs.Optional.{optional_fields, ask_optional}
 use Rattle.file_form.specs.Weights.{weights_form}
 use Rattle.tree_form.specs.LentNumbers.{record_numbers}
-use Rattle.file_form.specs.Decimal.{number_of, code_form}
+use Rattle.text_form.specs.Decimal.{number_of, code_form}
 use Rattle.file_form.specs.Job.{name_form}
-use Rattle.file_form.specs.Lines.{lines_of, fields_of}
+use Rattle.text_form.specs.Lines.{lines_of, fields_of}
 use Rattle.file_form.specs.Rows.{name_in}
 use Rattle.file_form.specs.Branches.{branch_form, ancestor_in}
 

@@ -10,12 +10,12 @@ use Rattle.std.specs.Prelude.{Ok}
 use Rattle.file_form.specs.declared.header.Header.{Header}
 use Rattle.tree_form.specs.declared.order.Order.{Order}
 use Rattle.tree_form.specs.declared.order.Order.TheVariants.{Advance, Closest}
-use Rattle.file_form.specs.Bytes.{word_advance, word_closest}
-use Rattle.file_form.specs.Decimal.{number_form, number_of}
+use Rattle.file_form.specs.Words.{word_advance, word_closest}
+use Rattle.text_form.specs.Decimal.{number_form, number_of}
 use Rattle.file_form.specs.Kinds.{kind_form, is_kind, kind_said}
 use Rattle.file_form.specs.Optional.{Optional, all_there, all_taken, ask_optionals}
 use Rattle.file_form.specs.Weights.{weight_optional}
-use Rattle.file_form.specs.Lines.{fields_of}
+use Rattle.text_form.specs.Lines.{fields_of}
 
 -- the optional lines of a header, in their order
 abbrev pub optional_lines : List Optional

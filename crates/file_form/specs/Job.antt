@@ -1,12 +1,14 @@
 -- A job, what a matrix file says: its header, the weights, the names, the codes and the branching; its limits; and the one file that says
 -- it (document 01, "The matrix file"; document 02, M-100, M-101 and M-103).
-use Rattle.std.specs.Prelude.{◌≡◌, ◌≤◌, ◌+◌, Bool, true, false, ◌&&◌, ◌||◌, not, ℕ, leb, eqb, ℤ, length, replicate, Option, None, Some}
+use Rattle.std.specs.Prelude.{◌≡◌, ◌≤◌, ◌+◌, Bool, true, false, ◌&&◌, not, ℕ, leb, eqb, ℤ, length, replicate, Option, None, Some}
 use mathlib.Core.List.{List, [], ◌∷◌, ◌++◌, map, zip_with}
 use Rattle.matrix_form.specs.Shape.{is_weight}
 use Rattle.matrix_form.specs.Questions.{within_limits, all_in_range}
 use Rattle.lists.specs.Tests.{every, same_numbers as same_text}
-use Rattle.file_form.specs.Bytes.{tab, line_feed, underscore, word_advance, word_closest, is_digit, is_letter, joined_by}
-use Rattle.file_form.specs.Decimal.{digits_of, decimal}
+use Rattle.text_form.specs.Bytes.{tab, is_letter, in_name, joined_by}
+use Rattle.file_form.specs.Words.{word_advance, word_closest}
+use Rattle.text_form.specs.Decimal.{digits_of, decimal}
+use Rattle.text_form.specs.Lines.{ended}
 use Rattle.file_form.specs.Optional.{optional_line, letter_free}
 use Rattle.file_form.specs.Weights.{letter_v, weight_text}
 use Rattle.file_form.specs.Branches.{branch_count, branch_texts, branched}
@@ -26,10 +28,6 @@ pub record Job : Type 0 where
   pub names : List (List ℕ)
   pub rows : List (List ℤ)
   pub ancestors : List ℕ
-
--- a letter, a digit or `_`
-unfoldable pub in_name : ℕ → Bool
-in_name byte = is_letter byte || (is_digit byte || eqb byte underscore)
 
 -- a name has at most 16 bytes
 abbrev pub name_size : ℕ
@@ -75,11 +73,6 @@ row_text name codes = joined_by tab (name ∷ map decimal codes)
 -- the lines of the rows
 abbrev pub row_texts : Job → List (List ℕ)
 row_texts job = zip_with row_text job.names job.rows
-
--- lines one after another, each ended by a line feed
-unfoldable pub ended : List (List ℕ) → List ℕ
-ended [] = []
-ended (line ∷ lines) = line ++ line_feed ∷ ended lines
 
 -- the one file that says a job: line 1, the `V` line, if any, the rows, and the `C` lines of an `F` file
 unfoldable pub file_of : Job → List ℕ

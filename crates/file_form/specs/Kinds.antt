@@ -3,7 +3,7 @@ use Rattle.std.specs.Prelude.{List, [], ◌∷◌, Bool, true, false, cond, ℕ,
 use Rattle.lists.specs.Tests.{same_numbers as same_text}
 use Rattle.file_form.specs.declared.header.Kind.{Kind}
 use Rattle.file_form.specs.declared.header.Kind.TheVariants.{Wagner, Own}
-use Rattle.file_form.specs.Bytes.{word_w, word_f}
+use Rattle.file_form.specs.Words.{word_w, word_f}
 
 -- a row of the table: the word of the kind, how many fields line 1 has at most, and whether `C` lines with a branching stand behind the
 -- rows

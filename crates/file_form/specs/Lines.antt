@@ -1,17 +1,8 @@
--- The lines of a text, the fields of a line, and the questions put to lines of one sort, one after another.
+-- The questions put to lines of one sort, one after another.
 use Rattle.std.specs.Prelude.{List, [], ◌∷◌, ℕ, zero, suc}
 use Rattle.matrix_form.specs.Outcomes.{Asked, Outcome, refused, on_line}
 use Rattle.matrix_form.specs.Refusals.{refusal_number}
 use Rattle.matrix_form.specs.declared.refusal.Refusal.{Refusal}
-use Rattle.file_form.specs.Bytes.{tab, line_feed, pieces_at}
-
--- the lines of a file; the last item is what stands behind the last line feed, and is no line
-unfoldable pub lines_of : List ℕ → List (List ℕ)
-lines_of file = pieces_at line_feed file
-
--- the fields of a line
-unfoldable pub fields_of : List ℕ → List (List ℕ)
-fields_of line = pieces_at tab line
 
 -- a sort of lines, as rows or `C` lines: the refusal where one of them is missing or no line feed ends it, and the questions put to one of
 -- them, which are handed the lines of the sort before it, the last one first

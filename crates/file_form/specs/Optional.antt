@@ -8,8 +8,8 @@ use Rattle.matrix_form.specs.declared.refusal.Refusal.{Refusal}
 use Rattle.matrix_form.specs.Outcomes.{Asked}
 use Rattle.std.specs.Prelude.{Ok}
 use Rattle.file_form.specs.declared.header.Kind.{Kind}
-use Rattle.file_form.specs.Bytes.{tab, joined_by}
-use Rattle.file_form.specs.Lines.{fields_of}
+use Rattle.text_form.specs.Bytes.{tab, joined_by}
+use Rattle.text_form.specs.Lines.{fields_of}
 
 -- an optional line: its letter, the kinds of file that may have it, which fields behind the letter are right where there are m characters,
 -- and the refusal of any others

@@ -6,7 +6,8 @@ use Rattle.matrix_form.specs.Outcomes.{Asked}
 use Rattle.std.specs.Prelude.{Ok}
 use Rattle.file_form.specs.declared.header.Header.{Header}
 use Rattle.file_form.specs.Job.{Job, most_bytes}
-use Rattle.file_form.specs.Lines.{lines_of, ask_lines}
+use Rattle.text_form.specs.Lines.{lines_of}
+use Rattle.file_form.specs.Lines.{ask_lines}
 use Rattle.file_form.specs.Optional.{optional_fields}
 use Rattle.file_form.specs.Weights.{weights_said}
 use Rattle.file_form.specs.Header.{header_in, row_line, behind_header, ask_header}

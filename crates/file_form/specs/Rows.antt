@@ -4,9 +4,10 @@ use Rattle.matrix_form.specs.Questions.{ask_code}
 use Rattle.matrix_form.specs.Outcomes.{Asked, ask, ask_each}
 use Rattle.matrix_form.specs.declared.refusal.Refusal.TheVariants.{LineMissing, NameForm, NameTaken, FieldCount, CodeForm}
 use Rattle.file_form.specs.declared.header.Header.{Header}
-use Rattle.file_form.specs.Decimal.{code_form, code_of}
+use Rattle.text_form.specs.Decimal.{code_form, code_of}
 use Rattle.file_form.specs.Job.{name_form, differs_from_all}
-use Rattle.file_form.specs.Lines.{fields_of, LineSort}
+use Rattle.text_form.specs.Lines.{fields_of}
+use Rattle.file_form.specs.Lines.{LineSort}
 
 -- the name that a row's line says: its first field
 unfoldable pub name_in : List ℕ → List ℕ

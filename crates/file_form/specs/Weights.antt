@@ -3,7 +3,7 @@
 use Rattle.std.specs.Prelude.{List, [], ◌∷◌, map, Bool, true, false, ◌&&◌, ℕ, ◌-◌, leb, eqb, length, get_or, replicate}
 use Rattle.lists.specs.Tests.{every}
 use Rattle.matrix_form.specs.declared.refusal.Refusal.TheVariants.{WeightForm}
-use Rattle.file_form.specs.Decimal.{zero_digit, digit_for}
+use Rattle.text_form.specs.Decimal.{zero_digit, digit_for}
 use Rattle.file_form.specs.Optional.{Optional}
 
 -- `V`

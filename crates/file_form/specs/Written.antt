@@ -5,7 +5,7 @@ use Rattle.lists.specs.Filled.{filled}
 use Rattle.lists.specs.Over.{over, stripes}
 use Rattle.matrix_form.specs.Shape.{columns}
 use Rattle.tree_form.specs.LentNumbers.{records_written}
-use Rattle.file_form.specs.Bytes.{first_piece}
+use Rattle.text_form.specs.Bytes.{first_piece}
 use Rattle.file_form.specs.Job.{Job, name_size}
 
 -- the lent list of names: 64 names of 16 bytes each

@@ -8,11 +8,5 @@ pub mod header;
 // A file has at most so many bytes.
 pub const MOST_BYTES: usize = 45000;
 
-// What pieces the fields of a line.
-pub const TAB: u8 = b'\t';
-
-// What ends a line.
-pub const LINE_FEED: u8 = b'\n';
-
 // A name has at most so many bytes, and takes so many of the lent list.
 pub const NAME_SIZE: usize = 16;

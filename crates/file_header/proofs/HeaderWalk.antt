@@ -21,16 +21,17 @@ use Rattle.file_form.specs.declared.header.Kind.{Kind}
 use Rattle.file_form.specs.declared.header.Kind.TheVariants.{Wagner, Own}
 use Rattle.tree_form.specs.declared.order.Order.{Order}
 use Rattle.tree_form.specs.declared.order.Order.TheVariants.{Advance, Closest}
-use Rattle.file_form.specs.Bytes.{line_feed, word_w, word_f, word_advance, word_closest}
-use Rattle.file_form.specs.Decimal.{number_form, number_of}
-use Rattle.file_form.specs.Lines.{lines_of, fields_of}
+use Rattle.text_form.specs.Bytes.{line_feed}
+use Rattle.file_form.specs.Words.{word_w, word_f, word_advance, word_closest}
+use Rattle.text_form.specs.Decimal.{number_form, number_of}
+use Rattle.text_form.specs.Lines.{lines_of, fields_of}
 use Rattle.file_form.specs.Kinds.{kind_form, is_kind, kind_said}
 use Rattle.file_form.specs.Header.{order_word, first_form, first_line_form, order_known, order_in, header_from, header_in}
 use Rattle.file_form.specs.Header.{ask_first_line}
 use Rattle.file_form.specs.Optional.{optional_there}
 use Rattle.file_form.specs.Weights.{letter_v}
 use Rattle.file_form.proofs.File.FirstForm.{too_few, too_many, no_kind, no_taxa, no_characters, all_right}
-use Rattle.file_form.proofs.Text.Parts.{pieces_some}
+use Rattle.text_form.proofs.Parts.{pieces_some}
 use Rattle.file_header.specs.Steps.{first_said, with_value, order_asked}
 use Rattle.file_text.specs.Steps.{read_as}
 use Rattle.file_header.proofs.Words.{other_text}

@@ -11,14 +11,13 @@ use Rattle.lists.specs.Tests.{same_numbers as same_text}
 use Rattle.matrix_form.specs.Outcomes.{ask}
 use Rattle.matrix_form.specs.declared.refusal.Refusal.TheVariants.{WeightForm}
 use Rattle.file_form.specs.declared.header.Header.{Header}
-use Rattle.file_form.specs.Bytes.{line_feed, first_piece}
-use Rattle.file_form.specs.Lines.{lines_of, fields_of}
+use Rattle.text_form.specs.Bytes.{line_feed, first_piece}
+use Rattle.text_form.specs.Lines.{lines_of, fields_of}
 use Rattle.file_form.specs.Optional.{optional_there, optional_fields, ask_optional, lines_taken}
 use Rattle.file_form.specs.Weights.{weights_form}
 use Rattle.file_form.specs.Formed.{ask_weights}
-use Rattle.file_form.proofs.Text.Parts.{pieces_some}
-use Rattle.file_form.proofs.Text.Fields.{lines_some}
-use Rattle.file_form.proofs.Text.FirstPart.{first_of_pieces}
+use Rattle.text_form.proofs.Parts.{pieces_some, lines_some}
+use Rattle.text_form.proofs.FirstPart.{first_of_pieces}
 
 -- the first line of a text is its first piece at a line feed
 pub first-line : (text line : List ℕ) → line ≡ first_piece line_feed text → get_or (lines_of text) 0 [] ≡ line

@@ -8,8 +8,8 @@ use borrow.Author.Tests.{eq-eqb, ne_eqb}
 use lib.Dec.{leb}
 use lib.ListN.{length, get_or, drop, length-drop}
 use Rattle.lists.specs.Tests.{every}
-use Rattle.file_form.specs.Bytes.{tab, pieces_at}
-use Rattle.file_form.specs.Lines.{fields_of}
+use Rattle.text_form.specs.Bytes.{tab, pieces_at}
+use Rattle.text_form.specs.Lines.{fields_of}
 use Rattle.file_form.specs.Weights.{weight_form, weight_in, weights_form}
 use Rattle.file_form.proofs.File.FirstForm.{fields_count}
 use Rattle.std.specs.Prelude.{None, Some, is_some}

@@ -9,12 +9,12 @@ use Rattle.matrix_form.specs.declared.refusal.Refusal.TheVariants.{FirstLine}
 use Rattle.matrix_form.specs.Outcomes.{Asked, value, refused, on_line}
 use Rattle.matrix_form.proofs.Passing.{ask_passed}
 use Rattle.file_form.specs.declared.header.Header.{Header}
-use Rattle.file_form.specs.Bytes.{line_feed, behind_piece}
-use Rattle.file_form.specs.Lines.{lines_of}
+use Rattle.text_form.specs.Bytes.{line_feed, behind_piece}
+use Rattle.text_form.specs.Lines.{lines_of}
 use Rattle.file_form.specs.Header.{header_in, first_line_form, ask_first_line, ask_header}
 use Rattle.file_form.specs.Formed.{ask_weights}
 use Rattle.file_form.proofs.File.HeaderRead.{several-lines}
-use Rattle.file_form.proofs.Text.FirstPart.{pieces_several}
+use Rattle.text_form.proofs.FirstPart.{pieces_several}
 use Rattle.file_form.specs.declared.answer.Refused.{Refused}
 use Rattle.file_header.specs.Steps.{at_line}
 use Rattle.file_header.proofs.Answering.{line_refused, line_passed, asked_refused, asked_passed}

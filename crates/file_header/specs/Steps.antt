@@ -7,7 +7,7 @@ use Rattle.matrix_form.specs.declared.refusal.Refusal.TheVariants.{UnknownOrder}
 use Rattle.file_form.specs.declared.header.Kind.{Kind}
 use Rattle.tree_form.specs.declared.order.Order.{Order}
 use Rattle.file_form.specs.declared.answer.Refused.{Refused}
-use Rattle.file_form.specs.Decimal.{number_of}
+use Rattle.text_form.specs.Decimal.{number_of}
 use Rattle.file_form.specs.Kinds.{kind_said}
 use Rattle.file_form.specs.Header.{order_known, order_in}
 

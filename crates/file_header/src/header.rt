@@ -1,6 +1,6 @@
 // The header of a file: line 1, and the `V` line.
 ghost use Rattle.std.specs.Prelude.{◌≡◌, true, ◌+◌};
-ghost use Rattle.file_form.specs.Lines.{lines_of, fields_of};
+ghost use Rattle.text_form.specs.Lines.{lines_of, fields_of};
 ghost use Rattle.file_form.specs.Kinds.{kind_form, is_kind, kind_said};
 ghost use Rattle.file_form.specs.Header.{order_word, first_form, header_in, header_lines, ask_first_line, ask_header};
 ghost use Rattle.file_form.specs.Calls.{read_says};
@@ -12,11 +12,11 @@ use crate::optional::optional_there;
 use crate::weights::{LETTER, ask_weights};
 use file_form::answer::Refused;
 use file_form::header::{Header, Kind};
-use file_form::{LINE_FEED, TAB};
 use file_text::bytes::{behind_piece, field, first_line, separators};
 use file_text::numbers::number;
 use matrix::questions::within_limits;
 use matrix_form::refusal::Refusal;
+use text_form::{LINE_FEED, TAB};
 use tree_form::order::Order;
 
 // How many lines a header takes: line 1, and the `V` line if there is one.

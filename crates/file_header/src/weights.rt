@@ -1,14 +1,14 @@
 // The weights of the characters in a file: the `V` line.
 ghost use Rattle.std.specs.Prelude.{◌≡◌, drop};
-ghost use Rattle.file_form.specs.Lines.{lines_of, fields_of};
+ghost use Rattle.text_form.specs.Lines.{lines_of, fields_of};
 ghost use Rattle.file_form.specs.Weights.{weight_form, weight_in, weights_form};
 ghost use Rattle.file_form.specs.Formed.{ask_weights};
 ghost use Rattle.file_text.specs.Steps.{read_as};
 
-use file_form::TAB;
 use file_form::header::Header;
 use file_text::bytes::{first_line, separators};
 use matrix_form::refusal::Refusal;
+use text_form::TAB;
 
 // The letter of the line.
 pub(crate) const LETTER: u8 = b'V';

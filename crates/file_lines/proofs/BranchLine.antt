@@ -8,8 +8,8 @@ use lib.ListN.{length, get_or}
 use Rattle.std.specs.Prelude.{Option, None, Some}
 use Rattle.std.specs.Option.{option_eq}
 use Rattle.lists.specs.Tests.{same_numbers as same_text}
-use Rattle.file_form.specs.Bytes.{word_c}
-use Rattle.file_form.specs.Decimal.{number_form, number_of}
+use Rattle.file_form.specs.Words.{word_c}
+use Rattle.text_form.specs.Decimal.{number_form, number_of}
 use Rattle.file_form.specs.Branches.{branch_form}
 use Rattle.file_form.proofs.BranchLines.Form.{node_decides}
 use Rattle.file_text.specs.Steps.{read_as}

@@ -8,11 +8,11 @@ use lib.IntN.{ℤ}
 use lib.ListN.{length, get_or, drop}
 use Rattle.std.specs.Prelude.{None, Some, Ok, Err}
 use Rattle.std.specs.List.{slice_split}
-use Rattle.file_form.specs.Bytes.{tab}
-use Rattle.file_form.specs.Decimal.{code_form, code_of}
-use Rattle.file_form.specs.Lines.{fields_of}
+use Rattle.text_form.specs.Bytes.{tab}
+use Rattle.text_form.specs.Decimal.{code_form, code_of}
+use Rattle.text_form.specs.Lines.{fields_of}
 use Rattle.file_form.specs.Rows.{ask_field, ask_codes}
-use Rattle.file_form.proofs.Text.Slices.{pieces_split}
+use Rattle.text_form.proofs.Slices.{pieces_split}
 use Rattle.matrix_form.specs.declared.refusal.Refusal.{Refusal}
 use Rattle.matrix_form.specs.declared.refusal.Refusal.TheVariants.{CodeForm}
 use Rattle.matrix_form.specs.Outcomes.{Asked, ask}

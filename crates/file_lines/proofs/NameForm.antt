@@ -9,9 +9,9 @@ use lib.Dec.{leb}
 use lib.ListN.{length, get_or, drop}
 use Rattle.std.specs.Char.{is_ascii_alphabetic}
 use Rattle.std.specs.List.{list_all}
-use Rattle.file_form.specs.Bytes.{is_letter}
-use Rattle.file_form.specs.Job.{name_size, name_form, in_name}
-use Rattle.file_form.proofs.Text.Slices.{every_all}
+use Rattle.text_form.specs.Bytes.{is_letter, in_name}
+use Rattle.file_form.specs.Job.{name_size, name_form}
+use Rattle.text_form.proofs.Slices.{every_all}
 
 -- an empty name is not well formed
 pub empty : (name : List ℕ) → length name < 1 → false ≡ name_form name

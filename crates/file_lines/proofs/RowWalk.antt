@@ -12,11 +12,11 @@ use Rattle.std.specs.Prelude.{Err}
 use Rattle.std.specs.Cmp.Lexicographic.{pointwise}
 use Rattle.std.specs.List.{list_any}
 use Rattle.lists.specs.Tests.{same_numbers as same_text}
-use Rattle.file_form.specs.Bytes.{tab, first_piece}
-use Rattle.file_form.specs.Lines.{fields_of}
+use Rattle.text_form.specs.Bytes.{tab, first_piece}
+use Rattle.text_form.specs.Lines.{fields_of}
 use Rattle.file_form.specs.Rows.{ask_codes, ask_row}
-use Rattle.file_form.proofs.Text.Fields.{name_first}
-use Rattle.file_form.proofs.Text.Slices.{same_pointwise, same_turned}
+use Rattle.file_form.proofs.Rows.Names.{name_first}
+use Rattle.text_form.proofs.Slices.{same_pointwise, same_turned}
 use Rattle.file_form.specs.Job.{name_form, differs_from_all}
 use Rattle.matrix_form.specs.declared.refusal.Refusal.TheVariants.{FieldCount, NameForm, NameTaken}
 use Rattle.matrix_form.specs.Outcomes.{Asked, ask}

@@ -1,13 +1,13 @@
 // The question put to the `C` line of a node.
 ghost use Rattle.std.specs.Prelude.{◌≡◌};
 ghost use Rattle.matrix_form.specs.Outcomes.{ask};
-ghost use Rattle.file_form.specs.Lines.{fields_of};
+ghost use Rattle.text_form.specs.Lines.{fields_of};
 ghost use Rattle.file_form.specs.Branches.{branch_form};
 
-use file_form::TAB;
 use file_text::bytes::{field, separators};
 use file_text::numbers::number;
 use matrix_form::refusal::Refusal;
+use text_form::TAB;
 
 // The field of a `C` line that says its node.
 pub const NODE: usize = 1;

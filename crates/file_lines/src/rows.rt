@@ -1,16 +1,17 @@
 // The questions put to a row's line.
 ghost use Rattle.std.specs.Prelude.{◌≡◌, not, drop};
 ghost use Rattle.file_form.specs.Job.{name_form, differs_from_all};
-ghost use Rattle.file_form.specs.Lines.{fields_of};
+ghost use Rattle.text_form.specs.Lines.{fields_of};
 ghost use Rattle.file_form.specs.Rows.{ask_field, ask_codes, ask_row};
 ghost use Rattle.file_lines.specs.Steps.{names_passed};
 
+use file_form::NAME_SIZE;
 use file_form::header::Header;
-use file_form::{NAME_SIZE, TAB};
 use file_text::bytes::{first_piece, in_name, separators};
 use file_text::numbers::code;
 use matrix::questions::ask_code;
 use matrix_form::refusal::Refusal;
+use text_form::TAB;
 
 // Whether a name is well formed.
 fn name_form(name: &[u8]) -> bool

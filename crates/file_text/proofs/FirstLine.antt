@@ -4,10 +4,10 @@ use mathlib.Core.List.{List, [], ◌∷◌}
 use Prim.Native.Nat.{ℕ, ◌+◌}
 use native.Mathlib.Omega.{arith}
 use lib.ListN.{length, drop}
-use Rattle.file_form.specs.Bytes.{line_feed, pieces_at, piece_length, first_piece}
-use Rattle.file_form.specs.Lines.{lines_of}
-use Rattle.file_form.proofs.Text.FirstPart.{pieces_one, pieces_more, piece-within, first-length}
-use Rattle.file_form.proofs.Text.PartWalk.{behind}
+use Rattle.text_form.specs.Bytes.{line_feed, pieces_at, piece_length, first_piece}
+use Rattle.text_form.specs.Lines.{lines_of}
+use Rattle.text_form.proofs.FirstPart.{pieces_one, pieces_more, piece-within, first-length}
+use Rattle.text_form.proofs.PartWalk.{behind}
 
 -- a text whose first line is the whole of it has no other
 pub only_line : (text line : List ℕ) → line ≡ first_piece line_feed text → length line ≡ length text → lines_of text ≡ text ∷ []

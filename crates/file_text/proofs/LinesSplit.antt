@@ -20,9 +20,9 @@ use Rattle.std.proofs.lemmas.Iterator.Consumers.{YieldsList-at, YieldsList-from_
 use Rattle.std.proofs.lemmas.Iterator.Splits.{YieldsList-from_slice_split}
 use Rattle.std.proofs.lemmas.List.FromFn.{length-enumerate_from, get_or-enumerate_from}
 use Rattle.std.proofs.lemmas.Iterator.Adapters.{YieldsList-from_skip}
-use Rattle.file_form.specs.Bytes.{tab, line_feed}
-use Rattle.file_form.specs.Lines.{lines_of}
-use Rattle.file_form.proofs.Text.Slices.{pieces_split}
+use Rattle.text_form.specs.Bytes.{tab, line_feed}
+use Rattle.text_form.specs.Lines.{lines_of}
+use Rattle.text_form.proofs.Slices.{pieces_split}
 
 -- what stands at an index of a list does not depend on what stands behind its end
 get_or_any : {A : Type 0} (xs : List A) (i : ℕ) (d e : A) → i < length xs → get_or xs i d ≡ get_or xs i e

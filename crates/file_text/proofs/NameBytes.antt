@@ -4,8 +4,7 @@ use mathlib.Core.Bool.{Bool, true, false, ◌&&◌, ◌||◌}
 use Prim.Native.Nat.{ℕ}
 use lib.Dec.{leb, eqb}
 use Rattle.std.specs.Char.{is_ascii_alphanumeric}
-use Rattle.file_form.specs.Bytes.{is_digit, is_letter}
-use Rattle.file_form.specs.Job.{in_name}
+use Rattle.text_form.specs.Bytes.{is_digit, is_letter, in_name}
 
 -- four tests in two orders
 reordered : (digit upper lower other : Bool) → ((digit || upper) || lower) || other ≡ (upper || lower) || (digit || other)

@@ -2,8 +2,8 @@
 use mathlib.Core.List.{List, [], ◌∷◌}
 use denote.Ref.{Bor}
 use Rattle.std.specs.Prelude.{◌≡◌, Bool, cond, ℕ, Option, None, Some, ◌<◌}
-use Rattle.file_form.specs.Decimal.{number_of}
-use Rattle.file_form.specs.Lines.{lines_of}
+use Rattle.text_form.specs.Decimal.{number_of}
+use Rattle.text_form.specs.Lines.{lines_of}
 
 -- what a text, or the fields of a line, are read as, if they have the form
 abbrev pub read_as : {A B : Type 0} → (A → Bool) → (A → B) → A → Option B

@@ -1,11 +1,10 @@
 // Bytes of names, and pieces of a text.
 ghost use Rattle.std.specs.Prelude.{◌≡◌, ◌+◌, [], length, get_or, drop};
-ghost use Rattle.file_form.specs.Bytes.{pieces_at, piece_length, first_piece, behind_piece};
-ghost use Rattle.file_form.specs.Job.{in_name};
-ghost use Rattle.file_form.specs.Lines.{fields_of};
+ghost use Rattle.text_form.specs.Bytes.{pieces_at, piece_length, first_piece, behind_piece, in_name};
+ghost use Rattle.text_form.specs.Lines.{fields_of};
 ghost use Rattle.file_text.specs.Steps.{FirstLine};
 
-use file_form::{LINE_FEED, TAB};
+use text_form::{LINE_FEED, TAB};
 
 // Whether a byte is a letter, a digit or `_`.
 pub fn in_name(byte: u8) -> bool

@@ -1,6 +1,6 @@
 // Whole numbers in decimal: the number and the code that a text says.
 ghost use Rattle.std.specs.Prelude.{◌≡◌, true, ◌<◌, IfSome};
-ghost use Rattle.file_form.specs.Decimal.{number_form, number_of, code_form, code_of};
+ghost use Rattle.text_form.specs.Decimal.{number_form, number_of, code_form, code_of};
 ghost use Rattle.file_text.specs.Steps.{read_as, a_million, NumberSaid};
 
 // A number has at most six digits.

@@ -18,9 +18,9 @@ use Rattle.consistency_form.specs.declared.index.Index.{Index}
 use Rattle.lists.proofs.Numbers.{map-numbers}
 use Rattle.difference_form.specs.Rows.{apart}
 use Rattle.difference_form.proofs.Laws.Codes.{apart_from_zero}
-use Rattle.file_form.specs.Bytes.{minus, piece_length, first_piece}
-use Rattle.file_form.specs.Decimal.{digits_of, decimal}
-use Rattle.file_form.specs.Text.{bytes}
+use Rattle.text_form.specs.Bytes.{minus, piece_length, first_piece}
+use Rattle.text_form.specs.Decimal.{digits_of, decimal}
+use Rattle.text_form.specs.Text.{bytes}
 use Rattle.file_form.specs.Job.{name_size}
 use Rattle.listing_form.specs.Lines.{line, hyphen, htu_name, node_name}
 use Rattle.listing_form.specs.Kinds.{index_line}

@@ -5,7 +5,7 @@ use Prim.Native.Nat.{ℕ, ◌+◌, ◌≤◌, ◌<◌}
 use native.Mathlib.Numerals.{add-one}
 use borrow.Author.Tests.{lt-ltb, le-ltb}
 use lib.ListN.{length, set}
-use Rattle.file_form.specs.Bytes.{tab}
+use Rattle.text_form.specs.Bytes.{tab}
 use Rattle.lines.specs.declared.put.Listing.{Listing}
 use Rattle.lines.specs.Put.{put_byte, put_text, Put}
 use Rattle.lines.specs.Puts.{Puts}

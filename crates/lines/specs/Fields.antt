@@ -4,7 +4,7 @@ use Rattle.file_form.specs.Written.{names_in}
 use Rattle.lines.specs.declared.names.Names.{Names}
 use Rattle.lines.specs.declared.names.Node.{Node}
 use Rattle.listing_form.specs.Lines.{hyphen, node_name, line}
-use Rattle.file_form.specs.Decimal.{digits_of}
+use Rattle.text_form.specs.Decimal.{digits_of}
 
 -- the names of taxa that lent bytes hold
 abbrev pub names_of : Names → List (List ℕ)

@@ -1,7 +1,7 @@
 // The fields of a line: what each says, and how it is put.
 ghost use Rattle.std.specs.Prelude.{List, ◌∷◌, ℕ};
-ghost use Rattle.file_form.specs.Bytes.{tab};
-ghost use Rattle.file_form.specs.Decimal.{digits_of, decimal};
+ghost use Rattle.text_form.specs.Bytes.{tab};
+ghost use Rattle.text_form.specs.Decimal.{digits_of, decimal};
 ghost use Rattle.listing_form.specs.Kinds.{mark};
 ghost use Rattle.lines.specs.Fields.{node_text, or_hyphen};
 ghost use Rattle.lines.specs.Puts.{Puts};
@@ -9,7 +9,7 @@ ghost use Rattle.lines.specs.Puts.{Puts};
 use crate::names::Node;
 use crate::put::Listing;
 use difference::codes::apart;
-use file_form::TAB;
+use text_form::TAB;
 
 const HYPHEN: u8 = b'-';
 

@@ -9,12 +9,12 @@ ghost use Rattle.lines.specs.Fields.{names_of};
 use crate::names::Names;
 use crate::put::Listing;
 use consistency_form::index::Index;
-use file_form::LINE_FEED;
 use fit_form::characters::States;
 use fit_form::whole::BranchFit;
 use matrix::refusal::number;
 use matrix_form::refusal::Refusal;
 use prim_form::answer::Link;
+use text_form::LINE_FEED;
 use tree_form::placement::Placement;
 
 impl<'a> Listing<'a> {

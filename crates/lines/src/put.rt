@@ -1,6 +1,6 @@
 // A listing under way: bytes, digits and names are put into lent bytes, one behind the other. A byte without room is left out.
 ghost use Rattle.std.specs.Prelude.{◌≡◌, ◌<◌};
-ghost use Rattle.file_form.specs.Decimal.{digit_for};
+ghost use Rattle.text_form.specs.Decimal.{digit_for};
 
 const ZERO_DIGIT: u8 = b'0';
 
@@ -24,8 +24,8 @@ fn digit(n: u64) -> u8
 
 impl<'a> Listing<'a> {
     ghost use Rattle.std.specs.Prelude.{[], ◌∷◌};
-    ghost use Rattle.file_form.specs.Bytes.{first_piece};
-    ghost use Rattle.file_form.specs.Decimal.{digits_of};
+    ghost use Rattle.text_form.specs.Bytes.{first_piece};
+    ghost use Rattle.text_form.specs.Decimal.{digits_of};
     ghost use Rattle.lines.specs.Puts.{Puts};
 
     // Puts a byte.

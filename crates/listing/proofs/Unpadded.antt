@@ -13,8 +13,8 @@ use Rattle.lists.specs.Filled.{filled}
 use Rattle.lists.specs.Tests.{every}
 use Rattle.lists.proofs.Both.{and_left, and_right}
 use Rattle.lists.proofs.Every.{every-head, every-tail}
-use Rattle.file_form.specs.Bytes.{underscore, is_digit, is_letter, piece_length, first_piece}
-use Rattle.file_form.specs.Job.{name_size, in_name, name_form}
+use Rattle.text_form.specs.Bytes.{underscore, is_digit, is_letter, piece_length, first_piece, in_name}
+use Rattle.file_form.specs.Job.{name_size, name_form}
 use Rattle.file_form.specs.Written.{padded}
 use Rattle.listing_form.specs.Lines.{node_name}
 use Rattle.file_form.specs.Written.{names_in}

@@ -14,8 +14,10 @@ use Rattle.matrix_form.specs.NodeRows as matrix-NodeRows
 use Rattle.matrix_form.specs.Outcomes as matrix-Outcomes
 use Rattle.matrix_form.specs.Questions as matrix-Questions
 use Rattle.difference_form.specs.Rows as difference-Rows
-use Rattle.file_form.specs.Bytes as file-form-Bytes
-use Rattle.file_form.specs.Decimal as file-form-Decimal
+use Rattle.text_form.specs.Bytes as text-Bytes
+use Rattle.text_form.specs.Lines as text-Lines
+use Rattle.text_form.specs.Decimal as text-Decimal
+use Rattle.text_form.specs.Text as text-Text
 use Rattle.file_form.specs.Job as file-form-Job
 use Rattle.file_form.specs.Kinds as file-form-Kinds
 use Rattle.file_form.specs.Lines as file-form-Lines
@@ -25,7 +27,6 @@ use Rattle.file_form.specs.Weights as file-form-Weights
 use Rattle.file_form.specs.Branches as file-form-Branches
 use Rattle.file_form.specs.Rows as file-form-Rows
 use Rattle.file_form.specs.Reading as file-form-Reading
-use Rattle.file_form.specs.Text as file-form-Text
 use Rattle.prim_form.specs.Network as prim-Network
 use Rattle.tree_form.specs.Ancestors as branching-Ancestors
 use Rattle.tree_form.specs.Nodes as branching-Nodes
@@ -57,13 +58,13 @@ unfolding flat_map matrix-Shape.row matrix-Shape.in_range matrix-Shape.last_node
     matrix-Outcomes.ask_each matrix-Questions.ask_code matrix-Questions.ask_row_of matrix-Questions.ask_rows_of matrix-Questions.ask_matrix
     matrix-Questions.nodes_exist matrix-Questions.ask_htu matrix-Questions.ask_nodes difference-Rows.apart difference-Rows.lower difference-Rows.higher
     difference-Rows.median difference-Rows.part matrix-Shape.weight_at matrix-Shape.weight_of matrix-Shape.is_weight
-    difference-Rows.difference difference-Rows.medians file-form-Bytes.is_digit file-form-Bytes.is_letter
-    file-form-Bytes.pieces_at file-form-Bytes.piece_length file-form-Bytes.first_piece file-form-Bytes.behind_piece
-    file-form-Bytes.joined_by file-form-Decimal.digits_in file-form-Decimal.digits_of file-form-Decimal.decimal
-    file-form-Decimal.no_leading_zero file-form-Decimal.number_form file-form-Decimal.number_from file-form-Decimal.number_of
-    file-form-Decimal.code_form file-form-Decimal.code_of file-form-Job.in_name file-form-Job.name_form
+    difference-Rows.difference difference-Rows.medians text-Bytes.is_digit text-Bytes.is_letter
+    text-Bytes.pieces_at text-Bytes.piece_length text-Bytes.first_piece text-Bytes.behind_piece
+    text-Bytes.joined_by text-Decimal.digits_in text-Decimal.digits_of text-Decimal.decimal
+    text-Decimal.no_leading_zero text-Decimal.number_form text-Decimal.number_from text-Decimal.number_of
+    text-Decimal.code_form text-Decimal.code_of text-Bytes.in_name file-form-Job.name_form
     file-form-Job.differs_from_all file-form-Job.all_differ file-form-Job.has_codes file-form-Job.first_text file-form-Job.row_text
-    file-form-Job.ended file-form-Job.file_of file-form-Lines.lines_of file-form-Lines.fields_of file-form-Header.header_in
+    text-Lines.ended file-form-Job.file_of text-Lines.lines_of text-Lines.fields_of file-form-Header.header_in
     file-form-Header.first_form file-form-Header.order_known file-form-Header.is_order file-form-Header.order_in
     file-form-Header.first_line_form file-form-Header.ask_first_line file-form-Header.ask_header
     file-form-Optional.optional_there file-form-Optional.optional_fields file-form-Optional.ask_optional
@@ -73,7 +74,7 @@ unfolding flat_map matrix-Shape.row matrix-Shape.in_range matrix-Shape.last_node
     file-form-Rows.name_in file-form-Rows.codes_in file-form-Rows.ask_field file-form-Rows.ask_codes file-form-Rows.ask_row
     file-form-Lines.ask_lines
     file-form-Reading.job_of file-form-Reading.nothing_more file-form-Reading.ask_end file-form-Reading.ask_behind
-    file-form-Reading.ask_file file-form-Reading.ask_length file-form-Reading.read_answer file-form-Text.bytes prim-Network.taxa
+    file-form-Reading.ask_file file-form-Reading.ask_length file-form-Reading.read_answer text-Text.bytes prim-Network.taxa
     prim-Network.network_length lists-Tests.among lists-Filters.without prim-Network.unplaced prim-Network.nearest_placed
     prim-Network.distance prim-Network.link prim-Network.next prim-Network.grow prim-Network.network difference-Rows.node_difference
     branching-Ancestors.ancestor branching-Ancestors.descendants branching-Nodes.has_ancestor branching-Nodes.in_tree lists-Filters.keep
@@ -100,4 +101,4 @@ unfolding flat_map matrix-Shape.row matrix-Shape.in_range matrix-Shape.last_node
     lines-Kinds.state_line lines-Kinds.refusal_line listing-Meant.tree_for listing-Blocks.network_lines listing-Blocks.build_lines
     listing-Blocks.fitted_line listing-Blocks.fitted_lines listing-Blocks.state_line_of listing-Blocks.node_lines listing-Blocks.state_lines listing-Blocks.lines_of_build listing-Blocks.lines_of_tree
     listing-Listing.lines_before listing-Listing.listing listing-Listing.printed listing-Listing.listing_of listing-Listing.output
-computed lines = listing-Listing.output (flat_map file-form-Text.bytes lines)
+computed lines = listing-Listing.output (flat_map text-Text.bytes lines)

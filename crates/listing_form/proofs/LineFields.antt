@@ -2,7 +2,7 @@
 use mathlib.Core.Path.{◌≡◌, refl, ap, ◌∙◌}
 use mathlib.Core.List.{List, [], ◌∷◌, ◌++◌, append_assoc}
 use Prim.Native.Nat.{ℕ}
-use Rattle.file_form.specs.Bytes.{tab, line_feed, joined_by}
+use Rattle.text_form.specs.Bytes.{tab, line_feed, joined_by}
 use Rattle.listing_form.specs.Lines.{line}
 
 -- what stands behind the first field of a line: a tab before each field, and the line feed

@@ -9,8 +9,8 @@ use lib.ListN.{length, length-append}
 use Rattle.lists.proofs.Filled.{get_d_replicate}
 use Rattle.matrix_form.specs.Shape.{weight_at}
 use Rattle.matrix_form.specs.Outcomes.{Outcome, value, refused}
-use Rattle.file_form.specs.Decimal.{digits_of}
-use Rattle.file_form.specs.Text.{bytes}
+use Rattle.text_form.specs.Decimal.{digits_of}
+use Rattle.text_form.specs.Text.{bytes}
 use Rattle.file_form.specs.Job.{Job}
 use Rattle.file_form.specs.declared.header.Kind.{Kind}
 use Rattle.file_form.specs.declared.header.Kind.TheVariants.{Wagner, Own}

@@ -1,6 +1,6 @@
 -- The lines of the listing, block by block, over the numbers that they print.
 use mathlib.Core.List.{List, [], ◌∷◌, ◌++◌, map, flat_map}
-use Rattle.std.specs.Prelude.{ℕ, ◌+◌, Bool, Option, ℤ}
+use Rattle.std.specs.Prelude.{ℕ, Bool, Option, ℤ}
 use Rattle.lists.specs.Numbers.{numbers}
 use Rattle.prim_form.specs.Network.{Link}
 use Rattle.tree_form.specs.declared.placement.Placement.{Placement}

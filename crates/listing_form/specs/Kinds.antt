@@ -1,8 +1,8 @@
 -- The kinds of line that a listing has, each by what it is to say.
 use Rattle.std.specs.Prelude.{List, [], ◌∷◌, Bool, true, false, Option, Some, None, ℕ, ℤ}
 use Prim.Native.String.{String}
-use Rattle.file_form.specs.Decimal.{digits_of, decimal}
-use Rattle.file_form.specs.Text.{bytes}
+use Rattle.text_form.specs.Decimal.{digits_of, decimal}
+use Rattle.text_form.specs.Text.{bytes}
 use Rattle.prim_form.specs.Network.{Link}
 use Rattle.tree_form.specs.declared.placement.Placement.{Placement}
 use Rattle.consistency_form.specs.declared.index.Index.{Index}

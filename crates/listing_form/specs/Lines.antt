@@ -1,9 +1,9 @@
 -- A line of the listing, and the node that a field names.
 use mathlib.Core.List.{List, [], ◌∷◌, ◌++◌, flat_map}
 use Rattle.std.specs.Prelude.{true, false, ℕ, zero, suc, ◌-◌, leb, get_or}
-use Rattle.file_form.specs.Bytes.{tab, line_feed, joined_by}
-use Rattle.file_form.specs.Decimal.{digits_of}
-use Rattle.file_form.specs.Text.{bytes}
+use Rattle.text_form.specs.Bytes.{tab, line_feed, joined_by}
+use Rattle.text_form.specs.Decimal.{digits_of}
+use Rattle.text_form.specs.Text.{bytes}
 
 -- a line: its fields parted by tabs, ended by a line feed
 unfoldable pub line : List (List ℕ) → List ℕ

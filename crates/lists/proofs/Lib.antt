@@ -1,4 +1,5 @@
 -- Laws of the definitions of this crate.
+pub mod Between
 pub mod Both
 pub mod Every
 pub mod Keep

@@ -15,7 +15,7 @@ pub fn in_range(code: i32) -> bool
 }
 
 // Whether an item, counted from 1, is one of `last`.
-#[tactic(auto, using(matrix_form::proofs::Between::nat_between), unfolding(matrix_form::specs::Questions::one_to))]
+#[tactic(auto, using(lists::proofs::Between::nat_between), unfolding(matrix_form::specs::Questions::one_to))]
 pub fn one_to(last: usize, item: usize) -> bool
     ensures { result ≡ one_to last item }
 {

@@ -6,7 +6,7 @@ ghost use Rattle.matrix_form.specs.Questions.{are_weights};
 use crate::{HEAVIEST, LIGHTEST};
 
 // Whether a weight is from 1 to 9.
-#[tactic(auto, using(matrix_form::proofs::Between::nat_between), unfolding(matrix_form::specs::Shape::is_weight))]
+#[tactic(auto, using(lists::proofs::Between::nat_between), unfolding(matrix_form::specs::Shape::is_weight))]
 pub fn is_weight(weight: u8) -> bool
     ensures { result ≡ is_weight weight }
 {

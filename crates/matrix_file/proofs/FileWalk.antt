@@ -15,8 +15,9 @@ use Rattle.matrix_form.specs.Outcomes.{Asked, ask, Outcome, value, refused, on_l
 use Rattle.matrix_form.specs.Questions.{within_limits, one_to}
 use Rattle.matrix_form.proofs.Passing.{one_to-true}
 use Rattle.file_form.specs.declared.header.Header.{Header}
-use Rattle.file_form.specs.Bytes.{line_feed, before_first, pieces_at}
-use Rattle.file_form.specs.Lines.{lines_of, ask_lines}
+use Rattle.text_form.specs.Bytes.{line_feed, before_first, pieces_at}
+use Rattle.text_form.specs.Lines.{lines_of}
+use Rattle.file_form.specs.Lines.{ask_lines}
 use Rattle.file_form.specs.Header.{header_lines, ask_header}
 use Rattle.file_form.specs.Rows.{row_sort}
 use Rattle.file_form.specs.Job.{Job, most_bytes}
@@ -25,7 +26,7 @@ use Rattle.file_form.specs.Reading.{behind_rows, job_of, nothing_more, ask_end, 
 use Rattle.file_form.specs.Reading.{read_answer}
 use Rattle.file_form.specs.Formed.{BranchesFormed}
 use Rattle.file_form.proofs.File.HeaderRead.{HeaderPassed, header_passed, several-lines, header_behind}
-use Rattle.file_form.proofs.Text.Parts.{pieces_some, pieces_at_lem, pieces_other}
+use Rattle.text_form.proofs.Parts.{pieces_some, pieces_at_lem, pieces_other}
 use Rattle.file_form.specs.declared.answer.Refused.{Refused}
 use Rattle.file_form.specs.Calls.{read_says, with_header}
 use Rattle.matrix_file.specs.Steps.{passed_says, lines_say, LinesAsked, RestAsked}

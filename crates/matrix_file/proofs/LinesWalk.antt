@@ -10,8 +10,9 @@ use lib.Seq.{take-suc}
 use Rattle.std.specs.Prelude.{Result, Ok, Err}
 use Rattle.matrix_form.specs.Outcomes.{Asked, Outcome, on_line}
 use Rattle.file_form.specs.Job.{Job}
-use Rattle.file_form.specs.Lines.{LineSort, lines_of, ask_lines}
-use Rattle.file_form.proofs.Text.Fields.{lines_some}
+use Rattle.text_form.specs.Lines.{lines_of}
+use Rattle.file_form.specs.Lines.{LineSort, ask_lines}
+use Rattle.text_form.proofs.Parts.{lines_some}
 use Rattle.file_form.specs.declared.answer.Refused.{Refused}
 use Rattle.file_header.specs.Steps.{at_line}
 use Rattle.file_header.proofs.Answering.{asked_refused, asked_passed}

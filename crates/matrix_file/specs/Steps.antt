@@ -8,7 +8,8 @@ use Rattle.matrix_form.specs.Refusals.{refusal_number}
 use Rattle.file_form.specs.declared.header.Header.{Header}
 use Rattle.file_form.specs.declared.answer.Refused.{Refused}
 use Rattle.file_form.specs.Job.{Job}
-use Rattle.file_form.specs.Lines.{LineSort, lines_of, ask_lines}
+use Rattle.text_form.specs.Lines.{lines_of}
+use Rattle.file_form.specs.Lines.{LineSort, ask_lines}
 use Rattle.file_form.specs.Header.{optional_lines}
 use Rattle.file_form.specs.Rows.{name_in}
 use Rattle.file_form.specs.Branches.{branch_count, ancestor_in}

@@ -1,8 +1,8 @@
 // What stands behind lines of a text.
 ghost use Rattle.std.specs.Prelude.{◌≡◌, ◌<◌, length, drop};
-ghost use Rattle.file_form.specs.Lines.{lines_of};
+ghost use Rattle.text_form.specs.Lines.{lines_of};
 
-use file_form::LINE_FEED;
+use text_form::LINE_FEED;
 
 // What stands behind the first `count` lines of a text that goes on behind them.
 pub(crate) fn behind_lines(text: &[u8], count: usize) -> &[u8]

@@ -4,7 +4,7 @@
 ghost use Rattle.std.specs.Prelude.{◌≡◌, ◌≤◌, ◌<◌, length, []};
 ghost use Rattle.matrix_form.specs.Shape.{most_taxa};
 ghost use Rattle.matrix_form.specs.Outcomes.{ask};
-ghost use Rattle.file_form.specs.Lines.{lines_of};
+ghost use Rattle.text_form.specs.Lines.{lines_of};
 ghost use Rattle.file_form.specs.Header.{header_lines};
 ghost use Rattle.file_form.specs.Rows.{row_sort};
 ghost use Rattle.file_form.specs.Reading.{nothing_more, ask_length, ask_behind, read_answer};
@@ -13,9 +13,9 @@ ghost use Rattle.matrix_file.specs.Steps.{behind_rows_most, passed_says, left_of
 
 use crate::behind::behind_lines;
 use crate::branches::{ask_branches, ask_tree, branch_count};
+use file_form::MOST_BYTES;
 use file_form::answer::Refused;
 use file_form::header::Header;
-use file_form::{MOST_BYTES, TAB};
 use file_header::answer::on_line;
 use file_header::header::{ask_header, header_lines};
 use file_lines::rows::ask_row;
@@ -23,6 +23,7 @@ use file_text::bytes::{first_line, first_piece};
 use filled::Filled;
 use matrix::MOST_TAXA;
 use matrix_form::refusal::Refusal;
+use text_form::TAB;
 
 // For each row in turn: is there another line, ended by a line feed? Its own questions. Row 1 stands in line `first`. What stands behind
 // the last row.

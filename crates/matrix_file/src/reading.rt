@@ -10,13 +10,13 @@ use crate::behind::behind_lines;
 use crate::branches::{branch_count, write_branches};
 use crate::judging::ask_file;
 use crate::writing::{write_matrix, write_names, write_weights};
-use file_form::LINE_FEED;
 use file_form::answer::Refused;
 use file_form::header::Header;
 use file_header::header::header_lines;
 use file_text::bytes::behind_piece;
 use matrix::{COLUMNS, MATRIX_SIZE};
 use matrix_form::refusal::Refusal;
+use text_form::LINE_FEED;
 use tree_records::numbers::LENT_NUMBERS;
 
 // The lengths of the matrix, the weights, the names and the branches that are lent.

@@ -2,10 +2,10 @@
 ghost use Rattle.std.specs.Prelude.{◌≡◌, true, ◌||◌, not, map, ◌*◌, ◌≤◌, length, take, drop};
 ghost use Rattle.lists.specs.Over.{over, stripes};
 ghost use Rattle.lists.specs.Tests.{every};
-ghost use Rattle.file_form.specs.Decimal.{code_form};
+ghost use Rattle.text_form.specs.Decimal.{code_form};
 ghost use Rattle.matrix_form.specs.Shape.{columns};
 ghost use Rattle.file_form.specs.Job.{name_size};
-ghost use Rattle.file_form.specs.Lines.{lines_of, fields_of};
+ghost use Rattle.text_form.specs.Lines.{lines_of, fields_of};
 ghost use Rattle.file_form.specs.Optional.{optional_fields};
 ghost use Rattle.file_form.specs.Weights.{weights_form, weights_said};
 ghost use Rattle.file_form.specs.Rows.{codes_in};
@@ -13,12 +13,13 @@ ghost use Rattle.file_form.specs.Formed.{RowsFormed};
 ghost use Rattle.matrix_file.specs.Steps.{padded_in};
 ghost use Rattle.file_form.specs.Written.{padded};
 
+use file_form::NAME_SIZE;
 use file_form::header::Header;
-use file_form::{LINE_FEED, NAME_SIZE, TAB};
 use file_header::weights::weight;
 use file_text::bytes::first_piece;
 use file_text::numbers::code;
 use matrix::{COLUMNS, LIGHTEST};
+use text_form::{LINE_FEED, TAB};
 
 // Writes the codes of a row's line, behind its name, over the front of a list.
 fn write_codes(out: &mut [i32], line: &[u8])

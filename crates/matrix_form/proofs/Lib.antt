@@ -1,5 +1,4 @@
 -- Laws of rows and of questions; computed examples.
-pub mod Between
 pub mod Each
 pub mod Passing
 pub mod Limits

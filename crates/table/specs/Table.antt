@@ -3,7 +3,7 @@
 use Rattle.std.specs.Prelude.{◌≡◌, ℕ, ℤ, pos, negsuc, replicate}
 use mathlib.Core.List.{List, [], ◌∷◌, flat_map}
 use Prim.Native.String.{String}
-use Rattle.file_form.specs.Text.{bytes}
+use Rattle.text_form.specs.Text.{bytes}
 use Rattle.difference_form.specs.Rows.{difference, median, interval_difference}
 use Rattle.fit_form.specs.Sets.{join}
 use Rattle.matrix_form.specs.declared.spans.Span.{Span}

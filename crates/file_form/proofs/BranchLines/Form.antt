@@ -1,5 +1,5 @@
 -- The form of a `C` line, test by test, and what it tells.
-use mathlib.Core.Path.{◌≡◌, refl, ap, ◌∙◌}
+use mathlib.Core.Path.{◌≡◌, ap, ◌∙◌}
 use mathlib.Core.Logic.{◌≢◌}
 use mathlib.Core.Bool.{Bool, true, false, ◌&&◌, and-true}
 use mathlib.Core.List.{List, []}
@@ -10,8 +10,8 @@ use lib.ListN.{length, get_or}
 use Rattle.lists.specs.Tests.{same_numbers as same_text}
 use Rattle.lists.proofs.Both.{and_left, and_right, and_both}
 use Rattle.lists.proofs.Every.{same_numbers_iff}
-use Rattle.file_form.specs.Bytes.{word_c}
-use Rattle.file_form.specs.Decimal.{number_form, number_of}
+use Rattle.file_form.specs.Words.{word_c}
+use Rattle.text_form.specs.Decimal.{number_form, number_of}
 use Rattle.file_form.specs.Branches.{branch_form}
 use Rattle.file_form.proofs.File.FirstForm.{and-false}
 

@@ -10,12 +10,12 @@ use Rattle.lists.specs.Numbers.{numbers}
 use Rattle.matrix_form.specs.declared.refusal.Refusal.TheVariants.{BranchForm}
 use Rattle.std.specs.Prelude.{Ok}
 use Rattle.matrix_form.proofs.Passing.{ask_passed}
-use Rattle.file_form.specs.Bytes.{tab, joined_by}
-use Rattle.file_form.specs.Decimal.{digits_of}
-use Rattle.file_form.specs.Lines.{fields_of}
+use Rattle.text_form.specs.Bytes.{tab, joined_by}
+use Rattle.text_form.specs.Decimal.{digits_of}
+use Rattle.text_form.specs.Lines.{fields_of}
 use Rattle.file_form.specs.Branches.{branch_form, ancestor_in, branch_text, branch_sort}
-use Rattle.file_form.proofs.Decimal.Digits.{digits_of_number}
-use Rattle.file_form.proofs.Text.Parts.{joined_pieces}
+use Rattle.text_form.proofs.Digits.{digits_of_number}
+use Rattle.text_form.proofs.Parts.{joined_pieces}
 use Rattle.file_form.proofs.File.InTurn.{AllPass}
 use Rattle.file_form.proofs.BranchLines.Form.{form_tells}
 

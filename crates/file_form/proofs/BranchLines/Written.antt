@@ -20,15 +20,16 @@ use Rattle.tree_form.specs.Growing.{branching}
 use Rattle.tree_form.specs.LentNumbers.{record_numbers}
 use Rattle.tree_form.proofs.Test.{branching_iff}
 use Rattle.tree_form.proofs.Whole.{growing_ancestor_le}
-use Rattle.file_form.specs.Bytes.{line_feed, word_c}
-use Rattle.file_form.specs.Decimal.{digits_of, number_of}
-use Rattle.file_form.specs.Lines.{fields_of}
+use Rattle.text_form.specs.Bytes.{line_feed}
+use Rattle.file_form.specs.Words.{word_c}
+use Rattle.text_form.specs.Decimal.{digits_of, number_of}
+use Rattle.text_form.specs.Lines.{fields_of}
 use Rattle.file_form.specs.Branches.{branch_form, ancestor_in, branch_text, branch_sort}
 use Rattle.file_form.specs.Formed.{record_in}
-use Rattle.file_form.proofs.Decimal.Digits.{number_of_digits, digits_form}
+use Rattle.text_form.proofs.Digits.{number_of_digits, digits_form}
 use Rattle.file_form.proofs.File.InTurn.{AllPass}
-use Rattle.file_form.proofs.Text.Parts.{lacks}
-use Rattle.file_form.proofs.Text.Plain.{plain, digits_plain, line_fields, line_lacks}
+use Rattle.text_form.proofs.Parts.{lacks}
+use Rattle.text_form.proofs.Plain.{plain, digits_plain, line_fields, line_lacks}
 
 -- the `C` line of a node and its ancestor
 module _ (v above : ℕ) where

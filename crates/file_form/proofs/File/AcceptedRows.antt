@@ -10,9 +10,9 @@ use Rattle.lists.specs.Tests.{every}
 use Rattle.matrix_form.specs.Shape.{most_taxa, most_characters}
 use Rattle.matrix_form.specs.Outcomes.{value}
 use Rattle.tree_form.specs.LentNumbers.{records_for}
-use Rattle.file_form.specs.Bytes.{line_feed, behind_piece}
+use Rattle.text_form.specs.Bytes.{line_feed, behind_piece}
 use Rattle.file_form.specs.Job.{Job}
-use Rattle.file_form.specs.Lines.{lines_of}
+use Rattle.text_form.specs.Lines.{lines_of}
 use Rattle.file_form.specs.Optional.{optional_fields}
 use Rattle.file_form.specs.Weights.{weights_form}
 use Rattle.file_form.specs.Header.{header_in, header_lines, behind_header}
@@ -22,7 +22,7 @@ use Rattle.file_form.specs.Reading.{row_lines, behind_rows, branch_lines, weight
 use Rattle.file_form.specs.Formed.{row_form, RowsFormed, BranchesFormed, record_in}
 use Rattle.file_form.proofs.File.FileOfRead.{FilePassed, file_passed, file_of_read}
 use Rattle.file_form.proofs.File.HeaderRead.{several-lines, weights-formed, header_behind}
-use Rattle.file_form.proofs.Text.FirstPart.{pieces_several}
+use Rattle.text_form.proofs.FirstPart.{pieces_several}
 use Rattle.file_form.proofs.Rows.Within.{limits-high}
 use Rattle.file_form.proofs.BranchLines.Passed.{BranchesRead}
 use Rattle.file_form.proofs.BranchLines.Written.{records_back}

@@ -15,11 +15,11 @@ use Rattle.matrix_form.specs.declared.refusal.Refusal.TheVariants.{FileTooLong, 
 use Rattle.std.specs.Prelude.{Ok}
 use Rattle.matrix_form.proofs.Passing.{ask_passed}
 use Rattle.file_form.specs.declared.header.Header.{Header}
-use Rattle.file_form.specs.Bytes.{line_feed, joined_by}
+use Rattle.text_form.specs.Bytes.{line_feed, joined_by}
 use Rattle.file_form.specs.Optional.{optional_there, optional_fields, lines_taken, optional_line, letter_free}
 use Rattle.file_form.specs.Weights.{letter_v, weight_form, weight_text, weights_form, weights_said}
-use Rattle.file_form.specs.Job.{Job, most_bytes, JobWithinLimits, weight_line, ended, file_of}
-use Rattle.file_form.specs.Lines.{lines_of}
+use Rattle.text_form.specs.Lines.{ended, lines_of}
+use Rattle.file_form.specs.Job.{Job, most_bytes, JobWithinLimits, weight_line, file_of}
 use Rattle.file_form.specs.Header.{row_line, first_fields, header_in, behind_header, first_line_form, order_known, ask_header}
 use Rattle.file_form.specs.Rows.{name_in, codes_in, row_sort}
 use Rattle.file_form.specs.Branches.{branch_count, ancestor_in, branch_text, branch_texts, branch_sort, branched, ask_tree}
@@ -31,7 +31,7 @@ use Rattle.file_form.proofs.File.InTurn.{lines_passed}
 use Rattle.file_form.proofs.File.WeightFields.{weights_written_lem, said_count, said_known, said_ones}
 use Rattle.file_form.proofs.File.HeaderRead.{header_passed, several-lines, lines_split, order_fits, first_written}
 use Rattle.file_form.proofs.File.HeaderRead.{weights-formed, drop-behind, header_split}
-use Rattle.file_form.proofs.Text.Parts.{joined_pieces, joined-ended}
+use Rattle.text_form.proofs.Parts.{joined_pieces, joined-ended}
 use Rattle.file_form.proofs.Rows.PassedRows.{RowsRead, rows_read, rows-formed}
 use Rattle.file_form.proofs.BranchLines.Passed.{BranchesRead, branches_read_lem}
 

@@ -10,9 +10,9 @@ use lib.ListN.{length, get_or}
 use Rattle.lists.specs.Tests.{same_numbers as same_text}
 use Rattle.lists.proofs.Both.{and_left, and_right, and_both}
 use Rattle.lists.proofs.Every.{same_numbers_iff}
-use Rattle.file_form.specs.Bytes.{tab, pieces_at}
-use Rattle.file_form.specs.Decimal.{number_form}
-use Rattle.file_form.specs.Lines.{fields_of}
+use Rattle.text_form.specs.Bytes.{tab, pieces_at}
+use Rattle.text_form.specs.Decimal.{number_form}
+use Rattle.text_form.specs.Lines.{fields_of}
 use Rattle.file_form.specs.Kinds.{kind_form, all_kinds, kind_among, is_kind, kind_said}
 use Rattle.file_form.specs.Header.{first_form}
 use Rattle.std.specs.Prelude.{Option, None, Some, is_some}

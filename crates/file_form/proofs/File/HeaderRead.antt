@@ -15,14 +15,14 @@ use Rattle.matrix_form.specs.declared.refusal.Refusal.TheVariants.{FirstLine, Un
 use Rattle.std.specs.Prelude.{Ok}
 use Rattle.matrix_form.proofs.Passing.{ask_passed}
 use Rattle.file_form.specs.declared.header.Header.{Header}
-use Rattle.file_form.specs.Bytes.{tab, line_feed, joined_by}
-use Rattle.file_form.specs.Decimal.{digits_of}
+use Rattle.text_form.specs.Bytes.{tab, line_feed, joined_by}
+use Rattle.text_form.specs.Decimal.{digits_of}
 use Rattle.file_form.specs.Job.{Job, order_fields, first_text}
 use Rattle.file_form.specs.Kinds.{kind_form, is_kind, kind_said}
 use Rattle.file_form.specs.Formed.{ask_weights}
 use Rattle.file_form.specs.declared.header.Kind.{Kind}
 use Rattle.file_form.specs.declared.header.Kind.TheVariants.{Wagner, Own}
-use Rattle.file_form.specs.Lines.{fields_of}
+use Rattle.text_form.specs.Lines.{fields_of}
 use Rattle.file_form.specs.Optional.{optional_there, optional_fields, lines_taken, optional_line}
 use Rattle.file_form.specs.Weights.{letter_v, weights_form}
 use Rattle.file_form.specs.Header.{order_in, header_from, first_fields, header_in, header_lines, behind_header}
@@ -31,9 +31,9 @@ use Rattle.file_form.proofs.File.Outcomes.{line_passed}
 use Rattle.file_form.proofs.File.OptionalLine.{optional_passed, optional_left, optional_split}
 use Rattle.file_form.proofs.File.FirstForm.{form_tells}
 use Rattle.file_form.proofs.File.Order.{order_written, order_back, order_passes, order-plain}
-use Rattle.file_form.proofs.Decimal.Digits.{digits_of_number, number_of_digits, digits_form}
-use Rattle.file_form.proofs.Text.Parts.{lacks, joined_pieces}
-use Rattle.file_form.proofs.Text.Plain.{plain, digits_plain, line_fields, line_lacks}
+use Rattle.text_form.proofs.Digits.{digits_of_number, number_of_digits, digits_form}
+use Rattle.text_form.proofs.Parts.{lacks, joined_pieces}
+use Rattle.text_form.proofs.Plain.{plain, digits_plain, line_fields, line_lacks}
 use Rattle.file_form.proofs.Rows.Within.{limits-high}
 
 -- the fields that say a header: the word of its kind, n, m, and the word for the order, if any

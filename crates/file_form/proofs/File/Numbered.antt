@@ -25,9 +25,10 @@ use Rattle.std.specs.Prelude.{Ok, Err}
 use Rattle.file_form.specs.declared.header.Header.{Header}
 use Rattle.file_form.specs.declared.header.Kind.{Kind}
 use Rattle.file_form.specs.declared.header.Kind.TheVariants.{Wagner, Own}
-use Rattle.file_form.specs.Decimal.{code_form, code_of}
+use Rattle.text_form.specs.Decimal.{code_form, code_of}
 use Rattle.file_form.specs.Job.{Job, most_bytes, name_form, differs_from_all}
-use Rattle.file_form.specs.Lines.{lines_of, fields_of, LineSort, ask_lines}
+use Rattle.text_form.specs.Lines.{lines_of, fields_of}
+use Rattle.file_form.specs.Lines.{LineSort, ask_lines}
 use Rattle.file_form.specs.Optional.{ask_optional}
 use Rattle.file_form.specs.Header.{first_fields, row_line, header_in, behind_header}
 use Rattle.file_form.specs.Header.{first_line_form, is_order, order_known, ask_first_line, ask_header}

@@ -13,11 +13,11 @@ use Rattle.lists.proofs.Every.{every-cons, same_numbers_iff}
 use Rattle.matrix_form.specs.declared.refusal.Refusal.{Refusal}
 use Rattle.std.specs.Prelude.{Ok}
 use Rattle.matrix_form.proofs.Passing.{ask_passed}
-use Rattle.file_form.specs.Bytes.{tab, line_feed, joined_by}
-use Rattle.file_form.specs.Lines.{fields_of}
+use Rattle.text_form.specs.Bytes.{tab, line_feed, joined_by}
+use Rattle.text_form.specs.Lines.{fields_of}
 use Rattle.file_form.specs.Optional.{optional_there, optional_fields, ask_optional, lines_taken, optional_line}
-use Rattle.file_form.proofs.Text.Parts.{lacks, pieces_some, joined_pieces}
-use Rattle.file_form.proofs.Text.Plain.{plain, line_fields, line_lacks}
+use Rattle.text_form.proofs.Parts.{lacks, pieces_some, joined_pieces}
+use Rattle.text_form.proofs.Plain.{plain, line_fields, line_lacks}
 
 -- a line that is there and whose question passes is ended by a line feed and has the right fields
 pub optional_passed : (there formed : Bool) (refusal : Refusal) (lines : List (List ℕ)) → ask_optional there formed refusal lines ≡ Ok tt

@@ -13,10 +13,10 @@ use Rattle.lists.proofs.Both.{or_cases}
 use Rattle.lists.proofs.Every.{every-head, same_numbers_iff}
 use Rattle.tree_form.specs.declared.order.Order.{Order}
 use Rattle.tree_form.specs.declared.order.Order.TheVariants.{Advance, Closest}
-use Rattle.file_form.specs.Bytes.{word_advance, word_closest}
+use Rattle.file_form.specs.Words.{word_advance, word_closest}
 use Rattle.file_form.specs.Job.{order_fields}
 use Rattle.file_form.specs.Header.{order_word, order_said, order_in, is_order, order_known}
-use Rattle.file_form.proofs.Text.Plain.{plain}
+use Rattle.text_form.proofs.Plain.{plain}
 
 -- a word that passes is what is written for the order that it says
 word_written : (word : List ℕ) → is_order word ≡ true → order_fields (order_said (word ∷ [])) ≡ word ∷ []

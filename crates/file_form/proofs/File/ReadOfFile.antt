@@ -18,13 +18,14 @@ use Rattle.lists.proofs.Both.{and_left}
 use Rattle.matrix_form.specs.Questions.{one_to, within_limits}
 use Rattle.matrix_form.specs.Outcomes.{value, on_line, then_with}
 use Rattle.matrix_form.proofs.Passing.{one_to-true}
-use Rattle.file_form.specs.Bytes.{line_feed, pieces_at}
+use Rattle.text_form.specs.Bytes.{line_feed, pieces_at}
 use Rattle.matrix_form.specs.declared.refusal.Refusal.TheVariants.{WeightForm}
 use Rattle.std.specs.Prelude.{Ok}
 use Rattle.file_form.specs.Optional.{optional_there, optional_fields, optional_line, letter_free}
 use Rattle.file_form.specs.Weights.{letter_v, weight_in, weight_text, weights_form, weights_said}
-use Rattle.file_form.specs.Job.{Job, most_bytes, JobWithinLimits, first_text, weight_line, row_text, row_texts, ended, file_of}
-use Rattle.file_form.specs.Lines.{lines_of, fields_of, ask_lines}
+use Rattle.text_form.specs.Lines.{ended, lines_of, fields_of}
+use Rattle.file_form.specs.Job.{Job, most_bytes, JobWithinLimits, first_text, weight_line, row_text, row_texts, file_of}
+use Rattle.file_form.specs.Lines.{ask_lines}
 use Rattle.file_form.specs.Header.{row_line, behind_header}
 use Rattle.file_form.specs.Formed.{ask_weights}
 use Rattle.file_form.specs.Rows.{name_in, codes_in, row_sort}
@@ -36,7 +37,7 @@ use Rattle.file_form.proofs.File.InTurn.{lines_pass}
 use Rattle.file_form.proofs.File.OptionalLine.{optional_found, optional_fields_lem, optional_behind, optional_passes, optional_lacks}
 use Rattle.file_form.proofs.File.WeightFields.{weights_back, weights-plain, written_form}
 use Rattle.file_form.proofs.File.HeaderRead.{first_lacks, header_passes}
-use Rattle.file_form.proofs.Text.Parts.{lacks, pieces_ended}
+use Rattle.text_form.proofs.Parts.{lacks, pieces_ended}
 use Rattle.file_form.proofs.Rows.Within.{RowsWithin, rows-first, job_rows, limits-high}
 use Rattle.file_form.proofs.BranchLines.Written.{AreNodes, branches_pass, branches_back, branches_lack}
 use Rattle.file_form.proofs.Rows.WrittenRows.{row_name, rows_lack, rows_pass, names_back, rows_back}

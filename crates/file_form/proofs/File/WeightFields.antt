@@ -12,10 +12,10 @@ use Rattle.lists.specs.Tests.{every}
 use Rattle.lists.proofs.Both.{and_left, and_right, and_both}
 use Rattle.lists.proofs.Every.{every-head, every-tail}
 use Rattle.matrix_form.specs.Shape.{heaviest, is_weight}
-use Rattle.file_form.specs.Bytes.{line_feed}
-use Rattle.file_form.specs.Decimal.{zero_digit}
+use Rattle.text_form.specs.Bytes.{line_feed}
+use Rattle.text_form.specs.Decimal.{zero_digit}
 use Rattle.file_form.specs.Weights.{letter_v, weight_form, weight_in, weight_text, weights_form, weights_said}
-use Rattle.file_form.proofs.Text.Plain.{plain}
+use Rattle.text_form.proofs.Plain.{plain}
 
 -- a field of the right form is one digit, from `1` to `9`
 pub weight_digit : (field : List ℕ) → weight_form field ≡ true → (digit : ℕ) × (field ≡ digit ∷ []) × (49 ≤ digit) × (digit ≤ 57)

@@ -1,17 +1,21 @@
--- How long a name is; names that all differ, and names that each differ from every earlier one.
+-- How long a name is, and where it stands in its line; names that all differ, and names that each differ from every earlier one.
 use mathlib.Core.Path.{◌≡◌, refl, sym, ap, ap₂, ◌∙◌}
 use mathlib.Core.List.{List, [], ◌∷◌}
 use mathlib.Core.Bool.{Bool, true, not, true≢false, false≢true, ◌&&◌}
 use Prim.Native.Nat.{ℕ, zero, suc, ◌≤◌, ◌<◌}
 use native.Mathlib.Omega.{arith}
 use borrow.Author.Tests.{not-true, leb-true}
-use lib.Dec.{leb}
+use lib.Dec.{leb, ltb}
 use lib.ListN.{length, get_or}
 use Rattle.lists.specs.Tests.{every, same_numbers as same_text}
-use Rattle.file_form.specs.Bytes.{is_letter}
-use Rattle.file_form.specs.Job.{name_size, in_name, name_form, differs_from_all, all_differ}
-use Rattle.lists.proofs.Every.{same_numbers_iff}
+use Rattle.text_form.specs.Bytes.{tab, line_feed, is_letter, in_name, first_piece}
+use Rattle.text_form.specs.Lines.{fields_of}
+use Rattle.file_form.specs.Job.{name_size, name_form, differs_from_all, all_differ}
+use Rattle.file_form.specs.Rows.{name_in}
+use Rattle.lists.proofs.Every.{same_numbers_iff, every-cons, every_weaker}
 use Rattle.lists.proofs.Both.{and_left, and_right, and_both, eqb-sym}
+use Rattle.text_form.proofs.FirstPart.{first_of_pieces}
+use Rattle.text_form.proofs.Plain.{plain, letter_plain, in_name-plain}
 
 -- a name has at most 16 bytes
 pub name_length : (name : List ℕ) → name_form name ≡ true → length name ≤ name_size
@@ -82,3 +86,17 @@ all_differ_at (name ∷ names) e zero (suc j) before h same =
     differs_at name names (and_left (differs_from_all name names) (all_differ names) e) j (omega arith) same
 all_differ_at (name ∷ names) e (suc i) (suc j) before h same =
     all_differ_at names (and_right (differs_from_all name names) (all_differ names) e) i j (omega arith) (omega arith) same
+
+-- a line's name is its first piece
+pub name_first : (line : List ℕ) → name_in line ≡ first_piece tab line
+unfolding name_in fields_of
+name_first line = first_of_pieces tab line
+
+-- a name is plain
+pub name_plain : (name : List ℕ) → name_form name ≡ true → plain name ≡ true
+unfolding name_form
+name_plain [] e = absurd (false≢true e)
+name_plain (byte ∷ bytes) e =
+    every-cons (ltb line_feed) byte bytes (letter_plain byte (and_left (is_letter byte) _ e))
+    (every_weaker in_name (ltb line_feed) in_name-plain bytes
+    (and_left (every in_name bytes) _ (and_right (is_letter byte) _ e)))

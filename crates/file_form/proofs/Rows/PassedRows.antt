@@ -14,14 +14,14 @@ use Rattle.matrix_form.specs.declared.refusal.Refusal.TheVariants.{NameForm, Nam
 use Rattle.std.specs.Prelude.{Ok}
 use Rattle.matrix_form.specs.Outcomes.{ask_each}
 use Rattle.file_form.specs.declared.header.Header.{Header}
-use Rattle.file_form.specs.Bytes.{tab, joined_by}
-use Rattle.file_form.specs.Decimal.{decimal, code_form, code_of}
+use Rattle.text_form.specs.Bytes.{tab, joined_by}
+use Rattle.text_form.specs.Decimal.{decimal, code_form, code_of}
 use Rattle.file_form.specs.Job.{name_form, differs_from_all, has_codes, row_text}
-use Rattle.file_form.specs.Lines.{fields_of}
+use Rattle.text_form.specs.Lines.{fields_of}
 use Rattle.file_form.specs.Rows.{name_in, codes_in, ask_field, ask_codes, ask_row, row_sort}
 use Rattle.lists.proofs.Both.{and_right, and_both}
-use Rattle.file_form.proofs.Text.Parts.{pieces_some, joined_pieces}
-use Rattle.file_form.proofs.Decimal.Codes.{decimal_of_code}
+use Rattle.text_form.proofs.Parts.{pieces_some, joined_pieces}
+use Rattle.text_form.proofs.Codes.{decimal_of_code}
 use Rattle.file_form.proofs.Rows.Within.{RowWithin, RowsWithin, rows_none, rows_more}
 use Rattle.matrix_form.proofs.Each.{and_then_passed}
 use Rattle.matrix_form.proofs.Passing.{ask_passed, one_to-true}

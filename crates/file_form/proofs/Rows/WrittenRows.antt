@@ -4,25 +4,27 @@ use mathlib.Core.List.{List, [], ◌∷◌, map, zip_with}
 use mathlib.Core.Bool.{true}
 use Prim.Native.Nat.{ℕ, suc}
 use native.Mathlib.Omega.{arith}
-use lib.IntN.{ℤ}
+use lib.IntN.{ℤ, pos, negsuc}
 use lib.ListN.{length, length-map}
-use borrow.Author.Tests.{eq-eqb, eqb-true}
+use borrow.Author.Tests.{eq-eqb, eqb-true, le-leb, leb-true}
 use Rattle.matrix_form.specs.Shape.{in_range}
 use Rattle.matrix_form.specs.Questions.{all_in_range, ask_code}
 use Rattle.std.specs.Prelude.{Ok}
 use Rattle.matrix_form.specs.Outcomes.{ask_each}
 use Rattle.file_form.specs.declared.header.Header.{Header}
 use Rattle.lists.specs.Tests.{every}
-use Rattle.file_form.specs.Bytes.{line_feed}
-use Rattle.file_form.specs.Decimal.{decimal, code_of}
+use Rattle.text_form.specs.Bytes.{line_feed}
+use Rattle.text_form.specs.Decimal.{decimal, code_form, code_of}
 use Rattle.file_form.specs.Job.{name_form, has_codes, row_text}
-use Rattle.file_form.specs.Lines.{fields_of}
+use Rattle.text_form.specs.Lines.{fields_of}
 use Rattle.file_form.specs.Rows.{name_in, codes_in, ask_field, ask_codes, ask_row, row_sort}
-use Rattle.lists.proofs.Both.{and_left, and_right}
+use Rattle.lists.proofs.Both.{and_left, and_right, and_both}
 use Rattle.lists.proofs.Every.{every-head, every-tail, every-cons}
-use Rattle.file_form.proofs.Text.Parts.{lacks}
-use Rattle.file_form.proofs.Decimal.Codes.{decimal_form, code_of-decimal}
-use Rattle.file_form.proofs.Text.Plain.{plain, name_plain, decimals_plain, line_fields, line_lacks}
+use Rattle.text_form.proofs.Parts.{lacks}
+use Rattle.text_form.proofs.Digits.{digits_form, number_of_digits}
+use Rattle.text_form.proofs.Codes.{digits_code_form, code_of-decimal}
+use Rattle.text_form.proofs.Plain.{plain, decimals_plain, line_fields, line_lacks}
+use Rattle.file_form.proofs.Rows.Names.{name_plain}
 use Rattle.file_form.proofs.File.InTurn.{AllPass}
 use Rattle.file_form.proofs.Rows.Within.{RowWithin, RowsWithin, rows-first, rows-others}
 
@@ -30,6 +32,16 @@ use Rattle.file_form.proofs.Rows.Within.{RowWithin, RowsWithin, rows-first, rows
 codes_back : (codes : List ℤ) → map code_of (map decimal codes) ≡ codes
 codes_back [] = refl
 codes_back (code ∷ codes) = ap₂ ◌∷◌ (code_of-decimal code) (codes_back codes)
+
+-- a code from -999 to 999 is written in the right form
+decimal_form : (code : ℤ) → in_range code ≡ true → code_form (decimal code) ≡ true
+unfolding in_range decimal code_form
+decimal_form (pos n) e =
+    let small = leb-true n _ e in
+    digits_code_form n ∙ digits_form n (omega arith)
+decimal_form (negsuc n) e =
+    let small = leb-true (suc n) _ e in
+    and_both (digits_form (suc n) (omega arith)) (rw number_of_digits (le-leb 1 (suc n) (omega arith)))
 
 -- codes from -999 to 999 pass their questions
 codes_pass : (codes : List ℤ) → all_in_range codes ≡ true → ask_codes (map decimal codes) ≡ Ok tt

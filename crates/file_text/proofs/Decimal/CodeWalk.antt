@@ -10,8 +10,8 @@ use lib.Dec.{leb, eqb}
 use lib.ListN.{take, drop}
 use Rattle.std.specs.Prelude.{None, Some}
 use Rattle.std.specs.Cmp.Lexicographic.{pointwise}
-use Rattle.file_form.specs.Decimal.{number_form, number_of, number_from, code_form, code_of}
-use Rattle.file_form.specs.Bytes.{minus}
+use Rattle.text_form.specs.Decimal.{number_form, number_of, number_from, code_form, code_of}
+use Rattle.text_form.specs.Bytes.{minus}
 use lib.IntN.{pos, neg_ℤ, ◌-ℤ◌, +ℤ_idl}
 use mir.Facts.{to_z_pos, to_z-of_z}
 use mir.Val.{to_z, of_z, SFits}

@@ -9,15 +9,15 @@ use lib.Dec.{leb, eqb}
 use lib.ListN.{length, get_or}
 use Rattle.std.specs.Char.{is_ascii_digit}
 use Rattle.std.specs.List.{list_all, fold}
-use Rattle.file_form.specs.Decimal.{number_form, number_of, number_from, no_leading_zero, zero_digit}
+use Rattle.text_form.specs.Decimal.{number_form, number_of, number_from, no_leading_zero, zero_digit}
 use Rattle.file_text.specs.Steps.{NumberSaid}
-use Rattle.file_form.proofs.Decimal.Digits.{form_short, form_digits, leading_one, leading_more}
-use Rattle.file_form.proofs.Decimal.Digits.{digit_high, number_more_small, number_small}
+use Rattle.text_form.proofs.Digits.{form_short, form_digits, leading_one, leading_more}
+use Rattle.text_form.proofs.Digits.{digit_high, number_more_small, number_small}
 use Rattle.lists.proofs.Both.{and_left}
 use Rattle.lists.specs.Tests.{every}
 use Rattle.lists.proofs.Every.{every-head, every-tail}
-use Rattle.file_form.specs.Bytes.{is_digit}
-use Rattle.file_form.proofs.Text.Slices.{every_all}
+use Rattle.text_form.specs.Bytes.{is_digit}
+use Rattle.text_form.proofs.Slices.{every_all}
 
 -- the form of a number, by its length
 module _ (text : List ℕ) (some : Bool) (s : some ≡ leb 1 (length text) && leb (length text) 6) where

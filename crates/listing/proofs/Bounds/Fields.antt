@@ -13,10 +13,10 @@ use Rattle.lists.proofs.Every.{every_at}
 use Rattle.matrix_form.specs.Shape.{highest_code, in_range}
 use Rattle.difference_form.specs.Rows.{most_difference}
 use Rattle.consistency_form.specs.Index.{thousand}
-use Rattle.file_form.specs.Decimal.{digits_of, decimal}
+use Rattle.text_form.specs.Decimal.{digits_of, decimal}
 use Rattle.file_form.specs.Job.{Job, JobWithinLimits, name_form}
-use Rattle.file_form.specs.Text.{bytes}
-use Rattle.file_form.proofs.Decimal.Digits.{digits_length}
+use Rattle.text_form.specs.Text.{bytes}
+use Rattle.text_form.proofs.Digits.{digits_length}
 use Rattle.listing_form.specs.Lines.{hyphen, htu_name, node_name}
 use Rattle.listing_form.specs.Kinds.{mark}
 use Rattle.lines.proofs.Fields.{node_taxon, node_htu}

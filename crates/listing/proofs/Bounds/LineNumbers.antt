@@ -13,7 +13,8 @@ use Rattle.matrix_form.specs.Outcomes.{Asked}
 use Rattle.std.specs.Prelude.{Ok, Err}
 use Rattle.tree_form.specs.Asking.{branches_size}
 use Rattle.file_form.specs.declared.header.Header.{Header}
-use Rattle.file_form.specs.Lines.{LineSort, lines_of, ask_lines}
+use Rattle.text_form.specs.Lines.{lines_of}
+use Rattle.file_form.specs.Lines.{LineSort, ask_lines}
 use Rattle.file_form.specs.Header.{header_in, row_line, behind_header, first_line_form, first_fields, order_known, ask_first_line}
 use Rattle.file_form.specs.Header.{ask_header}
 use Rattle.matrix_form.proofs.Passing.{ask_passed}

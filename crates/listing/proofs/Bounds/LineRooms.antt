@@ -8,9 +8,9 @@ use native.Mathlib.Nat.{mod-lt, zero-lt-suc}
 use native.Mathlib.Omega.{arith}
 use lib.ListN.{length}
 use Rattle.matrix_form.specs.NodeRows.{row_of}
-use Rattle.file_form.specs.Decimal.{digits_of, decimal}
+use Rattle.text_form.specs.Decimal.{digits_of, decimal}
 use Rattle.file_form.specs.Job.{Job, JobWithinLimits}
-use Rattle.file_form.specs.Text.{bytes}
+use Rattle.text_form.specs.Text.{bytes}
 use Rattle.difference_form.specs.Rows.{most_difference, node_difference}
 use Rattle.prim_form.specs.Network.{Link}
 use Rattle.prim_form.proofs.Connected.{network-between}

@@ -4,14 +4,14 @@ use mathlib.Core.List.{List, [], ◌∷◌}
 use Prim.Native.Nat.{ℕ, ◌+◌, ◌≤◌}
 use native.Mathlib.Omega.{arith}
 use lib.ListN.{length}
-use Rattle.file_form.specs.Decimal.{digits_of}
+use Rattle.text_form.specs.Decimal.{digits_of}
 use Rattle.matrix_form.specs.Outcomes.{Outcome, value, refused}
 use Rattle.file_form.specs.Job.{Job}
 use Rattle.file_form.specs.declared.header.Kind.{Kind}
 use Rattle.file_form.specs.declared.header.Kind.TheVariants.{Wagner, Own}
 use Rattle.file_form.specs.Reading.{read_answer}
 use Rattle.file_form.proofs.File.Numbered.{highest_number, refused_bounds}
-use Rattle.file_form.specs.Text.{bytes}
+use Rattle.text_form.specs.Text.{bytes}
 use Rattle.file_form.proofs.File.Accepted.{accepted_exactly}
 use Rattle.listing_form.specs.Lines.{joined}
 use Rattle.listing_form.specs.Kinds.{refusal_line}

@@ -11,7 +11,7 @@ use Rattle.lists.proofs.Numbers.{numbers-within, length-numbers}
 use Rattle.lists.proofs.Sums.{sum_most}
 use Rattle.matrix_form.specs.NodeRows.{row_of}
 use Rattle.file_form.specs.Job.{Job, JobWithinLimits}
-use Rattle.file_form.specs.Text.{bytes}
+use Rattle.text_form.specs.Text.{bytes}
 use Rattle.file_form.specs.Branches.{branched}
 use Rattle.file_form.specs.declared.header.Kind.{Kind}
 use Rattle.file_form.specs.declared.header.Kind.TheVariants.{Wagner, Own}

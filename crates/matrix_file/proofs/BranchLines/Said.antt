@@ -8,9 +8,9 @@ use lib.Seq.{take_all}
 use Rattle.lists.specs.Filled.{filled}
 use Rattle.tree_form.specs.Ancestors.{tree_with}
 use Rattle.tree_form.proofs.Lending.{entries-next}
-use Rattle.file_form.specs.Bytes.{pieces_at}
-use Rattle.file_form.specs.Decimal.{number_from, number_of}
-use Rattle.file_form.specs.Lines.{lines_of, fields_of}
+use Rattle.text_form.specs.Bytes.{pieces_at}
+use Rattle.text_form.specs.Decimal.{number_from, number_of}
+use Rattle.text_form.specs.Lines.{lines_of, fields_of}
 use Rattle.file_form.specs.Branches.{branch_form, ancestor_in}
 use Rattle.file_form.specs.Formed.{BranchesFormed}
 use Rattle.file_text.proofs.LinesSplit.{says_at, says_count}

@@ -8,11 +8,11 @@ use Rattle.std.specs.Prelude.{Result, Ok}
 use Rattle.matrix_form.specs.Outcomes.{Asked, ask, value}
 use Rattle.matrix_form.specs.declared.refusal.Refusal.TheVariants.{BranchForm}
 use Rattle.file_form.specs.Job.{Job}
-use Rattle.file_form.specs.Lines.{lines_of, fields_of}
+use Rattle.text_form.specs.Lines.{lines_of, fields_of}
 use Rattle.file_form.specs.Branches.{branch_form, branch_sort}
 use Rattle.file_form.specs.Formed.{BranchesFormed}
 use Rattle.file_form.specs.declared.answer.Refused.{Refused}
-use Rattle.file_form.proofs.Text.Fields.{lines_some}
+use Rattle.text_form.proofs.Parts.{lines_some}
 use Rattle.file_form.proofs.File.InTurn.{lines_passed}
 use Rattle.file_form.proofs.BranchLines.Passed.{branches_read_lem}
 use Rattle.matrix_file.specs.Steps.{lines_say, LinesAsked}

@@ -10,13 +10,13 @@ use lib.IntN.{pos}
 use Rattle.std.specs.Prelude.{Option, Some}
 use Rattle.std.specs.Option.{unwrap_or}
 use lib.Dec.{eqb}
-use Rattle.file_form.specs.Bytes.{tab}
-use Rattle.file_form.proofs.Text.Slices.{pieces_split}
+use Rattle.text_form.specs.Bytes.{tab}
+use Rattle.text_form.proofs.Slices.{pieces_split}
 use Rattle.std.specs.List.{enumerate_from, slice_split}
 use Rattle.std.proofs.lemmas.List.FromFn.{length-enumerate_from}
 use Rattle.file_text.proofs.LinesSplit.{piece_turn}
-use Rattle.file_form.specs.Decimal.{code_form, code_of}
-use Rattle.file_form.specs.Lines.{fields_of}
+use Rattle.text_form.specs.Decimal.{code_form, code_of}
+use Rattle.text_form.specs.Lines.{fields_of}
 use Rattle.file_form.specs.Rows.{codes_in}
 use Rattle.lists.specs.Over.{over}
 use Rattle.lists.specs.Tests.{every}

@@ -11,9 +11,9 @@ use lib.ListN.{length, get_or, take, drop, length-take, length-drop}
 use lib.Seq.{drop-cons, get_or-take}
 use Rattle.lists.specs.Tests.{every}
 use Rattle.matrix_form.specs.Shape.{most_characters}
-use Rattle.file_form.specs.Decimal.{code_form}
+use Rattle.text_form.specs.Decimal.{code_form}
 use Rattle.file_form.specs.Job.{name_form}
-use Rattle.file_form.specs.Lines.{lines_of, fields_of}
+use Rattle.text_form.specs.Lines.{lines_of, fields_of}
 use Rattle.file_form.specs.Rows.{name_in}
 use Rattle.file_form.specs.Formed.{row_form, RowsFormed}
 use Rattle.lists.proofs.Both.{and_left, and_right}

@@ -19,10 +19,10 @@ use Rattle.std.specs.Slice.Iter.{splitn_parts, splitn_count, split_rest, split_d
 use Rattle.std.specs.declared.slice.SplitN.{SplitN}
 use Rattle.std.proofs.lemmas.Grind.{common_steps}
 use Rattle.std.proofs.lemmas.List.Splits.{slice_split_none, slice_split_at}
-use Rattle.file_form.specs.Bytes.{line_feed}
-use Rattle.file_form.specs.Lines.{lines_of}
+use Rattle.text_form.specs.Bytes.{line_feed}
+use Rattle.text_form.specs.Lines.{lines_of}
 use Rattle.std.proofs.lemmas.List.Sums.{count_by-le-length}
-use Rattle.file_form.proofs.Text.Slices.{pieces_split, pieces_counted}
+use Rattle.text_form.proofs.Slices.{pieces_split, pieces_counted}
 
 -- a line feed
 abbrev feeds : ℕ → Bool

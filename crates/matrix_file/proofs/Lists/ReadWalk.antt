@@ -14,9 +14,9 @@ use Rattle.matrix_form.specs.declared.refusal.Refusal.TheVariants.{ListSize}
 use Rattle.file_form.specs.declared.header.Header.{Header}
 use Rattle.std.specs.Prelude.{Result, Ok, Err}
 use Rattle.file_form.specs.declared.answer.Refused.{Refused}
-use Rattle.file_form.specs.Bytes.{line_feed, behind_piece}
+use Rattle.text_form.specs.Bytes.{line_feed, behind_piece}
 use Rattle.file_form.specs.Job.{Job}
-use Rattle.file_form.specs.Lines.{lines_of}
+use Rattle.text_form.specs.Lines.{lines_of}
 use Rattle.file_form.specs.Optional.{optional_fields}
 use Rattle.file_form.specs.Weights.{weights_form, weights_said}
 use Rattle.file_form.specs.Header.{header_in, header_lines, behind_header}

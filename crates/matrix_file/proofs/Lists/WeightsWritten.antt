@@ -13,8 +13,8 @@ use Rattle.lists.specs.Over.{over}
 use Rattle.lists.specs.Tests.{every}
 use Rattle.lists.proofs.Both.{and_left, and_right, implies_iff}
 use Rattle.lists.proofs.Every.{every_at}
-use Rattle.file_form.specs.Bytes.{line_feed, first_piece}
-use Rattle.file_form.specs.Lines.{lines_of, fields_of}
+use Rattle.text_form.specs.Bytes.{line_feed, first_piece}
+use Rattle.text_form.specs.Lines.{lines_of, fields_of}
 use Rattle.file_form.specs.Optional.{optional_fields}
 use Rattle.file_form.specs.Weights.{weight_form, weight_in, weights_form, weights_said}
 use Rattle.file_header.proofs.OptionalWalk.{line_fields}

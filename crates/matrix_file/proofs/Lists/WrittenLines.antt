@@ -12,12 +12,11 @@ use Rattle.lists.specs.Over.{over, stripes}
 use Rattle.lists.proofs.Over.{over-lent, over-more}
 use Rattle.lists.proofs.Stripes.{length-stripes, stripes-snoc}
 use Rattle.matrix_form.specs.Shape.{columns}
-use Rattle.file_form.specs.Bytes.{tab, first_piece}
-use Rattle.file_form.specs.Lines.{lines_of, fields_of}
+use Rattle.text_form.specs.Bytes.{tab, first_piece}
+use Rattle.text_form.specs.Lines.{lines_of, fields_of}
 use Rattle.file_form.specs.Rows.{name_in}
 use Rattle.file_form.specs.Job.{name_size}
-use Rattle.file_form.proofs.Rows.Names.{name_length}
-use Rattle.file_form.proofs.Text.Fields.{name_first}
+use Rattle.file_form.proofs.Rows.Names.{name_length, name_first}
 use Rattle.matrix_file.proofs.Lists.LinesBehind.{RowFormed}
 use Rattle.file_text.proofs.LinesSplit.{says_count, says_more}
 

@@ -11,10 +11,10 @@ use Rattle.std.specs.Prelude.{Ok}
 use Rattle.std.proofs.lemmas.Grind.{take-set_at}
 use Rattle.matrix_form.specs.Outcomes.{Asked}
 use Rattle.file_form.specs.declared.header.Header.{Header}
-use Rattle.file_form.specs.Bytes.{tab, first_piece}
-use Rattle.file_form.specs.Lines.{lines_of}
+use Rattle.text_form.specs.Bytes.{tab, first_piece}
+use Rattle.text_form.specs.Lines.{lines_of}
 use Rattle.file_form.specs.Rows.{name_in, ask_row, row_sort}
-use Rattle.file_form.proofs.Text.Fields.{name_first}
+use Rattle.file_form.proofs.Rows.Names.{name_first}
 use Rattle.file_lines.specs.Steps.{names_passed}
 use Rattle.file_header.specs.Steps.{at_line}
 use Rattle.matrix_file.proofs.LinesWalk.{LinesLeft, lines_before, lines-start, before_more, line_passed}

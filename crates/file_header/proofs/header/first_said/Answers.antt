@@ -1,6 +1,6 @@
 -- `file_header::header::first_said` meets its contract: each answer follows from the tests that led to it.
 use mathlib.Core.Path.{sym, ◌∙◌}
-use Rattle.matrix_form.proofs.Between.{nat_between}
+use Rattle.lists.proofs.Between.{nat_between}
 use Rattle.file_form.proofs.File.FirstForm.{fields_count}
 use Rattle.file_header.proofs.HeaderWalk.{kind_none, no_count, taxa_none, characters_none, all_said}
 use Rattle.file_header.proofs.header.first_said.Goals as goal

@@ -2,7 +2,7 @@
 use mathlib.Core.Path.{refl, sym, ◌∙◌}
 use native.Mathlib.Omega.{arith}
 use Rattle.file_form.specs.Weights.{weight_form, weight_in}
-use Rattle.matrix_form.proofs.Between.{nat_between}
+use Rattle.lists.proofs.Between.{nat_between}
 use Rattle.file_text.proofs.ReadAs.{read_formed, read_formless}
 use Rattle.file_header.proofs.WeightFields.{not-one, one_byte}
 use Rattle.file_header.proofs.weights.weight.Goals as goal

@@ -6,10 +6,10 @@ use Rattle.std.proofs.Common.{rules, tests}
 use Rattle.std.specs.Prelude.{is_some}
 use Rattle.std.proofs.lemmas.Iterator.Search.{all_from_yields_List}
 use Rattle.std.specs.List.{list_all}
-use Rattle.file_form.specs.Bytes.{tab}
-use Rattle.file_form.specs.Lines.{fields_of}
+use Rattle.text_form.specs.Bytes.{tab}
+use Rattle.text_form.specs.Lines.{fields_of}
 use Rattle.file_form.specs.Weights.{weight_form, weight_in}
-use Rattle.file_form.proofs.Text.Slices.{pieces_split}
+use Rattle.text_form.proofs.Slices.{pieces_split}
 use Rattle.file_text.specs.Steps.{read_as}
 use Rattle.file_text.proofs.LinesSplit.{fields_yielded}
 use Rattle.file_header.proofs.WeightFields.{all_read, other-count, fields_decide}

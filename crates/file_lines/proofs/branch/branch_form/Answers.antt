@@ -2,8 +2,8 @@
 use mathlib.Core.Path.{sym, ap, ◌∙◌}
 use native.Mathlib.Omega.{arith}
 use Rattle.lists.specs.Tests.{same_numbers as same_text}
-use Rattle.file_form.specs.Bytes.{word_c}
-use Rattle.file_form.specs.Decimal.{number_form, number_of}
+use Rattle.file_form.specs.Words.{word_c}
+use Rattle.text_form.specs.Decimal.{number_form, number_of}
 use Rattle.file_form.proofs.File.FirstForm.{fields_count}
 use Rattle.file_form.proofs.BranchLines.Form.{other-count, bad_word, bad_third}
 use Rattle.std.proofs.Common.{rules}

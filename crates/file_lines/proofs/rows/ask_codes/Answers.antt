@@ -5,7 +5,7 @@ use lib.ListN.{drop, length-append}
 use Rattle.std.proofs.Common.{rules, tests, of_calls}
 use Rattle.std.proofs.lemmas.Result.{err_from_is_err_and}
 use Rattle.std.proofs.lemmas.Iterator.Consumers.{YieldsList-at, YieldsList-turn, YieldsList-end}
-use Rattle.file_form.specs.Lines.{fields_of}
+use Rattle.text_form.specs.Lines.{fields_of}
 use Rattle.file_form.specs.Rows.{ask_codes}
 use Rattle.file_text.proofs.LinesSplit.{fields_yielded}
 use Rattle.file_lines.proofs.CodesWalk.{walk-refused, walk_passed, walk_ended}

@@ -1,7 +1,7 @@
 -- `file_lines::rows::ask_codes` meets its contract. The loop's invariant: the codes that are left decide.
 use mathlib.Core.Path.{◌≡◌}
 use lib.ListN.{length, drop}
-use Rattle.file_form.specs.Lines.{fields_of}
+use Rattle.text_form.specs.Lines.{fields_of}
 use Rattle.file_form.specs.Rows.{ask_codes}
 use Rattle.file_lines.proofs.rows.ask_codes.Given as goal
 

@@ -4,9 +4,10 @@ use Rattle.std.proofs.lemmas.Iterator.{YieldsList-from_slice}
 use Rattle.std.proofs.lemmas.Iterator.Search.{all_from_yields_List}
 use mathlib.Core.Path.{ap, ◌∙◌}
 use Rattle.std.specs.List.{list_all}
-use Rattle.file_form.proofs.Text.FirstPart.{piece_to_end}
+use Rattle.text_form.proofs.FirstPart.{piece_to_end}
 use borrow.Author.Tests.{lt-leb}
-use Rattle.file_form.specs.Job.{name_size, in_name}
+use Rattle.text_form.specs.Bytes.{in_name}
+use Rattle.file_form.specs.Job.{name_size}
 use Rattle.file_lines.proofs.NameForm.{empty, long, no_letter, others_decide}
 use Rattle.file_lines.proofs.rows.name_form.Goals as goal
 

@@ -1,7 +1,7 @@
 -- `file_text::bytes::behind_piece` meets its contract: the rest from the index behind the first separator on.
 use native.Mathlib.Omega.{arith}
-use Rattle.file_form.proofs.Text.FirstPart.{piece-within}
-use Rattle.file_form.proofs.Text.PartWalk.{behind}
+use Rattle.text_form.proofs.FirstPart.{piece-within}
+use Rattle.text_form.proofs.PartWalk.{behind}
 use Rattle.file_text.proofs.bytes.behind_piece.Goals as goal
 
 pub overflow_add-piece_length : goal.overflow_add-piece_length

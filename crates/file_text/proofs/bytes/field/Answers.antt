@@ -4,8 +4,8 @@ use lib.Dec.{eqb}
 use Rattle.std.proofs.Common.{rules, tests}
 use Rattle.std.proofs.lemmas.Iterator.Consumers.{nth_from_yields_List}
 use Rattle.std.proofs.lemmas.Iterator.Splits.{YieldsList-from_slice_split}
-use Rattle.file_form.specs.Bytes.{tab}
-use Rattle.file_form.proofs.Text.Slices.{field_found}
+use Rattle.text_form.specs.Bytes.{tab}
+use Rattle.text_form.proofs.Slices.{field_found}
 use Rattle.file_text.proofs.bytes.field.Goals as goal
 
 pub returns : goal.returns

@@ -1,5 +1,5 @@
 -- `file_text::bytes::first_piece` meets its contract: the piece lent ends at the first separator.
-use Rattle.file_form.proofs.Text.PartWalk.{counts, first}
+use Rattle.text_form.proofs.PartWalk.{counts, first}
 use Rattle.file_text.proofs.bytes.first_piece.Goals as goal
 
 pub slice_bounds-result-end : goal.slice_bounds-result-end

@@ -4,7 +4,7 @@ use lib.Dec.{eqb}
 use Rattle.std.proofs.Common.{rules, tests}
 use Rattle.std.proofs.lemmas.Iterator.{YieldsList-from_slice}
 use Rattle.std.proofs.lemmas.Iterator.Search.{position_from_yields_List}
-use Rattle.file_form.proofs.Text.Slices.{piece_found}
+use Rattle.text_form.proofs.Slices.{piece_found}
 use Rattle.file_text.proofs.bytes.piece_length.Goals as goal
 
 pub returns : goal.returns

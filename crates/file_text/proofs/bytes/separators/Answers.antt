@@ -6,7 +6,7 @@ use Rattle.std.proofs.Common.{rules, tests}
 use Rattle.std.proofs.lemmas.Iterator.{YieldsList-from_slice}
 use Rattle.std.proofs.lemmas.Iterator.Consumers.{YieldsList-from_filter, count_from_yields_List}
 use Rattle.std.proofs.lemmas.List.Sums.{length-filter}
-use Rattle.file_form.proofs.Text.Slices.{pieces_counted}
+use Rattle.text_form.proofs.Slices.{pieces_counted}
 use Rattle.file_text.proofs.bytes.separators.Goals as goal
 
 pub returns : goal.returns

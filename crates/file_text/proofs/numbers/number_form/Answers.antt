@@ -3,7 +3,7 @@ use Rattle.std.proofs.Common.{rules, tests}
 use Rattle.std.specs.Char.{is_ascii_digit}
 use Rattle.std.proofs.lemmas.Iterator.{YieldsList-from_slice}
 use Rattle.std.proofs.lemmas.Iterator.Search.{all_from_yields_List}
-use Rattle.matrix_form.proofs.Between.{nat_between}
+use Rattle.lists.proofs.Between.{nat_between}
 use Rattle.file_text.proofs.Decimal.NumberWalk.{bad_length, no_digit, one_digit, several_digits}
 use Rattle.file_text.proofs.numbers.number_form.Goals as goal
 

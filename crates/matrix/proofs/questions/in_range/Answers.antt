@@ -7,7 +7,7 @@ use lib.IntN.{ℤ, pos, negsuc}
 use lib.Signed.{le_z}
 use mir.Facts.{to_z-of_z}
 use Rattle.matrix_form.specs.Shape.{in_range}
-use Rattle.matrix_form.proofs.Between.{int_between}
+use Rattle.lists.proofs.Between.{int_between}
 use Rattle.matrix.proofs.questions.in_range.Goals as goal
 
 -- from -999 to 999 is at most 999 from zero

@@ -5,10 +5,10 @@ use native.Mathlib.Omega.{arith}
 use lib.Dec.{eqb}
 use lib.ListN.{length, drop}
 use Rattle.std.specs.Fn.{ComputesKey}
-use Rattle.file_form.specs.Bytes.{line_feed}
+use Rattle.text_form.specs.Bytes.{line_feed}
 use Rattle.std.proofs.Common.{rules, tests}
 use Rattle.std.proofs.lemmas.Fn.{always_returns_same}
-use Rattle.file_form.specs.Lines.{lines_of}
+use Rattle.text_form.specs.Lines.{lines_of}
 use Rattle.matrix_file.proofs.Lists.LinesCut.{cut_behind, lines_few}
 use Rattle.matrix_file.proofs.behind.behind_lines.Goals as goal
 

@@ -6,7 +6,7 @@ use native.Mathlib.Omega.{arith}
 use lib.ListN.{length, length-append, get_or}
 use Rattle.std.proofs.Common.{rules, tests, of_calls}
 use Rattle.std.proofs.lemmas.Iterator.Consumers.{YieldsList-at, YieldsList-turn, YieldsList-end}
-use Rattle.file_form.specs.Lines.{lines_of}
+use Rattle.text_form.specs.Lines.{lines_of}
 use Rattle.file_text.proofs.LinesSplit.{lines_yielded, line_turn, lines_passed}
 use Rattle.lists.specs.Filled.{filled}
 use Rattle.file_form.specs.Branches.{ancestor_in}

@@ -5,7 +5,7 @@ use Prim.Native.Nat.{◌*◌, ◌<◌}
 use lib.ListN.{length, length-append, get_or}
 use Rattle.std.proofs.Common.{rules, tests, of_calls}
 use Rattle.std.proofs.lemmas.Iterator.Consumers.{YieldsList-at, YieldsList-turn, YieldsList-end}
-use Rattle.file_form.specs.Lines.{lines_of}
+use Rattle.text_form.specs.Lines.{lines_of}
 use Rattle.file_text.proofs.LinesSplit.{lines_yielded, line_turn, lines_passed}
 use Rattle.tree_form.specs.LentNumbers.{record_size, record_numbers}
 use Rattle.file_form.specs.Branches.{ancestor_in}

@@ -12,7 +12,7 @@ use Rattle.file_form.specs.Rows.{codes_in}
 use Rattle.std.proofs.lemmas.Iterator.Consumers.{YieldsList-at, YieldsList-from_enumerate, YieldsList-turn, YieldsList-end}
 use Rattle.lists.specs.Over.{over}
 use Rattle.lists.proofs.Over.{over_nothing}
-use Rattle.file_form.specs.Lines.{fields_of}
+use Rattle.text_form.specs.Lines.{fields_of}
 use Rattle.file_text.proofs.LinesSplit.{fields_yielded}
 use Rattle.matrix_file.proofs.Lists.CodesWritten.{field_turn, fields_passed, code_next, codes_all}
 use Rattle.matrix_file.proofs.writing.write_codes.Goals as goal

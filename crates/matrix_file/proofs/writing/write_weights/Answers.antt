@@ -9,7 +9,7 @@ use lib.Seq.{length-take-le}
 use Rattle.std.proofs.Common.{rules, tests, of_calls}
 use Rattle.std.proofs.lemmas.Iterator.Consumers.{YieldsList-at, YieldsList-from_enumerate, YieldsList-turn, YieldsList-end}
 use Rattle.lists.proofs.Over.{over_nothing}
-use Rattle.file_form.specs.Lines.{fields_of}
+use Rattle.text_form.specs.Lines.{fields_of}
 use Rattle.file_text.proofs.LinesSplit.{fields_yielded}
 use Rattle.matrix_file.proofs.Lists.CodesWritten.{field_turn, fields_passed}
 use Rattle.matrix_file.proofs.Lists.WeightsWritten.{Weighted, ones_written, weight_room, weight_next, weights-done}

@@ -1,6 +1,6 @@
 -- A mark is put by its byte. Assumes nothing.
 use mathlib.Core.Path.{sym, ap}
-use Rattle.file_form.specs.Text.{bytes}
+use Rattle.text_form.specs.Text.{bytes}
 use Rattle.listing_form.specs.Kinds.{mark}
 use Rattle.lines.proofs.Puts.{put_same}
 use Rattle.lines.proofs.field.BoolField.put.Goals as goal

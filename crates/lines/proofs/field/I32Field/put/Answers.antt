@@ -2,8 +2,8 @@
 use mathlib.Core.Path.{ap, ◌∙◌}
 use mathlib.Core.List.{◌∷◌}
 use mir.Facts.{to_z-of_z}
-use Rattle.file_form.specs.Bytes.{minus}
-use Rattle.file_form.specs.Decimal.{digits_of, decimal}
+use Rattle.text_form.specs.Bytes.{minus}
+use Rattle.text_form.specs.Decimal.{digits_of, decimal}
 use Rattle.lines.proofs.Puts.{put_then, put_same}
 use Rattle.lines.proofs.Fields.{code_below, code-above}
 use Rattle.lines.proofs.field.I32Field.put.Goals as goal

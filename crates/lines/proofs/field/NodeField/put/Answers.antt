@@ -1,7 +1,7 @@
 -- A node is put by its kind: no node, a taxon or an HTU. Assumes nothing.
 use mathlib.Core.Path.{sym, ap, ◌∙◌}
-use Rattle.file_form.specs.Bytes.{first_piece}
-use Rattle.file_form.specs.Text.{bytes}
+use Rattle.text_form.specs.Bytes.{first_piece}
+use Rattle.text_form.specs.Text.{bytes}
 use Rattle.listing_form.specs.Lines.{htu_name}
 use Rattle.lines.specs.Fields.{node_text}
 use Rattle.lines.proofs.Puts.{put_then, put_same}

@@ -1,6 +1,6 @@
 -- What there is is put, and a hyphen where there is nothing. Assumes nothing.
 use mathlib.Core.Path.{sym, ap}
-use Rattle.file_form.specs.Text.{bytes}
+use Rattle.text_form.specs.Text.{bytes}
 use Rattle.listing_form.specs.Lines.{hyphen}
 use Rattle.lines.specs.Fields.{or_hyphen}
 use Rattle.lines.proofs.Puts.{put_same}

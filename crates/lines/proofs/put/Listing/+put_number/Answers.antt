@@ -1,7 +1,7 @@
 -- What the check leaves of `lines::put::Listing::put_number`.
 use mathlib.Core.Path.{sym, ap, ◌∙◌}
 use mathlib.Core.List.{◌∷◌, []}
-use Rattle.file_form.proofs.Decimal.Digits.{digits_one, digits_last}
+use Rattle.text_form.proofs.Digits.{digits_one, digits_last}
 use Rattle.lines.proofs.Puts.{put_then, put_same}
 use Rattle.lines.proofs.put.Listing.+put_number.Goals as goal
 

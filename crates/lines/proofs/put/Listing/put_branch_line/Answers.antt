@@ -1,6 +1,6 @@
 -- `lines::put::Listing::put_branch_line` meets its contract. Assumes nothing.
 use mathlib.Core.Path.{sym}
-use Rattle.file_form.specs.Text.{bytes}
+use Rattle.text_form.specs.Text.{bytes}
 use Rattle.listing_form.specs.Kinds.{branch_line}
 use Rattle.lines.proofs.Puts.{put_then, put_same, put_said}
 use Rattle.listing_form.proofs.LineFields.{behind, line_fields}

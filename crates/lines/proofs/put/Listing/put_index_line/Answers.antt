@@ -3,8 +3,8 @@ use borrow.Author.Rules.{rules}
 use mathlib.Core.Path.{◌≡◌, sym, ap, ◌∙◌}
 use Rattle.std.specs.Option.{option_map}
 use Rattle.consistency_form.specs.declared.index.Index.{Index}
-use Rattle.file_form.specs.Decimal.{digits_of}
-use Rattle.file_form.specs.Text.{bytes}
+use Rattle.text_form.specs.Decimal.{digits_of}
+use Rattle.text_form.specs.Text.{bytes}
 use Rattle.lines.specs.Fields.{or_hyphen}
 use Rattle.lines.proofs.Puts.{put_then, put_same, put_said}
 use Rattle.lines.proofs.Fields.{index_fields}

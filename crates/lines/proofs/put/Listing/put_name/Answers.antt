@@ -7,8 +7,8 @@ use Rattle.std.specs.Prelude.{not}
 use Rattle.std.proofs.lemmas.Iterator.{YieldsList-from_slice}
 use Rattle.std.proofs.lemmas.Iterator.Consumers.{YieldsList-at, YieldsList-end}
 use Rattle.std.proofs.lemmas.Iterator.Search.{YieldsList-from_take_while}
-use Rattle.file_form.specs.Bytes.{first_piece}
-use Rattle.file_form.proofs.Text.Slices.{piece_position}
+use Rattle.text_form.specs.Bytes.{first_piece}
+use Rattle.text_form.proofs.Slices.{piece_position}
 use Rattle.lines.proofs.Puts.{put_none, put_more, put_same}
 use Rattle.lines.proofs.put.Listing.put_name.Goals as goal
 

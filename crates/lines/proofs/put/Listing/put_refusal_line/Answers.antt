@@ -1,7 +1,7 @@
 -- `lines::put::Listing::put_refusal_line` meets its contract. Assumes nothing.
 use mathlib.Core.Path.{sym, ap, ◌∙◌}
 use Prim.Native.Nat.{ℕ}
-use Rattle.file_form.specs.Text.{bytes}
+use Rattle.text_form.specs.Text.{bytes}
 use Rattle.listing_form.specs.Kinds.{refusal_line}
 use Rattle.lines.proofs.Puts.{put_then, put_same}
 use Rattle.listing_form.proofs.LineFields.{behind, line_fields}

@@ -3,7 +3,7 @@ use borrow.Author.Rules.{rules}
 use mathlib.Core.Path.{sym}
 use mir.Syntax.{w32}
 use mir.Val.{SFits}
-use Rattle.file_form.specs.Text.{bytes}
+use Rattle.text_form.specs.Text.{bytes}
 use Rattle.listing_form.specs.Kinds.{state_line}
 use Rattle.lines.proofs.Puts.{put_then, put_same, put_said}
 use Rattle.lines.proofs.Fields.{same_code}

@@ -2,7 +2,7 @@
 use mathlib.Core.Path.{sym, ap}
 use native.Mathlib.Omega.{arith}
 use Rattle.branching.specs.Views.{ancestors}
-use Rattle.file_form.specs.Text.{bytes}
+use Rattle.text_form.specs.Text.{bytes}
 use Rattle.tree_form.specs.Nodes.{other_nodes}
 use Rattle.listing_form.specs.Kinds.{branch_line, total_line}
 use Rattle.listing_form.specs.Blocks.{fitted_line, fitted_lines}

@@ -2,7 +2,7 @@
 use borrow.Author.Rules.{rules}
 use mathlib.Core.Path.{sym}
 use lib.ListN.{take}
-use Rattle.file_form.specs.Text.{bytes}
+use Rattle.text_form.specs.Text.{bytes}
 use Rattle.listing_form.specs.Kinds.{prim_line, wagner_line, total_line}
 use Rattle.listing_form.specs.Blocks.{network_lines, build_lines}
 use Rattle.listing_form.proofs.Joined.{joined-block, joined-three}

@@ -17,26 +17,6 @@ minus = 45
 abbrev pub underscore : ℕ
 underscore = 95
 
--- the word `W`
-abbrev pub word_w : List ℕ
-word_w = 87 ∷ []
-
--- the word `F`
-abbrev pub word_f : List ℕ
-word_f = 70 ∷ []
-
--- the word `C`
-abbrev pub word_c : List ℕ
-word_c = 67 ∷ []
-
--- the word `advance`
-abbrev pub word_advance : List ℕ
-word_advance = 97 ∷ 100 ∷ 118 ∷ 97 ∷ 110 ∷ 99 ∷ 101 ∷ []
-
--- the word `closest`
-abbrev pub word_closest : List ℕ
-word_closest = 99 ∷ 108 ∷ 111 ∷ 115 ∷ 101 ∷ 115 ∷ 116 ∷ []
-
 -- `0` to `9`
 unfoldable pub is_digit : ℕ → Bool
 is_digit byte = leb 48 byte && leb byte 57
@@ -44,6 +24,10 @@ is_digit byte = leb 48 byte && leb byte 57
 -- `A` to `Z` or `a` to `z`
 unfoldable pub is_letter : ℕ → Bool
 is_letter byte = (leb 65 byte && leb byte 90) || (leb 97 byte && leb byte 122)
+
+-- a byte that may stand in a name: a letter, a digit or `_`
+unfoldable pub in_name : ℕ → Bool
+in_name byte = is_letter byte || (is_digit byte || eqb byte underscore)
 
 -- a byte put in front of the first piece (of a text's pieces there is always one)
 abbrev pub before_first : ℕ → List (List ℕ) → List (List ℕ)

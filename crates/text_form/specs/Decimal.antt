@@ -1,7 +1,7 @@
 -- Whole numbers in decimal: how they are written, which form is right, and what number a text of that form says.
 use Rattle.std.specs.Prelude.{List, [], ◌∷◌, ◌++◌, Bool, true, false, ◌&&◌, not, cond, ℕ, zero, suc, ◌+◌, ◌-◌, ◌*◌, ◌/◌, ◌%◌, leb, ltb, eqb, ℤ, pos, negsuc, neg_ℤ, length}
 use Rattle.lists.specs.Tests.{every}
-use Rattle.file_form.specs.Bytes.{minus, is_digit}
+use Rattle.text_form.specs.Bytes.{minus, is_digit}
 
 -- `0`
 abbrev pub zero_digit : ℕ

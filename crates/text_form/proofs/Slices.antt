@@ -15,10 +15,10 @@ use Rattle.std.specs.Cmp.Lexicographic.{pointwise}
 use Rattle.std.proofs.lemmas.List.Splits.{length-slice_split}
 use Rattle.lists.specs.Tests.{every, same_numbers as same_text}
 use Rattle.lists.proofs.Both.{eqb-sym}
-use Rattle.file_form.specs.Bytes.{tab, before_first, pieces_at, piece_length}
-use Rattle.file_form.specs.Lines.{fields_of}
-use Rattle.file_form.proofs.Text.Parts.{pieces_at_lem, pieces_other}
-use Rattle.file_form.proofs.Text.FirstPart.{piece-within}
+use Rattle.text_form.specs.Bytes.{tab, before_first, pieces_at, piece_length}
+use Rattle.text_form.specs.Lines.{fields_of}
+use Rattle.text_form.proofs.Parts.{pieces_at_lem, pieces_other}
+use Rattle.text_form.proofs.FirstPart.{piece-within}
 
 -- a byte put in front of the first piece is std's `onto_first`
 before_onto : (b : ℕ) (pieces : List (List ℕ)) → before_first b pieces ≡ onto_first b pieces

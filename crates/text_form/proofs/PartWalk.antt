@@ -4,8 +4,8 @@ use mathlib.Core.List.{List}
 use Prim.Native.Nat.{ℕ, ◌+◌, suc}
 use native.Mathlib.Omega.{arith}
 use lib.ListN.{length, drop, take, length-take}
-use Rattle.file_form.specs.Bytes.{piece_length, first_piece, behind_piece}
-use Rattle.file_form.proofs.Text.FirstPart.{piece-within}
+use Rattle.text_form.specs.Bytes.{piece_length, first_piece, behind_piece}
+use Rattle.text_form.proofs.FirstPart.{piece-within}
 use native.Mathlib.Numerals.{add-one}
 
 -- the bytes up to the first separator are that many

@@ -11,8 +11,8 @@ use lib.ListN.{length, get_or, drop, length-append}
 use lib.Seq.{drop-cons}
 use borrow.Author.Tests.{ltb-true, ltb-false, lt-ltb, le-ltb, le-leb, leb-true, ne_eqb, eqb-false, not-true}
 use Rattle.lists.specs.Tests.{every}
-use Rattle.file_form.specs.Bytes.{is_digit}
-use Rattle.file_form.specs.Decimal.{zero_digit, digit_for, digits_in, digits_of, no_leading_zero, number_form, number_from, number_of}
+use Rattle.text_form.specs.Bytes.{is_digit}
+use Rattle.text_form.specs.Decimal.{zero_digit, digit_for, digits_in, digits_of, no_leading_zero, number_form, number_from, number_of}
 use Rattle.lists.proofs.Both.{and_left, and_right, and_both}
 use Rattle.lists.proofs.Every.{every-head, every-tail, every_append}
 

@@ -6,8 +6,8 @@ use Prim.Native.Nat.{ℕ}
 use lib.Dec.{eqb}
 use borrow.Author.Tests.{eq-eqb, eqb-true, not-true}
 use Rattle.lists.specs.Tests.{every}
-use Rattle.file_form.specs.Bytes.{line_feed, before_first, pieces_at, joined_by}
-use Rattle.file_form.specs.Job.{ended}
+use Rattle.text_form.specs.Bytes.{line_feed, before_first, pieces_at, joined_by}
+use Rattle.text_form.specs.Lines.{lines_of, ended}
 use Rattle.lists.proofs.Every.{every-head, every-tail}
 
 -- no byte of a text is the separator
@@ -113,3 +113,8 @@ joined_pieces s (b ∷ bs) = by (eqb b s) refl (joined_pieces s bs)
         ∙ ap (λ first. first ∷ bs) (sym (eqb-true b s e))
     by false e ih =
         ap (joined_by s) (pieces_other s b bs e) ∙ joined-before s b (pieces_at s bs) ∙ ap (◌∷◌ b) ih
+
+-- of a text's lines there is always one
+pub lines_some : (text : List ℕ) → lines_of text ≡ (pieces_some line_feed text).0 ∷ (pieces_some line_feed text).1
+unfolding lines_of
+lines_some text = (pieces_some line_feed text).2

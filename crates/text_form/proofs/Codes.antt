@@ -6,15 +6,13 @@ use Prim.Native.Nat.{ℕ, zero, suc, ◌≤◌}
 use native.Mathlib.Omega.{arith}
 use lib.Dec.{leb, eqb}
 use lib.IntN.{ℤ, pos, negsuc, neg_ℤ}
-use borrow.Author.Tests.{le-leb, leb-true, ne_eqb, eqb-true}
-use Rattle.matrix_form.specs.Shape.{in_range}
+use borrow.Author.Tests.{leb-true, ne_eqb, eqb-true}
 use Rattle.lists.specs.Tests.{every}
-use Rattle.file_form.specs.Bytes.{minus, is_digit}
-use Rattle.file_form.specs.Decimal.{digits_of, decimal, number_form, number_of, code_form, code_of}
-use Rattle.lists.proofs.Both.{and_left, and_right, and_both}
+use Rattle.text_form.specs.Bytes.{minus, is_digit}
+use Rattle.text_form.specs.Decimal.{digits_of, decimal, number_form, number_of, code_form, code_of}
+use Rattle.lists.proofs.Both.{and_left, and_right}
 use Rattle.lists.proofs.Every.{every-head}
-use Rattle.file_form.proofs.Decimal.Digits.{digit_low, first_digit, digits_are_digits}
-use Rattle.file_form.proofs.Decimal.Digits.{digits_form, number_of_digits, digits_of_number}
+use Rattle.text_form.proofs.Digits.{digit_low, first_digit, digits_are_digits, number_of_digits, digits_of_number}
 
 -- a text that begins with another byte than a minus is read as a number
 module _ (byte : ℕ) (bytes : List ℕ) (other : eqb byte minus ≡ false) where
@@ -41,7 +39,7 @@ module _ (n : ℕ) where
   first_no_minus = digit_no_minus (first_digit n).0 (first_digit n).1 (rw (first_digit n).2 at (digits_are_digits n))
 
   -- their form as a code is their form as a number, and they say the same
-  digits_code_form : code_form (digits_of n) ≡ number_form (digits_of n)
+  pub digits_code_form : code_form (digits_of n) ≡ number_form (digits_of n)
   digits_code_form = rw (first_digit n).2 (plain_form (first_digit n).0 (first_digit n).1 first_no_minus)
 
   -- and they say the number
@@ -51,16 +49,6 @@ module _ (n : ℕ) where
       ∙ plain_code (first_digit n).0 (first_digit n).1 first_no_minus
       ∙ ap (λ text. pos (number_of text)) (sym (first_digit n).2)
       ∙ ap pos (number_of_digits n)
-
--- a code from -999 to 999 is written in the right form
-pub decimal_form : (code : ℤ) → in_range code ≡ true → code_form (decimal code) ≡ true
-unfolding in_range decimal code_form
-decimal_form (pos n) e =
-    let small = leb-true n _ e in
-    digits_code_form n ∙ digits_form n (omega arith)
-decimal_form (negsuc n) e =
-    let small = leb-true (suc n) _ e in
-    and_both (digits_form (suc n) (omega arith)) (rw number_of_digits (le-leb 1 (suc n) (omega arith)))
 
 -- a code is read back from what is written
 pub code_of-decimal : (code : ℤ) → code_of (decimal code) ≡ code

@@ -8,8 +8,8 @@ use borrow.Author.Tests.{ltb-true, ltb-false}
 use lib.Dec.{eqb, ltb}
 use lib.ListN.{length, get_or, take, drop, length-drop}
 use lib.Seq.{take_all, take-length, length-take-le}
-use Rattle.file_form.specs.Bytes.{before_first, pieces_at, piece_length, first_piece, behind_piece}
-use Rattle.file_form.proofs.Text.Parts.{pieces_at_lem, pieces_other}
+use Rattle.text_form.specs.Bytes.{before_first, pieces_at, piece_length, first_piece, behind_piece}
+use Rattle.text_form.proofs.Parts.{pieces_at_lem, pieces_other}
 
 -- at a separator the first piece is empty
 piece_at : (s b : ℕ) (bs : List ℕ) → eqb b s ≡ true → piece_length s (b ∷ bs) ≡ 0

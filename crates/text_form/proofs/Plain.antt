@@ -1,21 +1,20 @@
 -- Names and numbers hold neither a tab nor a line feed: each of their bytes is above both.
 use mathlib.Core.Path.{◌≡◌, refl}
 use mathlib.Core.List.{List, [], ◌∷◌, map}
-use mathlib.Core.Bool.{Bool, true, false, ◌&&◌, ◌||◌, not, false≢true}
+use mathlib.Core.Bool.{Bool, true, false, ◌&&◌, ◌||◌, not}
 use Prim.Native.Nat.{ℕ, ◌≤◌}
 use native.Mathlib.Omega.{arith}
 use lib.Dec.{leb, ltb, eqb}
 use lib.IntN.{ℤ, pos, negsuc}
 use borrow.Author.Tests.{lt-ltb, ltb-true, leb-true, eqb-true, ne_eqb}
 use Rattle.lists.specs.Tests.{every}
-use Rattle.file_form.specs.Bytes.{tab, line_feed, minus, underscore, is_digit, is_letter, joined_by}
-use Rattle.file_form.specs.Decimal.{digits_of, decimal}
-use Rattle.file_form.specs.Job.{in_name, name_form}
-use Rattle.file_form.specs.Lines.{fields_of}
-use Rattle.lists.proofs.Both.{and_left, and_right, or_cases}
+use Rattle.text_form.specs.Bytes.{tab, line_feed, minus, underscore, is_digit, is_letter, in_name, joined_by}
+use Rattle.text_form.specs.Decimal.{digits_of, decimal}
+use Rattle.text_form.specs.Lines.{fields_of}
+use Rattle.lists.proofs.Both.{and_left, or_cases}
 use Rattle.lists.proofs.Every.{every-head, every-tail, every-cons, every_append, every_weaker}
-use Rattle.file_form.proofs.Text.Parts.{lacks, pieces_joined}
-use Rattle.file_form.proofs.Decimal.Digits.{digit_low, digits_are_digits}
+use Rattle.text_form.proofs.Parts.{lacks, pieces_joined}
+use Rattle.text_form.proofs.Digits.{digit_low, digits_are_digits}
 
 -- every byte of a text is above tab and line feed
 abbrev pub plain : List ℕ → Bool
@@ -29,27 +28,27 @@ plain_lacks separator low =
     let above = ltb-true line_feed byte e in
     rw (ne_eqb byte separator (λ same. omega arith)))
 
--- a digit, a letter, and each byte of a name is above tab and line feed
+-- a digit is above tab and line feed
 digit_plain : (byte : ℕ) → is_digit byte ≡ true → ltb line_feed byte ≡ true
 digit_plain byte e = lt-ltb line_feed byte (omega (arith, digit_low byte e))
 
--- a letter
-letter_plain : (byte : ℕ) → is_letter byte ≡ true → ltb line_feed byte ≡ true
+-- so is a letter
+pub letter_plain : (byte : ℕ) → is_letter byte ≡ true → ltb line_feed byte ≡ true
 unfolding is_letter
 letter_plain byte e =
     or_cases (leb 65 byte && leb byte 90) (leb 97 byte && leb byte 122) e
     (λ upper. lt-ltb line_feed byte (omega (arith, leb-true 65 byte (and_left (leb 65 byte) (leb byte 90) upper))))
     (λ lower. lt-ltb line_feed byte (omega (arith, leb-true 97 byte (and_left (leb 97 byte) (leb byte 122) lower))))
 
--- a byte of a name
-in_name-plain : (byte : ℕ) → in_name byte ≡ true → ltb line_feed byte ≡ true
+-- and so is each byte of a name
+pub in_name-plain : (byte : ℕ) → in_name byte ≡ true → ltb line_feed byte ≡ true
 unfolding in_name
 in_name-plain byte e =
     or_cases (is_letter byte) (is_digit byte || eqb byte underscore) e (letter_plain byte)
     (λ other. or_cases (is_digit byte) (eqb byte underscore) other (digit_plain byte)
     (λ same. lt-ltb line_feed byte (omega (arith, eqb-true byte underscore same))))
 
--- the digits of a number, a code in decimal, and a name are plain
+-- the digits of a number are plain
 pub digits_plain : (n : ℕ) → plain (digits_of n) ≡ true
 digits_plain n = every_weaker is_digit (ltb line_feed) digit_plain (digits_of n) (digits_are_digits n)
 
@@ -58,15 +57,6 @@ pub decimal-plain : (code : ℤ) → plain (decimal code) ≡ true
 unfolding decimal
 decimal-plain (pos n) = digits_plain n
 decimal-plain (negsuc n) = every-cons (ltb line_feed) minus (digits_of _) refl (digits_plain _)
-
--- a name is plain
-pub name_plain : (name : List ℕ) → name_form name ≡ true → plain name ≡ true
-unfolding name_form
-name_plain [] e = absurd (false≢true e)
-name_plain (byte ∷ bytes) e =
-    every-cons (ltb line_feed) byte bytes (letter_plain byte (and_left (is_letter byte) _ e))
-    (every_weaker in_name (ltb line_feed) in_name-plain bytes
-    (and_left (every in_name bytes) _ (and_right (is_letter byte) _ e)))
 
 -- codes in decimal are plain
 pub decimals_plain : (codes : List ℤ) → every plain (map decimal codes) ≡ true

@@ -1,3 +1,0 @@
--- Whole numbers in decimal.
-pub mod Digits
-pub mod Codes
