@@ -20,7 +20,7 @@ import re
 import sys
 
 PAGE = "docs/STATEMENTS.md"
-FILE = re.compile(r"(?:[\w.-]+/)*[\w-]+\.(?:antt|rt|rs|py|sh|md)$|tools/[\w-]+$")
+FILE = re.compile(r"(?:[\w.+-]+/)*[\w-]+\.(?:antt|rt|rs|py|sh|md)$|tools/[\w-]+$")
 EDIT = re.compile(r"(\w+)/(\w+)$")
 RUST = re.compile(r"\w+(?:::\w+)+$")
 TYPED = re.compile(r"^\s*(?:(?:abbrev|unfoldable) )*(?:pub )?([^\W\d][\w'#-]*) :(?:\s|$)", re.M)

@@ -1,7 +1,7 @@
 -- The header of a file, as it is read and asked.
 use mathlib.Core.Path.{◌≡◌, refl, sym, ap, ap₂, ◌∙◌}
 use mathlib.Core.List.{List, [], ◌∷◌}
-use mathlib.Core.Bool.{Bool, true, false, false≢true, ◌&&◌, ◌||◌}
+use mathlib.Core.Bool.{Bool, true, false, false≢true, ◌&&◌}
 use mathlib.Core.Logic.{by_cases}
 use native.Mathlib.Decide.{dec_le}
 use Prim.Native.Nat.{ℕ, ◌+◌, ◌≤◌}

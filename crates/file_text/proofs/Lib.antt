@@ -2,5 +2,5 @@
 pub mod ReadAs
 pub mod NameBytes
 pub mod FirstLine
-pub mod LinesSplit
+pub mod FieldsSplit
 pub mod Decimal

@@ -2,12 +2,18 @@
 use mathlib.Core.Path.{◌≡◌, refl, sym, ap, ◌∙◌}
 use mathlib.Core.Bool.{Bool, true, false, not, cond}
 use Rattle.std.specs.Prelude.{Option, None, Some, is_some}
+use Rattle.std.specs.Option.{unwrap_or}
 use Rattle.file_text.specs.Steps.{read_as}
 
 -- what a text says that has the form
 pub read_formed : {T A : Type 0} (form : T → Bool) (says : T → A) (text : T) (a : A) → form text ≡ true → a ≡ says text
     → Some a ≡ read_as form says text
 read_formed form says text a e s = ap Some s ∙ sym (ap (λ b. cond b (Some (says text)) None) e)
+
+-- so it is, whatever stands for a text that has it not
+pub read_or : {T A : Type 0} (form : T → Bool) (says : T → A) (text : T) (r : Option A) (none : A) → r ≡ read_as form says text
+    → form text ≡ true → unwrap_or r none ≡ says text
+read_or form says text r none e f = ap (λ x. unwrap_or x none) (e ∙ sym (read_formed form says text (says text) f refl))
 
 -- and what one says that has not
 pub read_formless : {T A : Type 0} (form : T → Bool) (says : T → A) (text : T) → form text ≡ false → None ≡ read_as form says text

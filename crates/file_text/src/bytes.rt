@@ -37,20 +37,27 @@ fn rest_from(text: &[u8], at: usize) -> &[u8]
     text.get(at..).unwrap_or(&[])
 }
 
-// The first piece of a text.
+// The first piece of a text and what stands behind its separator: nothing where there is none.
 // Kept: no plainer, `piece_length` is needed for what stands behind a piece; `split(..).next()` would be a second way to find the same index, and end in an Option that is never none.
+pub fn cut_piece(text: &[u8], separator: u8) -> (&[u8], &[u8])
+    ensures { (result.0.now ≡ first_piece separator text.now) × (result.1.now ≡ behind_piece separator text.now) }
+{
+    let length = piece_length(text, separator);
+    (&text[..length], rest_from(text, length + 1))
+}
+
+// The first piece of a text.
 pub fn first_piece(text: &[u8], separator: u8) -> &[u8]
     ensures { result.now ≡ first_piece separator text.now }
 {
-    &text[..piece_length(text, separator)]
+    cut_piece(text, separator).0
 }
 
-// Kept: no plainer, as `first_piece`: what stands behind it begins one index behind its length.
 // What stands behind the first separator of a text: nothing where there is none.
 pub fn behind_piece(text: &[u8], separator: u8) -> &[u8]
     ensures { result.now ≡ behind_piece separator text.now }
 {
-    rest_from(text, piece_length(text, separator) + 1)
+    cut_piece(text, separator).1
 }
 
 // Kept: no plainer, the length of the first piece tells whether a line feed ends it; with `position(..)?` here the index would be sought beside `piece_length`.
@@ -58,11 +65,11 @@ pub fn behind_piece(text: &[u8], separator: u8) -> &[u8]
 pub fn first_line(text: &[u8]) -> Option<(&[u8], &[u8])>
     ensures { FirstLine text.now result }
 {
-    let line = first_piece(text, LINE_FEED);
+    let (line, behind) = cut_piece(text, LINE_FEED);
     if line.len() == text.len() {
         return None;
     }
-    Some((line, rest_from(text, line.len() + 1)))
+    Some((line, behind))
 }
 
 // A field of a line, the first at index 0: nothing where the line has no such field.

@@ -84,6 +84,7 @@ module _ (file : List ℕ) (job : Job) (e : read_answer file ≡ value job) wher
         built = build_numbers (measure_meant job) job;
         tree = tree_numbers (measure_meant job) job (built_meant (measure_meant job) job).tree;
         lines = listed ∙ ap joined (built-listing (measure_meant job) job kind);
+        is_network = refl;
         is_built = refl;
         is_tree = sym (ap (λ k. tree_for k (measure_meant job) job) kind);
         build_least = build_least;

@@ -2,7 +2,7 @@
 use mathlib.Core.Path.{◌≡◌, refl, sym, ◌∙◌, subst}
 use mathlib.Core.Logic.{◌↔◌}
 use mathlib.Core.Bool.{Bool, true, false, false≢true}
-use mathlib.Core.List.{List, ◌++◌, Memᴰ}
+use mathlib.Core.List.{List, ◌∷◌, ◌++◌, Memᴰ}
 use Prim.Native.Nat.{ℕ, zero, suc, ◌+◌, ◌*◌, ◌-◌, ◌≤◌, ◌<◌}
 use native.Mathlib.Omega.{arith}
 use lib.IntN.{ℤ}
@@ -13,8 +13,9 @@ use Rattle.matrix_form.specs.NodeRows.{row_of}
 use Rattle.file_form.specs.Job.{Job}
 use Rattle.file_form.specs.declared.header.Kind.TheVariants.{Wagner, Own}
 use Rattle.difference_form.specs.Rows.{node_difference}
-use Rattle.prim_form.specs.Network.{Link}
+use Rattle.prim_form.specs.Network.{Link, taxa, network}
 use Rattle.prim_form.specs.Rival.{Connected, link_ends, links_length}
+use Rattle.prim_form.proofs.Placing.{Placing, network-placing}
 use Rattle.tree_form.specs.declared.placement.Placement.{Placement}
 use Rattle.tree_form.specs.Ancestors.{tree_with}
 use Rattle.tree_form.specs.Nodes.{other_nodes}
@@ -138,6 +139,16 @@ module _ (file : List ℕ) (job : Job) (x : NoRivalInPrint file job) where
       output file ≡ joined (lines_of_build job.n job.names x.built) ++ joined (lines_of_tree job.n job.names job.m x.tree)
   printed_in_turn =
       x.lines ∙ flat_map-append (λ line. line) (lines_of_build job.n job.names x.built) (lines_of_tree job.n job.names job.m x.tree)
+
+  -- the `P` lines are the links of the Prim Network, in its order of placing
+  pub p_lines_network : x.built.links ≡ network (taxa_apart job) job.n
+  p_lines_network = x.is_network
+
+  -- each `P` line is the next link after the lines before it: it places a taxon that none of them places, and joins it to row 1 or to one
+  -- that they place; no taxon left was nearer to one of these
+  pub p_line_placing : (before : List Link) (l : Link) (after : List Link) → x.built.links ≡ before ++ l ∷ after
+      → Placing (taxa_apart job) job.n (taxa before) l
+  p_line_placing before l after split = network-placing (taxa_apart job) job.n before l after (sym p_lines_network ∙ split)
 
   -- the length of each `P` line is the difference of its two taxa
   pub p_line_length : (l : Link) → Memᴰ l x.built.links → l.length ≡ taxa_apart job l.taxon l.joined

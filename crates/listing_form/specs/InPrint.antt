@@ -18,7 +18,7 @@ use Rattle.consistency_form.specs.Floor.{floor, FloorNeverPasses}
 use Rattle.consistency_form.specs.Index.{IsIndex}
 use Rattle.rivals.specs.Demand.{BuildIsLeast}
 use Rattle.listing_form.specs.Lines.{joined}
-use Rattle.listing_form.specs.Meant.{order_meant, measure_meant, built_meant, tree_meant}
+use Rattle.listing_form.specs.Meant.{order_meant, measure_meant, links_meant, built_meant, tree_meant}
 use Rattle.listing_form.specs.Blocks.{PrintedBuild, PrintedTree, lines_of_build, lines_of_tree}
 use Rattle.listing_form.specs.Listing.{output}
 
@@ -60,11 +60,12 @@ pub record TreeLeast (job : Job) (printed : PrintedTree) : Type 0 where
       → ((printed.low v j ≤ℤ s) × (s ≤ℤ printed.high v j))
       ↔ Occurs (measure_meant job).step printed.tree job.rows job.n job.m v j s
 
--- the listing of a `W` file that says a job prints the numbers of network and build, and those of the tree that is meant, and nothing else
+-- the listing of a `W` file that says a job prints the numbers of the network, the build and the tree that are meant, and nothing else
 pub record NoRivalInPrint (file : List ℕ) (job : Job) : Type 0 where
   pub built : PrintedBuild
   pub tree : PrintedTree
   pub lines : output file ≡ joined (lines_of_build job.n job.names built ++ lines_of_tree job.n job.names job.m tree)
+  pub is_network : built.links ≡ links_meant (measure_meant job) job
   pub is_built : built.built ≡ built_meant (measure_meant job) job
   pub is_tree : tree.tree ≡ tree_meant (measure_meant job) job
   pub build_least : BuildLeast job built

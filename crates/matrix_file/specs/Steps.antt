@@ -1,7 +1,9 @@
 -- No public contract cites this file. What a walk over lines of a sort, the rows or the `C` lines of a file, answers.
 use mathlib.Core.List.{List, [], map}
 use denote.Ref.{Bor}
-use Rattle.std.specs.Prelude.{◌≡◌, ℕ, ◌+◌, length, take, drop, Result, Ok, Err, List}
+use Rattle.std.specs.Borrow.{MutBor}
+use Rattle.lists.specs.Over.{over}
+use Rattle.std.specs.Prelude.{◌≤◌, ◌<◌, get_or, ◌≡◌, ℕ, ◌+◌, length, take, drop, Result, Ok, Err, List}
 use Rattle.matrix_form.specs.Shape.{most_taxa}
 use Rattle.matrix_form.specs.Outcomes.{Outcome, value, refused}
 use Rattle.matrix_form.specs.Refusals.{refusal_number}
@@ -39,6 +41,18 @@ behind_rows_most = 2 + length optional_lines + most_taxa
 abbrev pub left_of : {E : Type 0} → Result (Bor (List ℕ)) E → Result (List ℕ) E
 left_of (Ok rest) = Ok rest.now
 left_of (Err e) = Err e
+
+-- what writes the items of a piece may be called for each of these pieces, where its list has room for so many
+abbrev pub TakesPieces : {T : Type 0} → (MutBor (List T) → Bor (List ℕ) → Type 0) → ℕ → List (List ℕ) → Type 0
+TakesPieces {T} calls width pieces =
+    (out : MutBor (List T)) (piece : Bor (List ℕ)) (i : ℕ) → width ≤ length out.now → i < length pieces → piece.now ≡ get_or pieces i []
+    → calls out piece
+
+-- each call writes what its piece says over the front of its list
+abbrev pub WritesPiece : {T : Type 0} → (MutBor (List T) → Bor (List ℕ) → Unit {0} → MutBor (List T) → Type 0) → (List ℕ → List T) → Type 0
+WritesPiece {T} calls says =
+    (out : MutBor (List T)) (piece : Bor (List ℕ)) (done : Unit {0}) (after : MutBor (List T)) → calls out piece done after
+    → after.now ≡ over 0 (says piece.now) out.now
 
 -- a walk over so many lines of a sort, the first of them in this line of the file, answers their questions, whatever follows them, and ends
 -- behind them

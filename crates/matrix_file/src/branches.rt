@@ -1,6 +1,6 @@
 // The branching of a file: its `C` lines.
 // Kept: no plainer, three functions ask for `C` lines of the right form: a struct with this fact would be made in two places, each for one method.
-ghost use Rattle.std.specs.Prelude.{◌≡◌, true, [], map, ◌*◌, ◌≤◌, length, get_or, take};
+ghost use Rattle.std.specs.Prelude.{◌≡◌, true, [], ◌∷◌, map, ◌*◌, ◌≤◌, length, get_or, take};
 ghost use Rattle.lists.specs.Over.{over, stripes};
 ghost use Rattle.matrix_form.specs.Shape.{most_taxa};
 ghost use Rattle.tree_form.specs.Ancestors.{tree_with};
@@ -13,6 +13,7 @@ ghost use Rattle.file_form.specs.Branches.{branch_count, ancestor_in, branch_sor
 ghost use Rattle.file_form.specs.Formed.{BranchesFormed, record_in};
 ghost use Rattle.matrix_file.specs.Steps.{behind_rows_most, left_of, LinesAsked};
 
+use crate::writing::write_pieces;
 use branching::tree::Tree;
 use file_form::answer::Refused;
 use file_form::header::Kind;
@@ -67,20 +68,22 @@ fn number_in(line: &[u8], index: usize) -> usize
     number(field(line, index)).unwrap_or(0)
 }
 
+// Writes the ancestor that a `C` line says as the first element of a list.
+fn write_ancestor(out: &mut [usize], line: &[u8])
+    requires above { number_form (get_or (fields_of line.now) 2 []) ≡ true }
+    requires room { 1 ≤ length out.old }
+    ensures { out.new ≡ over 0 (ancestor_in line.now ∷ []) out.old }
+{
+    out[0] = number_in(line, ANCESTOR);
+}
+
 // The tree that `C` lines say, with which a text begins.
 fn tree_said(text: &[u8], count: usize) -> Tree
     requires { (count ≤ branches_size) × BranchesFormed count text.now }
     ensures { ancestors result ≡ tree_with (map ancestor_in (take count (lines_of text.now))) }
 {
     let mut above = [0; TREE_SIZE];
-    // Kept: unproved, it would be a zip of `iter_mut`, as was tried in `write_codes`: of the list behind it a proof knows the length alone.
-    for (i, line) in text
-        .split(|byte| *byte == LINE_FEED)
-        .take(count)
-        .enumerate()
-    {
-        above[i + 2] = number_in(line, ANCESTOR);
-    }
+    write_pieces(&mut above[2..], 1, text, LINE_FEED, count, write_ancestor);
     Tree::from_ancestors(above)
 }
 
@@ -101,29 +104,14 @@ pub(crate) fn ask_tree(text: &[u8], kind: Kind, n: usize) -> Result<(), Refusal>
     }
 }
 
-// Writes the record of a node and its ancestor, with length 0, over the front of a list.
-fn write_record(out: &mut [usize], node: usize, ancestor: usize)
-    requires { record_size ≤ length out.old }
-    ensures { out.new ≡ over 0 (record_numbers node ancestor) out.old }
+// Writes the record that a `C` line says, its node, the ancestor and length 0, over the front of a list.
+pub(crate) fn write_record(out: &mut [usize], line: &[u8])
+    requires node { number_form (get_or (fields_of line.now) 1 []) ≡ true }
+    requires above { number_form (get_or (fields_of line.now) 2 []) ≡ true }
+    requires room { record_size ≤ length out.old }
+    ensures { out.new ≡ over 0 (record_in line.now) out.old }
 {
+    let node = number_in(line, NODE);
+    let ancestor = number_in(line, ANCESTOR);
     out[..RECORD].copy_from_slice(&[node, ancestor, 0]);
-}
-
-// Writes the records that `C` lines say, with which a text begins, one after another.
-pub(crate) fn write_branches(branches: &mut [usize], text: &[u8], count: usize)
-    requires { (count * record_size ≤ length branches.old) × BranchesFormed count text.now }
-    ensures { branches.new ≡ stripes record_size 0 (map record_in (take count (lines_of text.now))) branches.old }
-{
-    for (i, line) in text
-        .split(|byte| *byte == LINE_FEED)
-        .take(count)
-        .enumerate()
-    {
-        // Kept: unproved, as `write_matrix` in `writing`, with `branches.chunks_mut(RECORD)`.
-        write_record(
-            &mut branches[i * RECORD..],
-            number_in(line, NODE),
-            number_in(line, ANCESTOR),
-        );
-    }
 }

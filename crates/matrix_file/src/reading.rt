@@ -7,9 +7,10 @@ ghost use Rattle.file_form.specs.Written.{lent, job_written};
 
 use crate::NAMES_SIZE;
 use crate::behind::behind_lines;
-use crate::branches::{branch_count, write_branches};
+use crate::branches::{branch_count, write_record};
 use crate::judging::ask_file;
-use crate::writing::{write_matrix, write_names, write_weights};
+use crate::writing::{write_codes, write_name, write_pieces, write_weights};
+use file_form::NAME_SIZE;
 use file_form::answer::Refused;
 use file_form::header::Header;
 use file_header::header::header_lines;
@@ -17,7 +18,7 @@ use file_text::bytes::behind_piece;
 use matrix::{COLUMNS, MATRIX_SIZE};
 use matrix_form::refusal::Refusal;
 use text_form::LINE_FEED;
-use tree_records::numbers::LENT_NUMBERS;
+use tree_records::numbers::{LENT_NUMBERS, RECORD};
 
 // The lengths of the matrix, the weights, the names and the branches that are lent.
 const FULL_SIZES: [usize; 4] = [MATRIX_SIZE, COLUMNS, NAMES_SIZE, LENT_NUMBERS];
@@ -41,10 +42,18 @@ fn write_job(
     let n = header.n;
     let kind = header.kind;
     let rows = behind_lines(file, header_lines(header));
-    write_matrix(matrix, rows, n);
+    write_pieces(matrix, COLUMNS, rows, LINE_FEED, n, write_codes);
     write_weights(weights, behind_piece(file, LINE_FEED), header);
-    write_names(names, rows, n);
-    write_branches(branches, behind_lines(rows, n), branch_count(kind, n));
+    write_pieces(names, NAME_SIZE, rows, LINE_FEED, n, write_name);
+    let behind = behind_lines(rows, n);
+    write_pieces(
+        branches,
+        RECORD,
+        behind,
+        LINE_FEED,
+        branch_count(kind, n),
+        write_record,
+    );
 }
 
 // Reads a file: an accepted one is written into the matrix, the weights, the names and the branches; a refused one leaves the four as they

@@ -1,57 +1,98 @@
 // Writing what an accepted file says into the lent lists.
-ghost use Rattle.std.specs.Prelude.{◌≡◌, true, ◌||◌, not, map, ◌*◌, ◌≤◌, length, take, drop};
+ghost use Rattle.std.specs.Prelude.{List, ℕ, [], ◌∷◌, ◌≡◌, true, ◌||◌, not, map, ◌*◌, ◌≤◌, length, take, drop};
 ghost use Rattle.lists.specs.Over.{over, stripes};
 ghost use Rattle.lists.specs.Tests.{every};
-ghost use Rattle.text_form.specs.Decimal.{code_form};
-ghost use Rattle.matrix_form.specs.Shape.{columns};
+ghost use Rattle.text_form.specs.Decimal.{code_form, code_of};
+ghost use Rattle.text_form.specs.Bytes.{tab, pieces_at, first_piece};
 ghost use Rattle.file_form.specs.Job.{name_size};
 ghost use Rattle.text_form.specs.Lines.{lines_of, fields_of};
 ghost use Rattle.file_form.specs.Optional.{optional_fields};
-ghost use Rattle.file_form.specs.Weights.{weights_form, weights_said};
+ghost use Rattle.file_form.specs.Weights.{weight_form, weight_in, weights_form, weights_said};
 ghost use Rattle.file_form.specs.Rows.{codes_in};
-ghost use Rattle.file_form.specs.Formed.{RowsFormed};
-ghost use Rattle.matrix_file.specs.Steps.{padded_in};
+ghost use Rattle.matrix_file.specs.Steps.{TakesPieces, WritesPiece};
 ghost use Rattle.file_form.specs.Written.{padded};
 
 use file_form::NAME_SIZE;
 use file_form::header::Header;
 use file_header::weights::weight;
-use file_text::bytes::first_piece;
+use file_text::bytes::{behind_piece, cut_piece, first_piece, separators};
 use file_text::numbers::code;
 use matrix::{COLUMNS, LIGHTEST};
 use text_form::{LINE_FEED, TAB};
 
+// Writes what each of the first `count` pieces of a text says, `width` items behind what the piece before says, by what writes it for one piece
+// over the front of a list.
+// Kept: no plainer, a text, its separator and how many of its pieces are three things that each caller has apart.
+pub(crate) fn write_pieces<T, F: Fn(&mut [T], &[u8])>(
+    out: &mut [T],
+    width: usize,
+    text: &[u8],
+    separator: u8,
+    count: usize,
+    write: F,
+)
+    requires room { count * width ≤ length out.old }
+    requires enough { count ≤ length (pieces_at separator text.now) }
+    requires callable { TakesPieces (F.pre write) width (take count (pieces_at separator text.now)) }
+    ensures { (says : List ℕ → List T) → WritesPiece (F.post write) says
+        → out.new ≡ stripes width 0 (map says (take count (pieces_at separator text.now))) out.old }
+{
+    let mut rest = text;
+    // Kept: unproved, tried was `text.split(..).take(count)`: in a function with type parameters the check refuses a loop over what lends its items; of `out.chunks_mut(width)` the elements stayed open.
+    for i in 0..count {
+        let (piece, behind) = cut_piece(rest, separator);
+        write(&mut out[i * width..], piece);
+        rest = behind;
+    }
+}
+
+// Writes what each field of a line behind its first one says, one item, over the front of a list.
+fn write_fields<T, F: Fn(&mut [T], &[u8])>(out: &mut [T], line: &[u8], write: F)
+    requires room { length (drop 1 (fields_of line.now)) ≤ length out.old }
+    requires callable { TakesPieces (F.pre write) 1 (drop 1 (fields_of line.now)) }
+    ensures { (says : List ℕ → List T) → WritesPiece (F.post write) says
+        → out.new ≡ stripes 1 0 (map says (drop 1 (fields_of line.now))) out.old }
+{
+    let fields = behind_piece(line, TAB);
+    write_pieces(out, 1, fields, TAB, separators(line, TAB), write);
+}
+
+// Writes the code that a field says as the first element of a list.
+fn write_code(out: &mut [i32], field: &[u8])
+    requires formed { code_form field.now ≡ true }
+    requires room { 1 ≤ length out.old }
+    ensures { out.new ≡ over 0 (code_of field.now ∷ []) out.old }
+{
+    out[0] = code(field).unwrap_or(0);
+}
+
 // Writes the codes of a row's line, behind its name, over the front of a list.
-fn write_codes(out: &mut [i32], line: &[u8])
+pub(crate) fn write_codes(out: &mut [i32], line: &[u8])
     requires codes_formed { every code_form (drop 1 (fields_of line.now)) ≡ true }
     requires room { length (drop 1 (fields_of line.now)) ≤ length out.old }
     ensures { out.new ≡ over 0 (codes_in line.now) out.old }
 {
-    // Kept: unproved, tried was `out.iter_mut().zip(..)`: behind it the check knows the list's length, and its elements stayed open; `enumerate` would look up each field anew.
-    for (j, field) in line.split(|byte| *byte == TAB).skip(1).enumerate() {
-        out[j] = code(field).unwrap_or(0);
-    }
+    write_fields(out, line, write_code);
 }
 
-// Writes a name and zeros behind it over the first 16 bytes of a list.
-fn write_name(out: &mut [u8], name: &[u8])
-    requires name_short { length name.now ≤ name_size }
+// Writes the name of a row's line and zeros behind it over the first 16 bytes of a list.
+pub(crate) fn write_name(out: &mut [u8], line: &[u8])
+    requires name_short { length (first_piece tab line.now) ≤ name_size }
     requires room { name_size ≤ length out.old }
-    ensures { out.new ≡ over 0 (padded name.now) out.old }
+    ensures { out.new ≡ over 0 (padded (first_piece tab line.now)) out.old }
 {
+    let name = first_piece(line, TAB);
     out[..name.len()].copy_from_slice(name);
     out[name.len()..NAME_SIZE].fill(0);
 }
 
-// Writes the codes of n rows, each over the front of its row of the matrix.
-pub(crate) fn write_matrix(matrix: &mut [i32], rows: &[u8], n: usize)
-    requires { (n * columns ≤ length matrix.old) × RowsFormed n rows.now }
-    ensures { matrix.new ≡ stripes columns 0 (map codes_in (take n (lines_of rows.now))) matrix.old }
+// Writes the weight that a field says as the first element of a list.
+fn write_weight(out: &mut [u8], field: &[u8])
+    requires formed { weight_form field.now ≡ true }
+    requires room { 1 ≤ length out.old }
+    ensures { out.new ≡ over 0 (weight_in field.now ∷ []) out.old }
 {
-    for (i, line) in rows.split(|byte| *byte == LINE_FEED).take(n).enumerate() {
-        // Kept: unproved, tried was `matrix.chunks_mut(COLUMNS).zip(..)`: behind it the check knows the list's length, and its elements stayed open.
-        write_codes(&mut matrix[i * COLUMNS..], line);
-    }
+    out[0] = weight(field).unwrap_or(LIGHTEST);
 }
 
 // Writes the weights of the m characters over the front of a list: those of the line if it is there, else 1 for each.
@@ -65,20 +106,5 @@ pub(crate) fn write_weights(weights: &mut [u8], text: &[u8], header: Header)
         weights[..header.m].fill(LIGHTEST);
         return;
     }
-    let line = first_piece(text, LINE_FEED);
-    // Kept: unproved, as `write_codes`, with `weights.iter_mut()`.
-    for (j, field) in line.split(|byte| *byte == TAB).skip(1).enumerate() {
-        weights[j] = weight(field).unwrap_or(LIGHTEST);
-    }
-}
-
-// Writes the names of n rows, one after another.
-pub(crate) fn write_names(names: &mut [u8], rows: &[u8], n: usize)
-    requires { (n * name_size ≤ length names.old) × RowsFormed n rows.now }
-    ensures { names.new ≡ stripes name_size 0 (map padded_in (take n (lines_of rows.now))) names.old }
-{
-    for (i, line) in rows.split(|byte| *byte == LINE_FEED).take(n).enumerate() {
-        // Kept: unproved, as `write_matrix`, with `names.chunks_mut(NAME_SIZE)`.
-        write_name(&mut names[i * NAME_SIZE..], first_piece(line, TAB));
-    }
+    write_fields(weights, first_piece(text, LINE_FEED), write_weight);
 }

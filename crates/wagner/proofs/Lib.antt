@@ -7,3 +7,4 @@ pub mod Lengths
 pub mod StillLent
 pub mod Finished
 pub mod Alike
+pub mod Handed

@@ -1,7 +1,7 @@
 -- A walk over the `C` lines of a file: each line's question is that of its node, and lines that pass are well formed.
 use mathlib.Core.Path.{◌≡◌, refl, sym, ap, ◌∙◌}
 use mathlib.Core.List.{List, [], ◌∷◌}
-use Prim.Native.Nat.{ℕ, ◌+◌, ◌<◌}
+use Prim.Native.Nat.{ℕ, ◌+◌}
 use native.Mathlib.Omega.{arith}
 use lib.ListN.{length, take, length-take, length-drop, length-reverse}
 use Rattle.std.specs.Prelude.{Result, Ok}

@@ -7,8 +7,8 @@ use native.Mathlib.Numerals.{add-one}
 use native.Mathlib.Omega.{arith}
 use borrow.Author.Tests.{leb-true}
 use lib.Dec.{leb}
-use lib.ListN.{length, get_or, take, drop, length-take, length-drop}
-use lib.Seq.{drop-cons, get_or-take}
+use lib.ListN.{length, get_or, take, drop, length-drop}
+use lib.Seq.{drop-cons}
 use Rattle.lists.specs.Tests.{every}
 use Rattle.matrix_form.specs.Shape.{most_characters}
 use Rattle.text_form.specs.Decimal.{code_form}
@@ -54,8 +54,7 @@ row-formed line e =
     }
 
 -- a line of rows that are well formed is one
-pub line-formed : (rows line : List ℕ) (n i : ℕ) → RowsFormed n rows → i < n → line ≡ get_or (lines_of rows) i [] → RowFormed line
-line-formed rows line n i formed h l =
-    let room : i < length (take n (lines_of rows)) = let count = formed.count in omega (arith, length-take n (lines_of rows)) in
-    row-formed line
-    (ap row_form (l ∙ sym (get_or-take n (lines_of rows) i [] h)) ∙ every_at row_form (take n (lines_of rows)) formed.formed i [] room)
+pub line-formed : (rows : List ℕ) (n : ℕ) → RowsFormed n rows → (line : List ℕ) (i : ℕ) → i < length (take n (lines_of rows))
+    → line ≡ get_or (take n (lines_of rows)) i [] → RowFormed line
+line-formed rows n formed line i h l =
+    row-formed line (ap row_form l ∙ every_at row_form (take n (lines_of rows)) formed.formed i [] h)

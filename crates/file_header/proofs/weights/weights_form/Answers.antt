@@ -11,7 +11,7 @@ use Rattle.text_form.specs.Lines.{fields_of}
 use Rattle.file_form.specs.Weights.{weight_form, weight_in}
 use Rattle.text_form.proofs.Slices.{pieces_split}
 use Rattle.file_text.specs.Steps.{read_as}
-use Rattle.file_text.proofs.LinesSplit.{fields_yielded}
+use Rattle.file_text.proofs.FieldsSplit.{fields_yielded}
 use Rattle.file_header.proofs.WeightFields.{all_read, other-count, fields_decide}
 use Rattle.file_header.proofs.weights.weights_form.Goals as goal
 

@@ -7,7 +7,7 @@ use Rattle.std.proofs.lemmas.Result.{err_from_is_err_and}
 use Rattle.std.proofs.lemmas.Iterator.Consumers.{YieldsList-at, YieldsList-turn, YieldsList-end}
 use Rattle.text_form.specs.Lines.{fields_of}
 use Rattle.file_form.specs.Rows.{ask_codes}
-use Rattle.file_text.proofs.LinesSplit.{fields_yielded}
+use Rattle.file_text.proofs.FieldsSplit.{fields_yielded}
 use Rattle.file_lines.proofs.CodesWalk.{walk-refused, walk_passed, walk_ended}
 use Rattle.file_lines.proofs.rows.ask_codes.Goals as goal
 

@@ -3,7 +3,7 @@ use Rattle.file_text.proofs.FirstLine.{only_line, ended_line}
 use Rattle.file_text.proofs.bytes.first_line.Goals as goal
 
 pub returns-then-line-text : goal.returns-then-line-text
-returns-then-line-text c = only_line _ _ c.first_piece-line.ensures c.if-line-text.true
+returns-then-line-text c = only_line _ _ c.cut_piece.ensures.0 c.if-line-text.true
 
 pub returns : goal.returns
-returns c = ended_line _ _ c.first_piece-line.ensures c.if-line-text.false _ c.rest_from.ensures
+returns c = ended_line _ _ _ c.cut_piece.ensures.0 c.cut_piece.ensures.1 c.if-line-text.false
