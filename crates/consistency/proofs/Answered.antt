@@ -1,12 +1,14 @@
 -- What the calls answer once their questions have passed.
 use mathlib.Core.Path.{◌≡◌, ap, ap₂, ◌∙◌}
 use mathlib.Core.List.{List}
-use Prim.Native.Nat.{ℕ}
+use Prim.Native.Nat.{ℕ, ◌<◌}
 use Rattle.std.proofs.Common.{Option, Ok}
 use native.Mathlib.Omega.{arith}
 use Rattle.matrix_form.specs.Outcomes.{value}
 use Rattle.matrix_form.specs.Questions.{ask_matrix}
 use Rattle.matrix_form.proofs.Passing.{matrix_passed}
+use Rattle.matrix_form.proofs.Limits.{many-unshaped}
+use lib.ListN.{length}
 use Rattle.tree_form.specs.declared.branch.Branch.{Branch}
 use Rattle.tree_form.specs.Branches.{ancestors_of}
 use Rattle.tree_form.specs.Asking.{ask_branching}
@@ -38,3 +40,7 @@ index_passed lists n m records tree f t r e is floor total index_of =
     (ap value
     (index_of.is (omega (arith, found, floor-most lists n m passed.0 passed.1))
     ∙ ap₂ index found (total-is lists n m records tree t e is total)))
+
+-- for more than 64 taxa nothing is counted
+pub many-uncounted : (lists : MatrixLists) (n m r : ℕ) → FloorOf lists n m r → 64 < n → r ≡ 0
+many-uncounted lists n m r of more = of.unshaped (many-unshaped (length lists.codes) n m more)

@@ -1,6 +1,6 @@
--- For the proofs of the private functions alone; no public contract cites this file.
--- The codes of a column of a lent matrix, and what is found of them.
-use Rattle.std.specs.Prelude.{◌≡◌, List, map, ℕ, ◌^◌, ◌≤◌, ℤ, Option, None, ◌<◌}
+-- What the layers `floor_of` and `index_of` promise at every input; and for the private functions alone, the codes of a column of a lent
+-- matrix, and what is found of them.
+use Rattle.std.specs.Prelude.{◌≡◌, List, map, ℕ, ◌^◌, ◌≤◌, ℤ, Option, None, ◌<◌, false, length}
 use Rattle.lists.specs.Numbers.{numbers}
 use Rattle.lists.specs.Sums.{sum_over}
 use Rattle.matrix_form.specs.Shape.{weight_of, state_at, MatrixLists}
@@ -9,7 +9,7 @@ use Rattle.matrix_form.specs.declared.spans.Span.{Span}
 use Rattle.consistency_form.specs.Floor.{lowest, highest, character_floor, floor}
 use Rattle.consistency_form.specs.Index.{index}
 use Rattle.consistency_form.specs.declared.index.Index.{Index}
-use Rattle.matrix_form.specs.Questions.{LentMatrix}
+use Rattle.matrix_form.specs.Questions.{LentMatrix, matrix_shaped}
 use Rattle.consistency_form.specs.Calls.{lent_floor}
 
 -- the codes in column j of the rows of nodes v, v+1, ..
@@ -46,6 +46,7 @@ pub record IndexOf (floor total : ℕ) (r : Option Index) : Type 0 where
   pub is : floor ≤ most_floor → r ≡ index floor total
   pub above : most_floor < floor → r ≡ None
 
--- r is the floor of a lent matrix
+-- r is the floor of a lent matrix, and 0 where the matrix has not its shape
 pub record FloorOf (lists : MatrixLists) (n m r : ℕ) : Type 0 where
   pub is : LentMatrix lists.codes n m → r ≡ lent_floor lists n m
+  pub unshaped : matrix_shaped (length lists.codes) n m ≡ false → r ≡ 0

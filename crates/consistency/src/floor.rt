@@ -9,7 +9,6 @@ use difference::nodes::Nodes;
 use fit_sets::spans::only;
 use matrix::codes::code_at;
 use matrix::lent::Lent;
-use matrix::questions::within_limits;
 use matrix::weights::weight_at;
 use matrix_form::spans::Span;
 
@@ -60,12 +59,13 @@ impl<'a> Taxa<'a> {
     }
 }
 
-// The floor of a lent matrix that no question refuses. It writes nothing.
-// Kept: interface, a call that could not fail still cannot: where nothing was asked it answers 0.
+// The floor of a lent matrix that no question refuses. It writes nothing. Which number it answers of codes out of range is left open: a
+// call or a read has asked for these.
+// Kept: interface, a call that could not fail still cannot: where the matrix has not its shape it answers 0.
 pub fn floor_of(lent: &Lent) -> u64
     ensures { FloorOf (lent_lists lent.now) lent.now.n lent.now.m result }
 {
-    if !within_limits(lent.n, lent.m) {
+    if !lent.is_shaped() {
         return 0;
     }
     let nodes = Nodes { lent: *lent };

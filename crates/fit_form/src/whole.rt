@@ -12,7 +12,7 @@ pub struct BranchFit {
 }
 
 // The fit of a tree: by node number the fitted length and the mark of each node's branch; and the total.
-#[derive(Clone, Copy, Default)]
+#[derive(Clone, Copy)]
 pub struct Fit {
     pub branches: [BranchFit; TREE_SIZE],
     pub total: u64,

@@ -8,7 +8,8 @@ use Rattle.lists.proofs.Maps.{map_same}
 use Rattle.lists.proofs.Numbers.{numbers-within, length-numbers}
 use Rattle.lists.proofs.Sums.{sum_most}
 use Rattle.matrix_form.specs.Shape.{columns, row_start, last_node, in_range, weight_of, MatrixLists}
-use Rattle.matrix_form.specs.NodeRows.{rows_of}
+use Rattle.matrix_form.specs.NodeRows.{rows_of, HtusWritten}
+use Rattle.matrix_form.proofs.NodeRows.{none-written, more-written}
 use Rattle.matrix_form.specs.Questions.{LentMatrix, LentWeights}
 use Rattle.difference_form.specs.Rows.{apart, part, most_part, weighing}
 use Rattle.difference_form.proofs.Laws.Weights.{part-in_range, weight_of_weight, weight_of-within}
@@ -25,7 +26,7 @@ use Rattle.fit_form.specs.declared.characters.States.{States}
 use Rattle.fit_form.specs.declared.whole.BranchFit.{BranchFit}
 use Rattle.lists.proofs.Filling.{sum_next}
 use Rattle.fitting.proofs.Columns.{column-codes, character-known}
-use Rattle.fitting.proofs.Rewriting.{written_none, written_next}
+use Rattle.fitting.proofs.Rewriting.{column-written, written_none, written_next}
 use Rattle.fit_passes.proofs.Matrix.OnlyCodes.{chosen_state-each}
 use Rattle.fit_passes.proofs.Pass.Standing.{branching_parts, taxa-most, grown_of, last_several}
 
@@ -47,6 +48,7 @@ start_written lists n m tree low high chosen = record {
   is_chosen = λ branches lent. sym (written_none Chosen tree (rows_of lists.codes m n) n chosen);
   are = λ branches lent weighed v l h. get_d_replicate no_branch 127 v ∙ unfold marked fitted_length branch_length sum_over numbers in refl;
   no_others = λ v out. get_d_replicate no_branch 127 v;
+  only = (none-written n m low, none-written n m high, none-written n m chosen);
 }
 
 -- the chosen one of a node's states
@@ -135,7 +137,7 @@ module _ (lists : MatrixLists) (n m : ℕ) (tree : List ℕ) (branches : branchi
         rw (length-numbers 1 k) at most
 
 -- one character more
-module _ (lists : MatrixLists) (n m j : ℕ) (first : 1 ≤ j) (last : j ≤ m) (tree : List ℕ) (codes : List (Option ℤ))
+module _ (lists : MatrixLists) (n m j : ℕ) (first : 1 ≤ j) (last : j ≤ m) (wide : m ≤ columns) (tree : List ℕ) (codes : List (Option ℤ))
     (column : Column lists.codes n j codes) (states : List States) (fits : Fits n tree codes states) where
   -- the states found
   states-are : branching_within n tree ≡ true → LentMatrix lists.codes n m → (v : ℕ) → 1 ≤ v → v ≤ last_node n
@@ -148,13 +150,19 @@ module _ (lists : MatrixLists) (n m j : ℕ) (first : 1 ≤ j) (last : j ≤ m) 
       → new ≡ with_column n j (λ v. state_in which (states_at states v)) now
       → new ≡ states_written which tree (rows_of lists.codes m n) n (j + 1 - 1) old
   list-next which old now new branches lent before written =
-      let wide = lent.characters in
       written
       ∙ column-same n j (λ v. state_in which (states_at states v))
       (λ v. state_in which (states_in tree (rows_of lists.codes m n) n v j)) now
       (λ v l h. ap (state_in which) (states-are branches lent v (omega arith) (unfold last_node in omega arith)))
       ∙ ap (with_column n j (λ v. state_in which (states_in tree (rows_of lists.codes m n) n v j))) before
       ∙ written_next which tree (rows_of lists.codes m n) n j old first (omega arith)
+
+  -- with one of them written, at most states of HTUs are
+  list-only : (which : Which) (old now new : List ℤ) → HtusWritten n m old now
+      → new ≡ with_column n j (λ v. state_in which (states_at states v)) now → HtusWritten n m old new
+  list-only which old now new before written =
+      more-written n m old now new before
+      (rw written (column-written n m j (λ v. state_in which (states_at states v)) now first last wide))
 
   -- a branch with one character more
   branch_right : (old new : List BranchFit) → branching_within n tree ≡ true → LentMatrix lists.codes n m → LentWeights lists.weights m
@@ -172,7 +180,6 @@ module _ (lists : MatrixLists) (n m j : ℕ) (first : 1 ≤ j) (last : j ≤ m) 
       let step = ap₂ (part (weight_of lists.weights j)) (chosen_is tree rows n v j) (chosen_is tree rows n (ancestor tree v) j) in
       let next = length-next lists.weights tree rows n j v first in
       let most = length_most lists n m tree branches lent weighed v l h (j + 1 - 1) (omega arith) in
-      let wide = lent.characters in
       ap₂ (λ (x : ℕ) (t : Bool). record { length = x; mark = t })
       (more.length (omega arith) ∙ ap (λ (x : ℕ). fitted_length (weighing lists.weights).step tree rows n (j - 1) v + x) step ∙ sym next)
       (more.mark ∙ sym (mark-next lists.weights tree rows n j v first (weight_of-within lists.weights m weighed.known j first last).0))
@@ -191,4 +198,9 @@ module _ (lists : MatrixLists) (n m j : ℕ) (first : 1 ≤ j) (last : j ≤ m) 
     is_chosen = λ branches lent. list-next Chosen chosen chosen' chosen'' branches lent (before.is_chosen branches lent) c;
     are = λ branches lent weighed v p q. branch_right old new branches lent weighed longer v p q (before.are branches lent weighed v p q);
     no_others = λ v out. longer.kept v out ∙ before.no_others v out;
+    only = (
+      list-only Low low low' low'' before.only.0 l,
+      list-only High high high' high'' before.only.1 h,
+      list-only Chosen chosen chosen' chosen'' before.only.2 c,
+    );
   }

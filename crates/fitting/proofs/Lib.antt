@@ -9,3 +9,4 @@ pub mod Handed
 pub mod Answered
 pub mod NodeRange
 pub mod Passed
+pub mod EveryInput

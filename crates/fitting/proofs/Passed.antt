@@ -58,7 +58,7 @@ pub total-is : (lists : MatrixLists) (n m : ℕ) (records : List Branch) (tree :
     → r ≡ fitted_total (weighing lists.weights).step (ancestors_of n records) (rows_of lists.codes m n) n m
 total-is lists n m records tree r e is of =
     let passed = branching_passed lists n m records e in
-    of.is (rw is passed.2) passed.0 passed.1
+    of.costs.is (rw is passed.2) passed.0 passed.1
     ∙ ap (λ given. fitted_total (weighing lists.weights).step given (rows_of lists.codes m n) n m) is
 
 -- so the call for it answers that

@@ -1,16 +1,17 @@
 -- The lent lists while a matrix is fitted character after character: a column more is a state more in the row of each HTU.
-use Rattle.std.proofs.Common.{◌≡◌, ℕ, suc, ◌+◌, ◌-◌, ◌*◌, ◌≤◌, List, [], ◌∷◌, ◌++◌, map, length, set, ℤ, sym, refl, ap, ◌∙◌, ap₂, arith}
+use Rattle.std.proofs.Common.{◌≡◌, ℕ, suc, ◌+◌, ◌-◌, ◌*◌, ◌≤◌, List, [], ◌∷◌, ◌++◌, map, length, get_or, set, ℤ, pos, sym, refl, ap, ◌∙◌, ap₂, arith}
 use mathlib.Core.Path.{fun_ext}
 use mathlib.Core.List.{map-append}
 use Rattle.lists.specs.Numbers.{numbers}
 use Rattle.lists.specs.Over.{over, stripes}
-use Rattle.lists.proofs.Numbers.{numbers-snoc, length_map_numbers}
-use Rattle.lists.proofs.Stripes.{length-stripes, column-next, stripes-column}
+use Rattle.lists.proofs.Numbers.{numbers-snoc, length_map_numbers, map-numbers, map-beyond}
+use Rattle.lists.proofs.Stripes.{length-stripes, stripes-outside, column-next, stripes-column}
 use Rattle.lists.proofs.Over.{over_nothing}
-use Rattle.matrix_form.specs.Shape.{columns, row_start}
-use Rattle.matrix_form.specs.NodeRows.{with_rows}
+use Rattle.matrix_form.specs.Shape.{columns, row_start, last_node}
+use Rattle.matrix_form.specs.NodeRows.{with_rows, HtusWritten}
 use Rattle.fit_form.specs.Fit.{states_in}
 use Rattle.fit_form.specs.Calls.{Which, state_in, states_written}
+use Rattle.fit_form.proofs.Cases.{either}
 use Rattle.fitting.specs.Lists.{with_column}
 use Rattle.tree_form.specs.Nodes.{htus}
 
@@ -24,6 +25,25 @@ empty_stripes (v ∷ vs) place old = empty_stripes vs (place + columns) (over pl
 pub length-column : (n j : ℕ) (f : ℕ → ℤ) (old : List ℤ) → length (with_column n j f old) ≡ length old
 unfolding with_column
 length-column n j f old = length-stripes columns (row_start (n + 1) + (j - 1)) (map (λ v. f v ∷ []) (htus n)) old
+
+-- and writes over states of HTUs alone
+pub column-written : (n m j : ℕ) (f : ℕ → ℤ) (old : List ℤ) → 1 ≤ j → j ≤ m → m ≤ columns → HtusWritten n m old (with_column n j f old)
+unfolding with_column last_node
+column-written n m j f old first last wide =
+    let item : ℕ → List ℤ = λ v. f v ∷ [] in
+    record {
+      size = length-column n j f old;
+      others = λ v i l low high out.
+          stripes-outside columns (pos 0) (row_start (n + 1) + (j - 1)) (map item (htus n)) old (row_start v + (i - 1)) (λ k from upto.
+          either (suc k) (n - 2)
+          (λ inside.
+          let one : length (get_or (map item (htus n)) k []) ≡ 1 = ap length (map-numbers item [] (n + 1) (n - 2) k inside) in
+          let node : v ≡ n + 1 + k = omega arith in
+          out (omega arith) (omega arith) (omega arith))
+          (λ beyond.
+          let none : length (get_or (map item (htus n)) k []) ≡ 0 = ap length (map-beyond item [] (n + 1) (n - 2) k (omega arith)) in
+          omega arith));
+    }
 
 -- a column of which the entry for node v is written next
 pub column-more : (n j v : ℕ) (f : ℕ → ℤ) (old out : List ℤ) → n + 1 ≤ v →

@@ -1,51 +1,29 @@
 -- The fit of a tree put together from what is written and from its branches; and when the matrix and its lists have their shape.
-use Rattle.std.proofs.Common.{◌≡◌, ℕ, ◌-◌, ◌*◌, ◌^◌, ◌<◌, ◌≤◌, true, false, eqb, List, length, ℤ, sym, ap, ◌∙◌, true≢false, arith, eq-eqb, eqb-true}
+use Rattle.std.proofs.Common.{◌≡◌, ℕ, ◌-◌, ◌*◌, ◌^◌, ◌<◌, ◌≤◌, true, false, eqb, List, length, ℤ, sym, refl, ap, ◌∙◌, true≢false, arith, eq-eqb, eqb-true}
 use mathlib.Core.Bool.{and-eq-true_iff}
 use Rattle.lists.specs.Sums.{sum_over}
 use Rattle.lists.specs.Numbers.{numbers}
 use Rattle.lists.proofs.Numbers.{numbers-within, length-numbers}
 use Rattle.lists.proofs.Sums.{sum_same, sum_most}
-use Rattle.matrix_form.specs.Shape.{matrix_size, MatrixLists}
+use Rattle.matrix_form.specs.Shape.{matrix_size, last_node, MatrixLists}
 use Rattle.matrix_form.specs.NodeRows.{rows_of}
-use Rattle.matrix_form.specs.Questions.{LentMatrix, LentWeights, within_limits}
-use Rattle.matrix_form.proofs.Limits.{limits, lent_within}
+use Rattle.matrix_form.proofs.NodeRows.{none-written}
+use Rattle.matrix_form.specs.Questions.{LentMatrix, LentWeights}
+use Rattle.matrix_form.proofs.Limits.{lent_shaped}
+use Rattle.matrix_form.proofs.Passing.{true-one_to}
 use Rattle.difference_form.specs.Rows.{most_difference, weighing}
 use Rattle.tree_form.specs.Nodes.{other_nodes}
 use Rattle.tree_form.specs.Within.{branching_within}
 use Rattle.fit_form.specs.Fit.{fitted_length, fitted_total}
 use Rattle.fit_form.specs.Calls.{branch_at, lists_full, FitOf}
 use Rattle.fitting.specs.Lists.{TreeFitted}
-use Rattle.fitting.specs.Lists.{Written, SumOf, matrix_shaped}
+use Rattle.fitting.specs.Lists.{Written, SumOf, StatesOf, all_shaped, node_shaped, no_fit, no_states}
+use Rattle.fit_form.specs.declared.characters.States.{States}
 use Rattle.fit_form.specs.declared.whole.BranchFit.{BranchFit}
 use Rattle.fit_form.specs.declared.whole.Fit.{Fit}
 use Rattle.fit_form.proofs.Matrix.Totals.{lengths-total}
 use Rattle.fit_passes.proofs.Pass.Standing.{taxa-most}
 use Rattle.fitting.proofs.Gathering.{length_most}
-
--- what a matrix of the right shape tells
-pub record Shaped (matrix n m : ℕ) : Type 0 where
-  pub some : 1 ≤ n
-  pub taxa : n ≤ 64
-  pub characters : m ≤ 128
-  pub is_matrix : matrix ≡ matrix_size
-
--- the test tells so
-pub shaped : (matrix n m : ℕ) → matrix_shaped matrix n m ≡ true → Shaped matrix n m
-unfolding matrix_shaped
-shaped matrix n m e =
-    let both = (and-eq-true_iff (within_limits n m) _).0 e in
-    let within = limits n m both.0 in
-    record {
-      some = within.taxon;
-      taxa = within.taxa;
-      characters = within.characters;
-      is_matrix = eqb-true matrix matrix_size both.1;
-    }
-
--- a lent matrix passes the test
-pub lent_shaped : (matrix : List ℤ) (n m : ℕ) → LentMatrix matrix n m → matrix_shaped (length matrix) n m ≡ true
-unfolding matrix_shaped
-lent_shaped matrix n m lent = rw (lent_within matrix n m lent, eq-eqb (length matrix) matrix_size lent.full)
 
 -- three lists of the matrix's size
 pub sizes : (low high chosen : ℕ) → lists_full low high chosen ≡ true → (low ≡ matrix_size) × (high ≡ matrix_size) × (chosen ≡ matrix_size)
@@ -60,27 +38,46 @@ full_lists : (low high chosen : ℕ) → low ≡ matrix_size → high ≡ matrix
 unfolding lists_full
 full_lists low high chosen l h c = rw (eq-eqb low matrix_size l, eq-eqb high matrix_size h, eq-eqb chosen matrix_size c)
 
--- where the matrix's shape is not right nothing is promised
-pub not_shaped : (lists : MatrixLists) (low high chosen : List ℤ) (n m : ℕ) (tree : List ℕ) (fit : Fit)
-    → matrix_shaped (length lists.codes) n m ≡ false → TreeFitted lists n m tree low low high high chosen chosen fit
-not_shaped lists low high chosen n m tree fit e = record {
-  fitted = λ branches lent weighed l h c. absurd (true≢false (sym (lent_shaped lists.codes n m lent) ∙ e));
+-- a lent matrix and lists of the matrix's size have their shapes
+lent-all_shaped : (codes : List ℤ) (n m : ℕ) (low high chosen : List ℤ) → LentMatrix codes n m → length low ≡ matrix_size
+    → length high ≡ matrix_size → length chosen ≡ matrix_size → all_shaped codes n m low high chosen ≡ true
+unfolding all_shaped
+lent-all_shaped codes n m low high chosen lent l h c = rw (lent_shaped codes n m lent, full_lists _ _ _ l h c)
+
+-- where a shape fails, lists left as they were and the fit of no branch are what a tree's fit promises
+pub not_fitted : (lists : MatrixLists) (n m : ℕ) (tree : List ℕ) (low high chosen : List ℤ) (fit : Fit)
+    → all_shaped lists.codes n m low high chosen ≡ false → fit ≡ no_fit → TreeFitted lists n m tree low low high high chosen chosen fit
+not_fitted lists n m tree low high chosen fit e none = record {
+  fitted = λ branches lent weighed l h c. absurd (true≢false (sym (lent-all_shaped lists.codes n m low high chosen lent l h c) ∙ e));
+  only = (none-written n m low, none-written n m high, none-written n m chosen);
+  unshaped = λ f. (refl, refl, refl, none);
 }
 
--- nor where a list's size is not
-pub not_full : (lists : MatrixLists) (low high chosen : List ℤ) (n m : ℕ) (tree : List ℕ) (fit : Fit)
-    → lists_full (length low) (length high) (length chosen) ≡ false → TreeFitted lists n m tree low low high high chosen chosen fit
-not_full lists low high chosen n m tree fit e = record {
-  fitted = λ branches lent weighed l h c. absurd (true≢false (sym (full_lists _ _ _ l h c) ∙ e));
+-- of a lent matrix, nodes and characters that exist pass the test
+lent-node_shaped : (codes : List ℤ) (n m v j : ℕ) → LentMatrix codes n m → 1 ≤ v → v ≤ last_node n → 1 ≤ j → j ≤ m
+    → node_shaped codes n m v j ≡ true
+unfolding node_shaped
+lent-node_shaped codes n m v j lent p q l h =
+    rw (lent_shaped codes n m lent, true-one_to m j l h, true-one_to (last_node n) v p q)
+
+-- where they do not, zeros are what the states of a node promise
+pub not_found : (codes : List ℤ) (n m : ℕ) (tree : List ℕ) (v j : ℕ) (r : States) → node_shaped codes n m v j ≡ false → r ≡ no_states
+    → StatesOf codes n m tree v j r
+not_found codes n m tree v j r e none = record {
+  are = λ branches lent p q l h. absurd (true≢false (sym (lent-node_shaped codes n m v j lent p q l h) ∙ e));
+  unshaped = λ f. none;
 }
 
 -- the fit of a tree from what is written and from its branches
 pub tree-fitted : (lists : MatrixLists) (n m : ℕ) (tree : List ℕ) (low low' high high' chosen chosen' : List ℤ) (branches : List BranchFit)
-    (total : ℕ) → Written lists n m m tree low low' high high' chosen chosen' branches → SumOf n branches total
+    (total : ℕ) → all_shaped lists.codes n m low high chosen ≡ true
+    → Written lists n m m tree low low' high high' chosen chosen' branches → SumOf n branches total
     → TreeFitted lists n m tree low low' high high' chosen chosen' (record { branches = branches; total = total })
-tree-fitted lists n m tree low low' high high' chosen chosen' branches total written sum = record {
+tree-fitted lists n m tree low low' high high' chosen chosen' branches total all written sum = record {
   fitted = λ whole lent weighed l h c.
       (fits whole lent weighed, written.is_low whole lent, written.is_high whole lent, written.is_chosen whole lent);
+  only = written.only;
+  unshaped = λ f. absurd (true≢false (sym all ∙ f));
 }
   where
     each : branching_within n tree ≡ true → LentMatrix lists.codes n m → LentWeights lists.weights m → (v : ℕ) → 2 ≤ v → v ≤ 2 * n - 2

@@ -1,8 +1,8 @@
 -- What a character costs, and the fitted total of a branching.
-use Rattle.std.specs.Prelude.{◌≡◌, ℕ, ◌*◌, ◌^◌, ◌≤◌, true, List}
+use Rattle.std.specs.Prelude.{◌≡◌, ℕ, ◌*◌, ◌^◌, ◌≤◌, true, false, List, length}
 use Rattle.matrix_form.specs.Shape.{weight_of, MatrixLists}
 use Rattle.matrix_form.specs.NodeRows.{rows_of}
-use Rattle.matrix_form.specs.Questions.{LentMatrix, LentWeights}
+use Rattle.matrix_form.specs.Questions.{LentMatrix, LentWeights, matrix_shaped}
 use Rattle.difference_form.specs.Rows.{weighing}
 use Rattle.tree_form.specs.Within.{branching_within}
 use Rattle.fit_form.specs.Fit.{fitted_total}
@@ -17,7 +17,12 @@ pub record CostOf (lists : MatrixLists) (n m : ℕ) (tree : List ℕ) (j r : ℕ
   pub is : branching_within n tree ≡ true → LentMatrix lists.codes n m → LentWeights lists.weights m
       → r ≡ weight_of lists.weights j * character_length tree (rows_of lists.codes m n) n j
 
--- r is the fitted total of a branching with a lent matrix of n taxa and m characters, by its weights
-pub record TotalOf (lists : MatrixLists) (n m : ℕ) (tree : List ℕ) (r : ℕ) : Type 0 where
+-- r is the sum of the costs of all characters: of a branching with a lent matrix of n taxa and m characters the fitted total, by its weights
+pub record CostsOf (lists : MatrixLists) (n m : ℕ) (tree : List ℕ) (r : ℕ) : Type 0 where
   pub is : branching_within n tree ≡ true → LentMatrix lists.codes n m → LentWeights lists.weights m
       → r ≡ fitted_total (weighing lists.weights).step tree (rows_of lists.codes m n) n m
+
+-- r is that sum where the matrix has its shape, and 0 elsewhere
+pub record TotalOf (lists : MatrixLists) (n m : ℕ) (tree : List ℕ) (r : ℕ) : Type 0 where
+  pub costs : CostsOf lists n m tree r
+  pub unshaped : matrix_shaped (length lists.codes) n m ≡ false → r ≡ 0

@@ -1,18 +1,18 @@
--- For the proofs of the private functions alone; no public contract cites this file.
--- The lent lists and the branches while a matrix is fitted character after character.
-use Rattle.std.specs.Prelude.{◌≡◌, ℕ, ◌+◌, ◌-◌, ◌*◌, ◌^◌, ◌<◌, ◌≤◌, Bool, true, ◌&&◌, ◌||◌, List, [], ◌∷◌, map, ℤ, ◌==◌, nat_lt, length}
+-- What the layers `fit_tree` and `states_at` promise at every input; and for the private functions alone, the lent lists and the branches
+-- while a matrix is fitted character after character.
+use Rattle.std.specs.Prelude.{◌≡◌, ℕ, ◌+◌, ◌-◌, ◌*◌, ◌^◌, ◌<◌, ◌≤◌, Bool, true, false, ◌&&◌, ◌||◌, List, [], ◌∷◌, map, replicate, ℤ, pos, nat_lt, length}
 use Rattle.lists.specs.Over.{stripes}
 use Rattle.lists.specs.Sums.{sum_over}
 use Rattle.matrix_form.specs.Shape.{columns, matrix_size, row_start, last_node, MatrixLists}
-use Rattle.matrix_form.specs.NodeRows.{rows_of}
-use Rattle.matrix_form.specs.Questions.{LentMatrix, LentWeights, within_limits}
+use Rattle.matrix_form.specs.NodeRows.{rows_of, HtusWritten}
+use Rattle.matrix_form.specs.Questions.{LentMatrix, LentWeights, matrix_shaped, one_to}
 use Rattle.difference_form.specs.Rows.{apart, part, weighing}
-use Rattle.tree_form.specs.Ancestors.{ancestor}
+use Rattle.tree_form.specs.Ancestors.{tree_size, ancestor}
 use Rattle.tree_form.specs.Nodes.{other_nodes, htus}
 use Rattle.tree_form.specs.Within.{branching_within}
 use Rattle.fit_form.specs.Fit.{fitted_length, marked, states_in}
 use Rattle.fit_passes.specs.Steps.{states_at}
-use Rattle.fit_form.specs.Calls.{Which, Low, High, Chosen, state_in, no_branch, branch_at, states_written, FitOf}
+use Rattle.fit_form.specs.Calls.{Which, Low, High, Chosen, state_in, no_branch, branch_at, states_written, lists_full, FitOf}
 use Rattle.fit_form.specs.declared.characters.States.{States}
 use Rattle.fit_form.specs.declared.whole.BranchFit.{BranchFit}
 use Rattle.fit_form.specs.declared.whole.Fit.{Fit}
@@ -50,6 +50,10 @@ pub record SumOf (n : ℕ) (branches : List BranchFit) (r : ℕ) : Type 0 where
   pub is : sum_over (λ v. (branch_at branches v).length) (other_nodes n) < 2 ^ 64
       → r ≡ sum_over (λ v. (branch_at branches v).length) (other_nodes n)
 
+-- of three lists of the matrix's shape at most the states of the HTUs in m characters are written over
+abbrev pub OnlyHtus : ℕ → ℕ → List ℤ → List ℤ → List ℤ → List ℤ → List ℤ → List ℤ → Type 0
+OnlyHtus n m low low' high high' chosen chosen' = HtusWritten n m low low' × HtusWritten n m high high' × HtusWritten n m chosen chosen'
+
 -- the first k of m characters fitted: the states of the HTUs in them are written, and the branches are those of the fit of them; elsewhere
 -- stands no branch
 pub record Written (lists : MatrixLists) (n m k : ℕ) (tree : List ℕ)
@@ -63,12 +67,18 @@ pub record Written (lists : MatrixLists) (n m k : ℕ) (tree : List ℕ)
   pub are : branching_within n tree ≡ true → LentMatrix lists.codes n m → LentWeights lists.weights m → (v : ℕ) → 2 ≤ v → v ≤ 2 * n - 2
       → branch_at branches v ≡ fitted_branch lists.weights tree (rows_of lists.codes m n) n k v
   pub no_others : (v : ℕ) → (2 ≤ v → v ≤ 2 * n - 2 → ⊥) → branch_at branches v ≡ no_branch
+  pub only : OnlyHtus n m low low' high high' chosen chosen'
 
--- the length of a matrix is that of the matrix's shape, and n and m are within their limits
-unfoldable pub matrix_shaped : ℕ → ℕ → ℕ → Bool
-matrix_shaped matrix n m = within_limits n m && matrix == matrix_size
+-- the matrix and the three lists have their shapes
+unfoldable pub all_shaped : List ℤ → ℕ → ℕ → List ℤ → List ℤ → List ℤ → Bool
+all_shaped codes n m low high chosen = matrix_shaped (length codes) n m && lists_full (length low) (length high) (length chosen)
 
--- a tree that is a branching, with a lent matrix, fitted into three lists of the matrix's shape
+-- the fit of no branch
+abbrev pub no_fit : Fit
+no_fit = record { branches = replicate tree_size no_branch; total = 0 }
+
+-- a tree fitted into three lists: a branching with a lent matrix, into lists of the matrix's shape; of every tree, matrix and lists, what at
+-- most is written; and that nothing is where a shape fails
 pub record TreeFitted (lists : MatrixLists) (n m : ℕ) (tree : List ℕ) (low low' high high' chosen chosen' : List ℤ)
     (fit : Fit) : Type 0 where
   pub fitted : branching_within n tree ≡ true → LentMatrix lists.codes n m → LentWeights lists.weights m
@@ -77,8 +87,21 @@ pub record TreeFitted (lists : MatrixLists) (n m : ℕ) (tree : List ℕ) (low l
       × (low' ≡ states_written Low tree (rows_of lists.codes m n) n m low)
       × (high' ≡ states_written High tree (rows_of lists.codes m n) n m high)
       × (chosen' ≡ states_written Chosen tree (rows_of lists.codes m n) n m chosen)
+  pub only : OnlyHtus n m low low' high high' chosen chosen'
+  pub unshaped : all_shaped lists.codes n m low high chosen ≡ false
+      → (low' ≡ low) × (high' ≡ high) × (chosen' ≡ chosen) × (fit ≡ no_fit)
 
--- r are the states of node v in character j of a branching with a lent matrix of n taxa and m characters
+-- the matrix has its shape, and node and character exist
+unfoldable pub node_shaped : List ℤ → ℕ → ℕ → ℕ → ℕ → Bool
+node_shaped codes n m v j = matrix_shaped (length codes) n m && (one_to m j && one_to (last_node n) v)
+
+-- zeros in place of states
+abbrev pub no_states : States
+no_states = record { low = pos 0; high = pos 0; chosen = pos 0 }
+
+-- r are the states of node v in character j of a branching with a lent matrix of n taxa and m characters; where the matrix has not its
+-- shape, or node or character do not exist, they are zeros
 pub record StatesOf (codes : List ℤ) (n m : ℕ) (tree : List ℕ) (v j : ℕ) (r : States) : Type 0 where
   pub are : branching_within n tree ≡ true → LentMatrix codes n m → 1 ≤ v → v ≤ last_node n → 1 ≤ j → j ≤ m
       → r ≡ states_in tree (rows_of codes m n) n v j
+  pub unshaped : node_shaped codes n m v j ≡ false → r ≡ no_states

@@ -3,9 +3,9 @@ ghost use Rattle.std.specs.Prelude.{◌≡◌, ◌≤◌, length};
 ghost use Rattle.matrix_form.specs.Shape.{matrix_size};
 ghost use Rattle.branching.specs.Views.{ancestors};
 ghost use Rattle.fit_passes.specs.Steps.{states_at};
-ghost use Rattle.fitting.specs.Lists.{Picks, with_column, Longer, Lengthened, SumOf, Written, matrix_shaped};
+ghost use Rattle.fitting.specs.Lists.{Picks, with_column, Longer, Lengthened, SumOf, Written};
 ghost use Rattle.fit_form.specs.Calls.{Which, state_in, lists_full};
-ghost use Rattle.fitting.specs.Lists.{TreeFitted, StatesOf};
+ghost use Rattle.fitting.specs.Lists.{no_fit, TreeFitted, StatesOf};
 ghost use Rattle.matrix.specs.Lent.{lent_lists};
 
 use branching::tree::{Tree, tree_index};
@@ -18,7 +18,7 @@ use fit_passes::planning::Plan;
 use matrix::MATRIX_SIZE;
 use matrix::codes::index_of_code;
 use matrix::lent::Lent;
-use matrix::questions::{last_node, one_to, within_limits};
+use matrix::questions::{last_node, one_to};
 use matrix::weights::weight_at;
 use tree_form::tree::TREE_SIZE;
 
@@ -122,18 +122,21 @@ pub fn lists_full(low: usize, high: usize, chosen: usize) -> bool
     [low, high, chosen] == [MATRIX_SIZE; 3]
 }
 
-// Whether a matrix has its shape, and n and m are within their limits.
-#[tactic(auto, unfolding(crate::specs::Lists::matrix_shaped))]
-fn matrix_shaped(lent: &Lent) -> bool
-    ensures { result ≡ matrix_shaped (length lent.now.matrix.now) lent.now.n lent.now.m }
+// The fit of no branch.
+fn no_fit() -> Fit
+    ensures { result ≡ no_fit }
 {
-    within_limits(lent.n, lent.m) && lent.matrix.len() == MATRIX_SIZE
+    Fit {
+        branches: [BranchFit::default(); TREE_SIZE],
+        total: 0,
+    }
 }
 
 // Fits a tree that is a branching, with a lent matrix that no question refuses, and writes the states of its HTUs into three lists of
-// the matrix's shape.
+// the matrix's shape. Whatever is handed in, nothing else is written, and where a shape fails nothing is. Which states and numbers it finds
+// of another tree, or of codes or weights out of range, is left open: a call or a read has asked for these.
 // Kept: no plainer, each promise of a struct of lists to be written would have to say that it lends the same ones still, as `Puts` does of a listing.
-// Kept: interface, a call that could not fail still cannot: where nothing was asked it answers zeros.
+// Kept: interface, a call that could not fail still cannot: where a shape fails it answers zeros.
 pub fn fit_tree(
     lent: &Lent,
     tree: &Tree,
@@ -143,11 +146,11 @@ pub fn fit_tree(
 ) -> Fit
     ensures { TreeFitted (lent_lists lent.now) lent.now.n lent.now.m (ancestors tree.now) low.old low.new high.old high.new chosen.old chosen.new result }
 {
-    if !matrix_shaped(lent) {
-        return Fit::default();
+    if !lent.is_shaped() {
+        return no_fit();
     }
     if !lists_full(low.len(), high.len(), chosen.len()) {
-        return Fit::default();
+        return no_fit();
     }
     let plan = Plan::of(tree, lent.n);
     let nodes = Nodes { lent: *lent };
@@ -158,18 +161,19 @@ pub fn fit_tree(
     }
 }
 
-// The states of node v in character j, of a tree that is a branching, with a lent matrix that no question refuses.
-// Kept: interface, a call that could not fail still cannot: where nothing was asked it answers zeros.
+// The states of node v in character j, of a tree that is a branching, with a lent matrix that no question refuses. Which states it answers
+// of another tree, or of codes out of range, is left open: the call has asked for these.
+// Kept: interface, a call that could not fail still cannot: without a matrix of its shape, the node or the character it answers zeros.
 pub fn states_at(lent: &Lent, tree: &Tree, v: usize, j: usize) -> States
     ensures { StatesOf lent.now.matrix.now lent.now.n lent.now.m (ancestors tree.now) v j result }
 {
-    if !matrix_shaped(lent) {
+    if !lent.is_shaped() {
         return States::default();
     }
     if !one_to(lent.m, j) {
         return States::default();
     }
-    if TREE_SIZE <= v {
+    if !one_to(last_node(lent.n), v) {
         return States::default();
     }
     fit_character(&codes_of(lent.matrix, lent.n, j), &Plan::of(tree, lent.n))[v]

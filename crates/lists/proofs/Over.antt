@@ -54,6 +54,16 @@ module _ {A : Type 0} where
   over-behind none (suc place) xs (o ∷ old) zero h = absurd (omega arith)
   over-behind none (suc place) xs (o ∷ old) (suc i) h = over-behind none place xs old i (omega arith)
 
+  -- so all stays that is not written over
+  pub over-else : (none : A) (place : ℕ) (xs old : List A) (i : ℕ) → (place ≤ i → i < place + length xs → ⊥)
+      → get_or (over place xs old) i none ≡ get_or old i none
+  over-else none place xs old i outside =
+      by_cases (dec_le place i)
+      (λ from.
+      over-behind none place xs old i
+      (by_cases (dec_le (place + length xs) i) (λ behind. behind) (λ less. absurd (outside from (omega arith)))))
+      (λ before. over-before none place xs old i (omega arith))
+
   -- where it fits: the front of the list, what is written, and the rest behind it
   pub over-fits : (place : ℕ) (xs old : List A) → place + length xs ≤ length old
       → over place xs old ≡ take place old ++ (xs ++ drop (place + length xs) old)

@@ -8,7 +8,7 @@ use lib.Seq.{get_or-take, get_or-drop, ext_get_or}
 use Rattle.lists.specs.Numbers.{numbers}
 use Rattle.lists.specs.Over.{over, stripes}
 use Rattle.lists.proofs.Numbers.{numbers-snoc, length_map_numbers}
-use Rattle.lists.proofs.Over.{length_over, over-inside, over-before, over-behind, over_nothing, over-snoc}
+use Rattle.lists.proofs.Over.{length_over, over-inside, over-before, over-behind, over-else, over_nothing, over-snoc}
 
 -- a place in an item is that in the item before it, a width further
 next_stripe : (width place k i : ℕ) → place + suc k * width + i ≡ place + width + k * width + i
@@ -82,6 +82,16 @@ module _ {A : Type 0} where
     stripes-behind none place (item ∷ items) old narrow i h =
         stripes-behind none (place + width) items (over place item old) (λ j. narrow (suc j)) i (omega arith)
         ∙ over-behind none place item old i (omega (arith, narrow 0))
+
+    -- so all stays at an index that no item is written over
+    pub stripes-outside : (none : A) (place : ℕ) (items : List (List A)) (old : List A) (i : ℕ)
+        → ((k : ℕ) → place + k * width ≤ i → i < place + k * width + length (get_or items k []) → ⊥)
+        → get_or (stripes width place items old) i none ≡ get_or old i none
+    unfolding stripes
+    stripes-outside none place [] old i outside = refl
+    stripes-outside none place (item ∷ items) old i outside =
+        stripes-outside none (place + width) items (over place item old) i (λ k from upto. outside (suc k) (omega arith) (omega arith))
+        ∙ over-else none place item old i (λ from upto. outside 0 (omega arith) (omega arith))
 
     -- so an item is read back from its place
     pub stripes_item : (none : A) (place : ℕ) (items : List (List A)) (old : List A) → Narrow width items → (k : ℕ)

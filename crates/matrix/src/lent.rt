@@ -1,6 +1,6 @@
 // What is lent with a call that reads a matrix, and the questions put to it. Each answers what its definition in specs/ answers, for every
 // input.
-ghost use Rattle.std.specs.Prelude.{◌≡◌, ◌-◌};
+ghost use Rattle.std.specs.Prelude.{◌≡◌, ◌-◌, length};
 ghost use Rattle.lists.specs.Numbers.{numbers};
 
 use crate::questions::{ask_codes, nodes_exist, within_limits};
@@ -22,7 +22,7 @@ pub struct Lent<'a> {
 impl<'a> Lent<'a> {
     ghost use Rattle.matrix_form.specs.Shape.{row};
     ghost use Rattle.matrix_form.specs.Outcomes.{ask_each};
-    ghost use Rattle.matrix_form.specs.Questions.{ask_row_of, ask_rows_of, ask_htu};
+    ghost use Rattle.matrix_form.specs.Questions.{matrix_shaped, ask_row_of, ask_rows_of, ask_htu};
     ghost use Rattle.matrix.specs.Lent.{lent_lists, matrix_asked, nodes_asked};
 
     // The row of node v: its codes for characters 1 to m, as far as the list goes.
@@ -30,6 +30,14 @@ impl<'a> Lent<'a> {
         ensures { result.now ≡ row self.now.matrix.now self.now.m v }
     {
         row(self.matrix, self.m, v)
+    }
+
+    // Whether the matrix has its shape, with n and m within their limits.
+    #[tactic(auto, unfolding(matrix_form::specs::Questions::matrix_shaped))]
+    pub fn is_shaped(&self) -> bool
+        ensures { result ≡ matrix_shaped (length self.now.matrix.now) self.now.n self.now.m }
+    {
+        within_limits(self.n, self.m) && self.matrix.len() == MATRIX_SIZE
     }
 
     // The questions on the matrix and its weights alone: full sizes, limits, weights, codes of the taxa.

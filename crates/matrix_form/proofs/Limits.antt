@@ -1,10 +1,15 @@
--- Numbers of taxa and characters within their limits: what the question tells of them, and that those of a lent matrix pass it.
+-- Numbers of taxa and characters within their limits, and a matrix of its shape: what the questions tell of them, and that a lent matrix
+-- passes them.
 use mathlib.Core.Path.{◌≡◌}
-use mathlib.Core.Bool.{true}
+use mathlib.Core.Bool.{true, false, and-eq-true_iff}
 use mathlib.Core.List.{List}
-use Prim.Native.Nat.{ℕ, ◌≤◌}
+use Prim.Native.Nat.{ℕ, ◌≤◌, ◌<◌}
 use lib.IntN.{ℤ}
-use Rattle.matrix_form.specs.Questions.{LentMatrix, within_limits}
+use lib.ListN.{length}
+use borrow.Author.Tests.{eq-eqb, le-leb, lt-leb}
+use native.Mathlib.Omega.{arith}
+use Rattle.matrix_form.specs.Shape.{matrix_size}
+use Rattle.matrix_form.specs.Questions.{LentMatrix, one_to, within_limits, matrix_shaped}
 use Rattle.matrix_form.proofs.Passing.{true-one_to, limits_passed}
 
 -- the limits of n and m, from the question that asks for them
@@ -24,3 +29,18 @@ limits n m e =
 pub lent_within : (codes : List ℤ) (n m : ℕ) → LentMatrix codes n m → within_limits n m ≡ true
 unfolding within_limits
 lent_within codes n m lent = rw (true-one_to 64 n lent.taxon lent.taxa, true-one_to 128 m lent.character lent.characters)
+
+-- what is known of n and m where a matrix has its shape
+pub shaped-limits : (size n m : ℕ) → matrix_shaped size n m ≡ true → Limits n m
+unfolding matrix_shaped
+shaped-limits size n m e = limits n m ((and-eq-true_iff (within_limits n m) _).0 e).0
+
+-- a lent matrix has its shape
+pub lent_shaped : (codes : List ℤ) (n m : ℕ) → LentMatrix codes n m → matrix_shaped (length codes) n m ≡ true
+unfolding matrix_shaped
+lent_shaped codes n m lent = rw (lent_within codes n m lent, eq-eqb (length codes) matrix_size lent.full)
+
+-- for more than 64 taxa none has
+pub many-unshaped : (size n m : ℕ) → 64 < n → matrix_shaped size n m ≡ false
+unfolding matrix_shaped within_limits one_to
+many-unshaped size n m more = let some : 1 ≤ n = omega arith in rw (le-leb 1 n some, lt-leb n 64 more)

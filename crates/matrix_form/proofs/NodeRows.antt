@@ -1,5 +1,5 @@
 -- Laws of the rows of the nodes, and of rows written into a matrix: what is written is read back, and every other row stays.
-use mathlib.Core.Path.{◌≡◌, sym, ap, ◌∙◌}
+use mathlib.Core.Path.{◌≡◌, refl, sym, ap, ◌∙◌}
 use mathlib.Core.Logic.{◌≢◌, by_cases}
 use mathlib.Core.List.{List, [], ◌++◌}
 use Prim.Native.Nat.{ℕ, suc, ◌+◌, ◌-◌, ◌*◌, ◌≤◌, ◌<◌, min}
@@ -10,10 +10,10 @@ use lib.ListN.{length, get_or, length-append, get_or-append, get_or-eq_default, 
 use lib.Seq.{get_or-append-add, ext_get_or}
 use Rattle.lists.specs.Over.{over}
 use Rattle.lists.proofs.Numbers.{length_map_numbers, map-numbers}
-use Rattle.lists.proofs.Over.{length_over, over-before, over-behind, over_item, over-part, over_past}
+use Rattle.lists.proofs.Over.{length_over, over-else, over_item, over-part, over_past}
 use Rattle.lists.proofs.Stripes.{Narrow, length-stripes, stripes-before, stripes-else, stripes_item}
-use Rattle.matrix_form.specs.Shape.{columns, row_start, row}
-use Rattle.matrix_form.specs.NodeRows.{row_of, rows_of, with_row, with_rows}
+use Rattle.matrix_form.specs.Shape.{columns, row_start, row, last_node, state_at}
+use Rattle.matrix_form.specs.NodeRows.{row_of, rows_of, with_row, with_rows, HtusWritten}
 use Rattle.matrix_form.proofs.Row.{row_same}
 
 -- the row of the node behind the first i
@@ -53,18 +53,39 @@ module _ (codes : List ℤ) (v : ℕ) (r : List ℤ) where
   -- no code outside the row's first codes changes
   pub with_row-else : (j : ℕ) → (row_start v ≤ j → j < row_start v + length r → ⊥) → get_or (with_row codes v r) j (pos 0) ≡ get_or codes j (pos 0)
   unfolding with_row
-  with_row-else j outside =
-      by_cases
-      (dec_le (row_start v) j)
-      (λ from. over-behind (pos 0) (row_start v) r codes j
-      (by_cases (dec_le (row_start v + length r) j) (λ behind. behind) (λ less. absurd (outside from (omega arith)))))
-      (λ before. over-before (pos 0) (row_start v) r codes j (omega arith))
+  with_row-else j outside = over-else (pos 0) (row_start v) r codes j outside
 
   -- the row of another node stays
   pub with_row-other : length r ≤ columns → (m u : ℕ) → m ≤ columns → 1 ≤ u → 1 ≤ v → u ≢ v → row (with_row codes v r) m u ≡ row codes m u
   with_row-other short m u wide ulow vlow ne =
       row_same codes (with_row codes v r) m u length-with_row λ i h.
       with_row-else (row_start u + i) (λ from upto. by_cases (dec_le (suc u) v) (λ less. omega arith) (λ more. omega arith))
+
+  -- of an HTU's row of at most m codes, that is a state of an HTU
+  pub row-written : (n m : ℕ) → n < v → v ≤ last_node n → length r ≤ m → m ≤ columns → HtusWritten n m codes (with_row codes v r)
+  row-written n m low high short wide = record {
+    size = length-with_row;
+    others = λ u j l first last out.
+        with_row-else (row_start u + (j - 1)) (λ from upto.
+        let same : u ≡ v = omega arith in
+        out (omega arith) (omega arith) (omega arith));
+  }
+
+-- where nothing is written
+pub none-written : (n m : ℕ) (list : List ℤ) → HtusWritten n m list list
+none-written n m list = record { size = refl; others = λ v j l first last out. refl }
+
+-- and written over once more
+pub more-written : (n m : ℕ) (old now new : List ℤ) → HtusWritten n m old now → HtusWritten n m now new → HtusWritten n m old new
+more-written n m old now new before more = record {
+  size = more.size ∙ before.size;
+  others = λ v j l first last out. more.others v j l first last out ∙ before.others v j l first last out;
+}
+
+-- the states of the taxa stay then
+pub taxon-unwritten : (n m : ℕ) (old new : List ℤ) → HtusWritten n m old new → (v j : ℕ) → 1 ≤ v → v ≤ n → 1 ≤ j → j ≤ columns
+    → state_at new v j ≡ state_at old v j
+taxon-unwritten n m old new written v j p q l h = written.others v j p l h (λ htu. absurd (omega arith))
 
 -- a row written as far as the matrix goes, from where the row of node v begins or from the matrix's end
 pub with_row-part : (codes : List ℤ) (v : ℕ) (r : List ℤ) (start count : ℕ) → start ≡ min (length codes) (row_start v)

@@ -14,6 +14,10 @@ one_to last item = leb 1 item && leb item last
 unfoldable pub within_limits : ℕ → ℕ → Bool
 within_limits n m = one_to most_taxa n && one_to most_characters m
 
+-- a matrix has its shape: n and m are within their limits, and its length is that of 126 rows of 128 codes
+unfoldable pub matrix_shaped : ℕ → ℕ → ℕ → Bool
+matrix_shaped size n m = within_limits n m && eqb size matrix_size
+
 -- all codes of a row are from -999 to 999
 unfoldable pub all_in_range : List ℤ → Bool
 all_in_range codes = every in_range codes

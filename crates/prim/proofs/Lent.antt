@@ -12,12 +12,14 @@ use Rattle.matrix_form.specs.Shape.{row, weight_at, MatrixLists}
 use Rattle.matrix_form.specs.Questions.{LentMatrix, LentWeights, ask_matrix}
 use Rattle.matrix_form.specs.declared.refusal.Refusal.{Refusal}
 use Rattle.matrix_form.proofs.Answering.{answers-passed}
+use Rattle.matrix_form.proofs.Limits.{many-unshaped}
 use Rattle.matrix_form.proofs.Row.{row-most, row-length}
 use Rattle.difference_form.proofs.Laws.Rows.{difference-sym, difference_limit}
 use Rattle.difference_form.proofs.Laws.Weights.{difference-weights, difference-alike}
-use Rattle.prim_form.specs.Network.{network}
+use Rattle.lists.specs.Sums.{sum_over}
+use Rattle.prim_form.specs.Network.{network, network_length}
 use Rattle.prim_form.specs.Rival.{IsTaxon, Connected, Shortest, links_length}
-use Rattle.prim.specs.Calls.{Holds, NetworkAnswer}
+use Rattle.prim.specs.Calls.{Holds, NetworkOf, NetworkAnswer}
 use Rattle.prim.specs.Growing.{Near}
 use Rattle.prim.specs.declared.answer.Network.{Network}
 use Rattle.prim_form.proofs.Shortest.{shortest}
@@ -49,6 +51,11 @@ module _ (lists : MatrixLists) (n m : ℕ) where
   -- of any matrix, the Prim Network is a connected network, of length its total, and no connected network is shorter
   pub matrix_shortest : Shortest (node_difference (difference lists.weights) (row lists.codes m)) n
   matrix_shortest = shortest (node_difference (difference lists.weights) (row lists.codes m)) (taxa-sym lists m) n
+
+  -- for more than 64 taxa no link is found
+  pub many-unlinked : (r : Network) → NetworkOf lists n m r → 64 < n → (r.links.count ≡ 0) × (r.total ≡ 0)
+  unfolding network_length sum_over
+  many-unlinked r of more = let none = of.unshaped (many-unshaped (length lists.codes) n m more) in (none.count, none.total)
 
   -- where the questions pass, a network is handed back that holds the Prim Network
   pub answer_holds : (r : Result Network Refusal) → NetworkAnswer lists n m r → ask_matrix lists n m ≡ Ok tt

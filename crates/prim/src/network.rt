@@ -14,7 +14,6 @@ use crate::answer::{MOST_LINKS, Network};
 use difference::nodes::Nodes;
 use filled::Filled;
 use matrix::lent::Lent;
-use matrix::questions::within_limits;
 use matrix_form::refusal::Refusal;
 use prim_form::answer::Link;
 use std::array;
@@ -117,12 +116,13 @@ fn grow(nodes: &Nodes) -> Network
     network
 }
 
-// The Prim Network of a lent matrix that no question refuses.
-// Kept: interface, a call that could not fail still cannot: beyond its limits it answers no links.
+// The Prim Network of a lent matrix that no question refuses. Which links it answers of codes or weights out of range is left open: a
+// call or a read has asked for these.
+// Kept: interface, a call that could not fail still cannot: where the matrix has not its shape it answers no links.
 pub fn network_of(lent: &Lent) -> Network
     ensures { NetworkOf (lent_lists lent.now) lent.now.n lent.now.m result }
 {
-    if !within_limits(lent.n, lent.m) {
+    if !lent.is_shaped() {
         return Network::default();
     }
     grow(&Nodes { lent: *lent })

@@ -4,7 +4,7 @@ use mathlib.Core.Path.{◌≡◌, refl, sym, ap, ◌∙◌}
 use mathlib.Core.Logic.{◌≢◌, ◌⊎◌, inl, inr, ⊎_elim, by_cases}
 use mathlib.Core.List.{List, [], ◌∷◌, Memᴰ}
 use mathlib.Core.Bool.{Bool, true, false, cond, false≢true}
-use Prim.Native.Nat.{ℕ, zero, suc, ◌+◌, ◌*◌, ◌-◌, ◌≤◌, ◌<◌, min}
+use Prim.Native.Nat.{ℕ, zero, suc, ◌+◌, ◌*◌, ◌-◌, ◌≤◌, ◌<◌}
 use native.Mathlib.Omega.{arith}
 use native.Mathlib.Decide.{dec_le, dec_lt, ℕ_discrete}
 use lib.Dec.{leb, eqb}
@@ -22,7 +22,7 @@ use Rattle.tree_form.specs.Nodes.{other_nodes}
 use Rattle.tree_form.specs.Growing.{branching, descendant_count}
 use Rattle.tree_form.specs.Facts.{Branching}
 use Rattle.tree_form.specs.Within.{branching_within}
-use Rattle.tree_walk.specs.Walks.{Walk, node_at, Walking, first_two, below_at, Belows}
+use Rattle.tree_walk.specs.Walks.{Walk, node_at, Walking, last_entry, first_two, below_at, Belows}
 use Rattle.tree_walk.specs.Steps.{NodePut}
 use Rattle.tree_form.proofs.Descendants.{mem-descendants}
 use Rattle.tree_form.proofs.Test.{branching_iff}
@@ -32,6 +32,7 @@ use Rattle.tree_walk.proofs.Walks.{
   mark,
   Rooted,
   Walked,
+  WalkOf,
   stands_new,
   stands_old,
   still,
@@ -39,7 +40,8 @@ use Rattle.tree_walk.proofs.Walks.{
   walked_start,
   walked_whole,
   walked_less,
-  walked_all,
+  walked_down,
+  all_found,
   branching-rooted,
 }
 
@@ -47,20 +49,23 @@ use Rattle.tree_walk.proofs.Walks.{
 abbrev pub From : ℕ → List ℕ → ℕ → ℕ → Type 0
 From last tree v w = 1 ≤ w → (2 ≤ w) × (w ≤ last) × (ancestor tree w ≡ v)
 
--- the descendants kept of nodes 1 to `last` are two different nodes, one or none, and each of the nodes 2 to `last` is among them
+-- the descendants kept of nodes 1 to `last` are two different nodes, one or none
 pub record Pairs (last : ℕ) (tree : List ℕ) (below : List Below) : Type 0 where
   pub first : (v : ℕ) → 1 ≤ v → v ≤ last → From last tree v (below_at below v).first
   pub second : (v : ℕ) → 1 ≤ v → v ≤ last → From last tree v (below_at below v).second
   pub apart : (v : ℕ) → 1 ≤ v → v ≤ last → 1 ≤ (below_at below v).second → (below_at below v).first ≢ (below_at below v).second
-  pub every : (u : ℕ) → 2 ≤ u → u ≤ last
-      → (u ≡ (below_at below (ancestor tree u)).first) ⊎ (u ≡ (below_at below (ancestor tree u)).second)
 
--- the walk as far as it has grown, with all descendants of its first i nodes, and no others
-pub record Along (last i count : ℕ) (tree nodes : List ℕ) : Type 0 where
+-- each of the nodes 2 to `last` is among those kept of its immediate ancestor
+abbrev pub AllKept : ℕ → List ℕ → List Below → Type 0
+AllKept last tree below = (u : ℕ) → 2 ≤ u → u ≤ last
+    → (u ≡ (below_at below (ancestor tree u)).first) ⊎ (u ≡ (below_at below (ancestor tree u)).second)
+
+-- the walk as far as it has grown, with the descendants kept of its first i nodes, and no others
+pub record Along (last i count : ℕ) (tree : List ℕ) (below : List Below) (nodes : List ℕ) : Type 0 where
   pub placed : List Bool
   pub marks : length placed ≡ 127
   pub walked : Walked last count tree nodes placed
-  pub all : (k u : ℕ) → k < i → 2 ≤ u → u ≤ last → ancestor tree u ≡ node_at nodes k → stands placed u ≡ true
+  pub all : AllKept last tree below → (k u : ℕ) → k < i → 2 ≤ u → u ≤ last → ancestor tree u ≡ node_at nodes k → stands placed u ≡ true
   pub only : (u : ℕ) → 2 ≤ u → stands placed u ≡ true → (k : ℕ) × (k < i) × (node_at nodes k ≡ ancestor tree u)
 
 -- the walk with w taken behind its nodes, as far as w is a node: it then has r nodes
@@ -118,7 +123,7 @@ module _ (last count : ℕ) (tree nodes : List ℕ) (placed : List Bool) (most :
 
 -- with the descendants of node i taken, all descendants of one node more stand in the walk
 module _ (last i count : ℕ) (tree nodes : List ℕ) (below : List Below) (most : last ≤ 126) (sized : length nodes ≡ 127)
-    (inside : i < count) (high : count ≤ last) (pairs : Pairs last tree below) (along : Along last i count tree nodes) where
+    (inside : i < count) (high : count ≤ last) (pairs : Pairs last tree below) (along : Along last i count tree below nodes) where
   -- node i stands
   here : stands along.placed (node_at nodes i) ≡ true
   here = along.walked.marked i inside
@@ -176,7 +181,7 @@ module _ (last i count : ℕ) (tree nodes : List ℕ) (below : List Below) (most
     kept k h = let least = one.least in two.kept k (omega arith) ∙ one.kept k h
 
     -- and all descendants of the first i + 1 nodes stand, and no others
-    pub along_next : Along last (i + 1) s tree second
+    pub along_next : Along last (i + 1) s tree below second
     along_next = record {
       placed = take_second.now;
       marks = take_second.marks;
@@ -185,8 +190,8 @@ module _ (last i count : ℕ) (tree nodes : List ℕ) (below : List Below) (most
       only = only;
     }
       where
-        own : (u : ℕ) → 2 ≤ u → u ≤ last → ancestor tree u ≡ node_at nodes i → stands take_second.now u ≡ true
-        own u l h e =
+        own : AllKept last tree below → (u : ℕ) → 2 ≤ u → u ≤ last → ancestor tree u ≡ node_at nodes i → stands take_second.now u ≡ true
+        own every u l h e =
             ⊎_elim
             (λ p.
             let is : u ≡ a = p ∙ ap (λ (v : ℕ). (below_at below v).first) e ∙ sym is_first in
@@ -194,16 +199,16 @@ module _ (last i count : ℕ) (tree nodes : List ℕ) (below : List Below) (most
             (λ p.
             let is : u ≡ b = p ∙ ap (λ (v : ℕ). (below_at below v).second) e ∙ sym is_second in
             rw is (take_second.held (omega arith)))
-            (pairs.every u l h)
+            (every u l h)
 
-        all : (k u : ℕ) → k < i + 1 → 2 ≤ u → u ≤ last → ancestor tree u ≡ node_at second k
+        all : AllKept last tree below → (k u : ℕ) → k < i + 1 → 2 ≤ u → u ≤ last → ancestor tree u ≡ node_at second k
             → stands take_second.now u ≡ true
-        all k u less l h e =
+        all every k u less l h e =
             let up = e ∙ kept k (omega arith) in
             by_cases
             (dec_lt k i)
-            (λ earlier. take_second.before u (take_first.before u (along.all k u earlier l h up)))
-            (λ late. let same : k ≡ i = omega arith in own u l h (up ∙ ap (node_at nodes) same))
+            (λ earlier. take_second.before u (take_first.before u (along.all every k u earlier l h up)))
+            (λ late. let same : k ≡ i = omega arith in own every u l h (up ∙ ap (node_at nodes) same))
 
         from_node : (u : ℕ) → ancestor tree u ≡ node_at nodes i
             → (k : ℕ) × (k < i + 1) × (node_at second k ≡ ancestor tree u)
@@ -222,12 +227,12 @@ module _ (last i count : ℕ) (tree nodes : List ℕ) (below : List Below) (most
             (take_second.back u t)
 
 -- the walk with node 1 alone, before the descendants of any node are taken
-pub along_start : (last : ℕ) (tree : List ℕ) → 1 ≤ last → Along last 0 1 tree (set (replicate 127 0) 0 1)
-along_start last tree least = record {
+pub along_start : (last : ℕ) (tree : List ℕ) (below : List Below) → 1 ≤ last → Along last 0 1 tree below (set (replicate 127 0) 0 1)
+along_start last tree below least = record {
   placed = set (replicate 127 false) 1 true;
   marks = refl;
   walked = walked_start last tree least;
-  all = λ k u h. absurd (omega arith);
+  all = λ every k u h. absurd (omega arith);
   only = λ u l t.
       let at = (walked_start last tree least).found u t in
       let less = at.1 in
@@ -238,16 +243,16 @@ along_start last tree least = record {
 }
 
 -- of a rooted tree the walk is at its end once the descendants of all its nodes stand in it
-pub along_whole : (last count : ℕ) (tree nodes : List ℕ) → Rooted last tree → (along : Along last count count tree nodes)
-    → (count ≡ last) × Walked last last tree nodes along.placed
-along_whole last count tree nodes rooted along =
+pub along_whole : (last count : ℕ) (tree : List ℕ) (below : List Below) (nodes : List ℕ) → Rooted last tree → AllKept last tree below
+    → (along : Along last count count tree below nodes) → (count ≡ last) × Walked last last tree nodes along.placed
+along_whole last count tree below nodes rooted every along =
     let is = walked_whole last count tree nodes along.placed rooted along.walked closed in
     (is, rw is at along.walked)
   where
     closed : (u : ℕ) → 2 ≤ u → u ≤ last → stands along.placed (ancestor tree u) ≡ true → stands along.placed u ≡ true
     closed u l h t =
         let at = along.walked.found (ancestor tree u) t in
-        along.all at.0 u at.1 l h (sym at.2)
+        along.all every at.0 u at.1 l h (sym at.2)
 
 -- what a test keeps of consecutive numbers rises
 kept_rising : (test : ℕ → Bool) (first count x y : ℕ) (rest : List ℕ) → keep test (numbers first count) ≡ x ∷ y ∷ rest → x < y
@@ -318,62 +323,75 @@ module _ (n : ℕ) (tree : List ℕ) (within : branching_within n tree ≡ true)
           (λ taxon. omega (arith, branching-taxon n tree two b v (omega arith) taxon))
           (λ htu. omega (arith, branching-htu n tree two b v (omega arith) (omega arith)))
 
-  -- so that the descendants kept are all of them
-  pairs_of : (below : List Below) → Belows n tree below → Pairs (last_node n) tree below
+  -- so that each node is among those kept of its immediate ancestor
+  all_kept : (below : List Below) → Belows n tree below → AllKept (last_node n) tree below
   unfolding last_node
-  pairs_of below belows = record {
-    first = λ v l h some. from v (below_at below v).first ((among v l h).0 some);
-    second = λ v l h some. from v (below_at below v).second ((among v l h).1 some);
-    apart = λ v l h some. rw (is v l h) (two_apart (descendants tree (other_nodes n) v) (rising v) (rw (is v l h) at some));
-    every = λ u l h. each u l h;
-  }
-    where
-      is : (v : ℕ) → 1 ≤ v → v ≤ last_node n → below_at below v ≡ first_two (descendants tree (other_nodes n) v)
-      is v l h = let most = parts.0 in belows.are v l (omega arith)
+  all_kept below belows u l h =
+      let a = (branching-rooted n tree parts.1).above u l h in
+      let most = parts.0 in
+      let is : below_at below (ancestor tree u) ≡ first_two (descendants tree (other_nodes n) (ancestor tree u)) =
+      belows.are (ancestor tree u) a.0 (omega (arith, a.1)) in
+      let m : Memᴰ u (descendants tree (other_nodes n) (ancestor tree u)) =
+      unfold other_nodes in
+      (mem-descendants tree (numbers 2 (2 * n - 3)) (ancestor tree u) u).1 (numbers-among 2 (2 * n - 3) u l (omega arith), refl) in
+      rw is (one_of_two (descendants tree (other_nodes n) (ancestor tree u)) (few (ancestor tree u) a.0 a.1) u m)
 
-      among : (v : ℕ) → 1 ≤ v → v ≤ last_node n
-          → (1 ≤ (below_at below v).first → Memᴰ (below_at below v).first (descendants tree (other_nodes n) v))
-          × (1 ≤ (below_at below v).second → Memᴰ (below_at below v).second (descendants tree (other_nodes n) v))
-      among v l h = rw (is v l h) (first-among (descendants tree (other_nodes n) v), second_among (descendants tree (other_nodes n) v))
-
-      from : (v w : ℕ) → Memᴰ w (descendants tree (other_nodes n) v) → (2 ≤ w) × (w ≤ last_node n) × (ancestor tree w ≡ v)
-      from v w m = unfold other_nodes in
-          let d = (mem-descendants tree (numbers 2 (2 * n - 3)) v w).0 m in
-          let r = numbers-within 2 (2 * n - 3) w d.0 in
-          (r.0, omega arith, d.1)
-
-      rising : (v x y : ℕ) (rest : List ℕ) → descendants tree (other_nodes n) v ≡ x ∷ y ∷ rest → x < y
-      rising v x y rest e = unfold descendants other_nodes in kept_rising (λ u. eqb (ancestor tree u) v) 2 (2 * n - 3) x y rest e
-
-      each : (u : ℕ) → 2 ≤ u → u ≤ last_node n
-          → (u ≡ (below_at below (ancestor tree u)).first) ⊎ (u ≡ (below_at below (ancestor tree u)).second)
-      each u l h =
-          let a = (branching-rooted n tree parts.1).above u l h in
-          let m : Memᴰ u (descendants tree (other_nodes n) (ancestor tree u)) =
-          unfold other_nodes in
-          (mem-descendants tree (numbers 2 (2 * n - 3)) (ancestor tree u) u).1 (numbers-among 2 (2 * n - 3) u l (omega arith), refl) in
-          rw (is (ancestor tree u) a.0 a.1)
-          (one_of_two (descendants tree (other_nodes n) (ancestor tree u)) (few (ancestor tree u) a.0 a.1) u m)
-
--- what is handed back of any tree, from what is known where the walk ends
-pub walking : (n last : ℕ) (tree : List ℕ) (below : List Below) (walk : Walk) → last ≡ min (last_node n) 126 → walk.count ≤ last
-    → ((i : ℕ) → node_at walk.items i ≤ 126) → Belows n tree below
-    → (Pairs last tree below → Along last walk.count walk.count tree walk.items)
-    → Walking n tree walk
+-- the descendants kept of a tree, branching or not, are two different nodes, one or none
+pairs_of : (n : ℕ) (tree : List ℕ) (below : List Below) → Belows n tree below → Pairs (last_entry n) tree below
 unfolding last_node
-walking n last tree below walk is most all belows along = record {
-  at_most = omega arith;
-  within = all;
-  count = λ e. (whole e).0;
-  walks = λ e. walked_all n tree walk.items _ (whole e).1;
+pairs_of n tree below belows = record {
+  first = λ v l h some. from v (below_at below v).first (belows.within v).0 ((among v l h).0 some);
+  second = λ v l h some. from v (below_at below v).second (belows.within v).1 ((among v l h).1 some);
+  apart = λ v l h some. rw (is v l h) (two_apart (descendants tree (other_nodes n) v) (rising v) (rw (is v l h) at some));
 }
   where
-    plain : branching_within n tree ≡ true → last ≡ last_node n
+    is : (v : ℕ) → 1 ≤ v → v ≤ last_entry n → below_at below v ≡ first_two (descendants tree (other_nodes n) v)
+    is v l h = belows.are v l (omega arith)
+
+    among : (v : ℕ) → 1 ≤ v → v ≤ last_entry n
+        → (1 ≤ (below_at below v).first → Memᴰ (below_at below v).first (descendants tree (other_nodes n) v))
+        × (1 ≤ (below_at below v).second → Memᴰ (below_at below v).second (descendants tree (other_nodes n) v))
+    among v l h = rw (is v l h) (first-among (descendants tree (other_nodes n) v), second_among (descendants tree (other_nodes n) v))
+
+    from : (v w : ℕ) → w ≤ 126 → Memᴰ w (descendants tree (other_nodes n) v) → (2 ≤ w) × (w ≤ last_entry n) × (ancestor tree w ≡ v)
+    from v w most m = unfold other_nodes in
+        let d = (mem-descendants tree (numbers 2 (2 * n - 3)) v w).0 m in
+        let r = numbers-within 2 (2 * n - 3) w d.0 in
+        (r.0, omega arith, d.1)
+
+    rising : (v x y : ℕ) (rest : List ℕ) → descendants tree (other_nodes n) v ≡ x ∷ y ∷ rest → x < y
+    rising v x y rest e = unfold descendants other_nodes in kept_rising (λ u. eqb (ancestor tree u) v) 2 (2 * n - 3) x y rest e
+
+-- what is handed back of every tree, from what is known where the walk ends
+pub walking : (n last : ℕ) (tree : List ℕ) (below : List Below) (walk : Walk) → last ≡ last_entry n → walk.count ≤ last
+    → Belows n tree below → (Pairs last tree below → Along last walk.count walk.count tree below walk.items) → Walking n tree walk
+unfolding last_node
+walking n last tree below walk is most belows along = record {
+  most = rw is at most;
+  down = walked_down (last_entry n) walk.count tree walk.items end.placed end.walked;
+  count = λ e. (whole e).0;
+  each = λ e. all_found (last_node n) tree walk.items _ (whole e).1;
+}
+  where
+    end : Along (last_entry n) walk.count walk.count tree below walk.items
+    end = (rw is at along) (pairs_of n tree below belows)
+
+    plain : branching_within n tree ≡ true → last_entry n ≡ last_node n
     plain e = let h = (parts n tree e).0 in omega arith
 
-    end : branching_within n tree ≡ true → Along (last_node n) walk.count walk.count tree walk.items
-    end e = rw (plain e) at (along (rw (plain e) (pairs_of n tree e below belows)))
+    own : branching_within n tree ≡ true → Along (last_node n) walk.count walk.count tree below walk.items
+    own e = rw (plain e) at end
 
     whole : (e : branching_within n tree ≡ true)
-        → (walk.count ≡ last_node n) × Walked (last_node n) (last_node n) tree walk.items (end e).placed
-    whole e = along_whole (last_node n) walk.count tree walk.items (branching-rooted n tree (parts n tree e).1) (end e)
+        → (walk.count ≡ last_node n) × Walked (last_node n) (last_node n) tree walk.items (own e).placed
+    whole e =
+        along_whole (last_node n) walk.count tree below walk.items (branching-rooted n tree (parts n tree e).1)
+        (all_kept n tree e below belows) (own e)
+
+-- what is handed back of a branching is a walk over it
+pub walk_of : (n : ℕ) (tree : List ℕ) (walk : Walk) → Walking n tree walk → branching_within n tree ≡ true → WalkOf n tree walk.items
+unfolding last_node
+walk_of n tree walk walking branches =
+    let few = (parts n tree branches).0 in
+    let last : last_entry n ≡ last_node n = omega arith in
+    record { down = rw (last, walking.count branches) at walking.down; each = walking.each branches }

@@ -18,7 +18,7 @@ use Rattle.matrix_form.specs.Shape.{last_node}
 use Rattle.tree_form.specs.Ancestors.{ancestor}
 use Rattle.tree_form.specs.Growing.{branching}
 use Rattle.tree_form.specs.Facts.{ReachesRoot, root, up, Branching}
-use Rattle.tree_walk.specs.Walks.{node_at, WalkOf}
+use Rattle.tree_walk.specs.Walks.{node_at, WalkDown, last_entry}
 use Rattle.tree_walk.specs.Steps.{NodePut}
 use Rattle.tree_form.proofs.Nodes.{same_everywhere}
 use Rattle.tree_form.proofs.Test.{branching_iff}
@@ -209,7 +209,7 @@ module _ (last count : ℕ) (tree nodes : List ℕ) (placed : List Bool) (most :
           (at.0, at.1, kept at.0 at.1 ∙ at.2 ∙ ap (ancestor tree) (sym here))
 
 -- a walk that has grown to its last node has every node
-all_found : (last : ℕ) (tree nodes : List ℕ) (placed : List Bool) → Walked last last tree nodes placed
+pub all_found : (last : ℕ) (tree nodes : List ℕ) (placed : List Bool) → Walked last last tree nodes placed
     → (v : ℕ) → 1 ≤ v → v ≤ last → (i : ℕ) × (i < last) × (node_at nodes i ≡ v)
 all_found last tree nodes placed w v l h =
     by_cases
@@ -220,13 +220,12 @@ all_found last tree nodes placed w v l h =
     missing : v ≢ 1 → stands placed v ≡ false → ⊥
     missing ne f = omega (arith, walked_less last last tree nodes placed w v (omega arith) h f)
 
--- a walk that has grown to its last node is a walk over the branching
-pub walked_all : (n : ℕ) (tree nodes : List ℕ) (placed : List Bool) → Walked (last_node n) (last_node n) tree nodes placed
-    → WalkOf n tree nodes
-walked_all n tree nodes placed w = record {
+-- as far as it has grown, it is a walk down the tree
+pub walked_down : (last count : ℕ) (tree nodes : List ℕ) (placed : List Bool) → Walked last count tree nodes placed
+    → WalkDown last count tree nodes
+walked_down last count tree nodes placed w = record {
   first = w.first;
   within = w.within;
-  each = all_found (last_node n) tree nodes placed w;
   once = λ i j hi hj e.
       by_cases (dec_lt i j) (λ l. absurd (w.once i j l hj e)) λ l.
       by_cases (dec_lt j i) (λ l'. absurd (w.once j i l' hi (sym e))) (λ l'. omega arith);
@@ -296,10 +295,20 @@ branching-rooted n tree e = record { above = above; reaches = reaches }
     reaches : (v : ℕ) → 2 ≤ v → v ≤ last_node n → ReachesRoot tree v
     reaches v l h = let b = several v l h in branching_reaches n tree b.0 (is b.0) v l b.1
 
--- in a walk each descendant of a node stands behind it
-pub walk_later : (n : ℕ) (tree nodes : List ℕ) → WalkOf n tree nodes → (i j : ℕ) → i < last_node n → j < last_node n
+-- a walk over a branching of n taxa: a walk of its nodes down it, in which each of them stands
+pub record WalkOf (n : ℕ) (tree nodes : List ℕ) : Type 0 where
+  pub down : WalkDown (last_node n) (last_node n) tree nodes
+  pub each : (v : ℕ) → 1 ≤ v → v ≤ last_node n → (i : ℕ) × (i < last_node n) × (node_at nodes i ≡ v)
+
+-- each place of a walk holds a node that has an entry in a tree, or 0
+pub node_most : (n count : ℕ) (tree nodes : List ℕ) → WalkDown (last_entry n) count tree nodes → (i : ℕ) → node_at nodes i ≤ 126
+node_most n count tree nodes w i =
+    by_cases (dec_lt i count) (λ l. omega (arith, w.within i l)) (λ h. omega (arith, w.rest i (omega arith)))
+
+-- in a walk, over a branching or not, each descendant of a node stands behind it
+pub walk_later : (last count : ℕ) (tree nodes : List ℕ) → WalkDown last count tree nodes → (i j : ℕ) → i < count → j < count
     → node_at nodes j ≢ 1 → ancestor tree (node_at nodes j) ≡ node_at nodes i → i < j
-walk_later n tree nodes w i j hi hj other e =
+walk_later last count tree nodes w i j hi hj other e =
     by_cases
     (dec_le 1 j)
     (λ l.

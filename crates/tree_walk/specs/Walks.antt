@@ -1,6 +1,6 @@
 -- The walk over a branching: its nodes in an order in which each stands behind its immediate ancestor, so that a pass over the walk goes
 -- from node 1 down, and backwards from the tips up. And the first two descendants of each node.
-use Rattle.std.specs.Prelude.{◌≡◌, List, [], ◌∷◌, true, ℕ, ◌≤◌, ◌<◌, get_or}
+use Rattle.std.specs.Prelude.{◌≡◌, List, [], ◌∷◌, true, ℕ, ◌≤◌, ◌<◌, min, get_or}
 use Rattle.filled.specs.declared.Filled.{Filled}
 use Rattle.matrix_form.specs.Shape.{last_node}
 use Rattle.tree_walk.specs.declared.walk.Below.{Below}
@@ -13,26 +13,30 @@ use Rattle.tree_form.specs.Within.{branching_within}
 unfoldable pub node_at : List ℕ → ℕ → ℕ
 node_at nodes i = get_or nodes i 0
 
--- a list of nodes is a walk over a branching of n taxa: node 1 stands first; each of the nodes 1 to the last stands at one of the first
--- places, and at one only; the immediate ancestor of each but the first stands before it; zeros stand behind
-pub record WalkOf (n : ℕ) (tree nodes : List ℕ) : Type 0 where
+-- a list of nodes is a walk of `count` nodes down a tree with nodes 1 to `last`, branching or not: node 1 stands first; each stands at one place
+-- only; the immediate ancestor of each but the first stands before it; zeros stand behind
+pub record WalkDown (last count : ℕ) (tree nodes : List ℕ) : Type 0 where
   pub first : node_at nodes 0 ≡ 1
-  pub within : (i : ℕ) → i < last_node n → (1 ≤ node_at nodes i) × (node_at nodes i ≤ last_node n)
-  pub each : (v : ℕ) → 1 ≤ v → v ≤ last_node n → (i : ℕ) × (i < last_node n) × (node_at nodes i ≡ v)
-  pub once : (i j : ℕ) → i < last_node n → j < last_node n → node_at nodes i ≡ node_at nodes j → i ≡ j
-  pub behind : (i : ℕ) → 1 ≤ i → i < last_node n → (j : ℕ) × (j < i) × (node_at nodes j ≡ ancestor tree (node_at nodes i))
-  pub rest : (i : ℕ) → last_node n ≤ i → node_at nodes i ≡ 0
+  pub within : (i : ℕ) → i < count → (1 ≤ node_at nodes i) × (node_at nodes i ≤ last)
+  pub once : (i j : ℕ) → i < count → j < count → node_at nodes i ≡ node_at nodes j → i ≡ j
+  pub behind : (i : ℕ) → 1 ≤ i → i < count → (j : ℕ) × (j < i) × (node_at nodes j ≡ ancestor tree (node_at nodes i))
+  pub rest : (i : ℕ) → count ≤ i → node_at nodes i ≡ 0
+
+-- the last node of n taxa that has an entry in a tree
+abbrev pub last_entry : ℕ → ℕ
+last_entry n = min (last_node n) 126
 
 -- a walk as it is handed back
 abbrev pub Walk : Type 0
 Walk = Filled ℕ tree_size
 
--- what is handed back of any tree: as many nodes as it says, each with a place in a tree; of a branching its walk
+-- what is handed back of every tree: a walk of as many nodes as it says; of a branching every node stands in it
 pub record Walking (n : ℕ) (tree : List ℕ) (walk : Walk) : Type 0 where
-  pub at_most : walk.count ≤ 126
-  pub within : (i : ℕ) → node_at walk.items i ≤ 126
+  pub most : walk.count ≤ last_entry n
+  pub down : WalkDown (last_entry n) walk.count tree walk.items
   pub count : branching_within n tree ≡ true → walk.count ≡ last_node n
-  pub walks : branching_within n tree ≡ true → WalkOf n tree walk.items
+  pub each : branching_within n tree ≡ true → (v : ℕ) → 1 ≤ v → v ≤ last_node n
+      → (i : ℕ) × (i < last_node n) × (node_at walk.items i ≡ v)
 
 -- the first two of a list of descendants; 0 for none
 unfoldable pub first_two : List ℕ → Below

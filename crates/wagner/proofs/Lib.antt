@@ -1,4 +1,5 @@
 -- Laws of a build under way, for the proofs of the functions.
+pub mod AnyMatrix
 pub mod Choosing
 pub mod Renewing
 pub mod Changing

@@ -2,8 +2,6 @@
 use mathlib.Core.Path.{◌≡◌, sym, ap, ◌∙◌}
 use Rattle.lists.specs.Least.{least_of}
 use Rattle.lists.specs.Numbers.{numbers}
-use Rattle.lists.proofs.Least.{least_of-mem}
-use Rattle.tree_form.proofs.Counts.{some-unplaced, unplaced-taxon}
 use Rattle.matrix_form.proofs.Passing.{matrix_passes}
 use mathlib.Core.List.{List, [], ◌∷◌, ◌++◌, append_assoc, append-nil}
 use Prim.Native.Nat.{ℕ, suc, ◌+◌, ◌*◌, ◌-◌, ◌^◌, ◌≤◌, ◌<◌}
@@ -27,14 +25,14 @@ use Rattle.branching.specs.declared.placement.Placed.{Placed}
 use Rattle.branching.specs.Views.{ancestors}
 use Rattle.tree_form.specs.Nodes.{nodes_out, Unplaced, last_row}
 use Rattle.tree_form.specs.Facts.{alone}
-use Rattle.tree_form.specs.Hanging.{only_row_one, next_htu}
+use Rattle.tree_form.specs.Hanging.{only_row_one}
 use Rattle.tree_form.specs.Placing.{AfterPlacing, no_placement, place}
 use Rattle.branching.specs.Calls.{place_in, matrix_placed}
-use Rattle.branching.specs.Unasked.{unasked, UnaskedDone}
+use Rattle.branching.specs.Unasked.{UnaskedDone}
 use Rattle.tree_form.proofs.Nodes.{node_nodes_in, only_row_one-none, only_row_one-size}
 use Rattle.tree_form.proofs.InMatrix.{by_list}
 use Rattle.branching.proofs.InMatrix.{no_row}
-use Rattle.branching.proofs.Unasked.{unasked-plain}
+use Rattle.wagner.proofs.AnyMatrix.{least-unplaced, placement-is, tree-is, matrix-is}
 use Rattle.branching.proofs.Standing.{Standing, standing_placed, last_is, Step, first, later, placed-step, added-most}
 use Rattle.branching.proofs.Standing.{placed-rows, placed_standing}
 use Rattle.wagner.specs.declared.answer.WagnerTree.{WagnerTree}
@@ -42,10 +40,10 @@ use Rattle.tree_form.specs.declared.order.Order.{Order}
 use Rattle.wagner_form.specs.Next.{next_by}
 use Rattle.wagner_form.specs.Build.{Built, added_length, build_on, build, wagner, wagner_length}
 use Rattle.wagner_form.specs.Matrix.{matrix_after, wagner_in}
-use Rattle.wagner.specs.Calls.{most_placements, BuiltFrom}
+use Rattle.wagner.specs.Calls.{most_placements, BuiltFrom, RowOne}
 use Rattle.wagner.specs.Order.{key_of, KeysRight, Advancements}
 use Rattle.wagner.specs.Closeness.{Table, KeysNext}
-use Rattle.wagner.specs.Steps.{RowOne, OneMore}
+use Rattle.wagner.specs.Steps.{OneMore}
 use Rattle.wagner.proofs.Choosing.{alone-key, next_right}
 use Rattle.wagner.proofs.Changing.{placed_changed}
 use Rattle.wagner_form.proofs.Difference.{wagner-length}
@@ -167,13 +165,7 @@ module _ (order : Order) (lists : MatrixLists) (now : List ℤ) (n m : ℕ) (bef
   -- which is not placed, since not all are
   fresh : Unplaced n tree b
   fresh =
-      let out = nodes_out tree (numbers 1 n) in
-      let some = some-unplaced n tree (omega (arith, less, standing_placed (with_codes lists now) n m placed tree w.standing)) in
-      unplaced-taxon n tree b (rw found (least_of-mem (key_of keys) out some.0 some.1))
-
-  -- what is done without questions is the placement
-  same : unasked (with_codes lists now) n m tree b ≡ place_in (with_codes lists now) n m tree b
-  same = unasked-plain (with_codes lists now) n m tree b w.standing.matrix.taxa w.standing.matrix.characters
+      least-unplaced n tree keys b (omega (arith, less, standing_placed (with_codes lists now) n m placed tree w.standing)) found
 
   -- what comes out of it
   abbrev ours : AfterPlacing
@@ -241,16 +233,15 @@ module _ (order : Order) (lists : MatrixLists) (now : List ℤ) (n m : ℕ) (bef
   module _ (new : List ℤ) (made : Placed) (by : UnaskedDone (with_codes lists now) new n m tree b made) where
     -- the placement is that one
     is-ours : made.placement ≡ ours.placement
-    is-ours = by.placement ∙ ap (λ (p : AfterPlacing). p.placement) same
+    is-ours = placement-is (with_codes lists now) n m w.standing.matrix.taxa w.standing.matrix.characters tree b new made by
 
     -- so is the tree
     grown : ancestors made.tree ≡ ours.tree
-    grown = by.tree ∙ ap (λ (p : AfterPlacing). p.tree) same
+    grown = tree-is (with_codes lists now) n m w.standing.matrix.taxa w.standing.matrix.characters tree b new made by
 
     -- and the matrix
     held : new ≡ matrix_placed (with_codes lists now) n m tree b
-    unfolding matrix_placed
-    held = by.matrix ∙ ap (λ (p : AfterPlacing). with_rows now (next_htu n tree) p.made) same
+    held = matrix-is (with_codes lists now) n m w.standing.matrix.taxa w.standing.matrix.characters tree b new made by
 
     -- it adds at most 2,301,696
     next-most : made.placement.added ≤ most_difference

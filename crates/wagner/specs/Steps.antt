@@ -1,21 +1,12 @@
 -- For the proofs of the private functions alone; no public contract cites this file.
 -- How a build goes on, placement by placement.
 use Rattle.std.specs.Prelude.{◌≡◌, ◌+◌, ◌^◌, List, ℕ, ◌<◌, length, get_or, take}
-use Rattle.filled.specs.Filling.{NoneFilled, Pushed}
+use Rattle.filled.specs.Filling.{Pushed}
 use Rattle.branching.specs.declared.placement.Placed.{Placed}
-use Rattle.branching.specs.Views.{ancestors}
-use Rattle.tree_form.specs.Hanging.{only_row_one}
-use Rattle.tree_form.specs.Placing.{no_placement}
 use Rattle.wagner.specs.declared.answer.WagnerTree.{WagnerTree}
 use Rattle.matrix_form.specs.Shape.{row, columns, MatrixLists}
 use Rattle.difference_form.specs.Rows.{difference, node_difference}
 use Rattle.tree_form.specs.Ancestors.{tree_size, ancestor}
-
--- row 1 alone, before the first placement
-pub record RowOne (r : WagnerTree) : Type 0 where
-  pub tree : ancestors r.tree ≡ only_row_one
-  pub placements : NoneFilled no_placement r.placements
-  pub none : r.length ≡ 0
 
 -- a build with one placement more; its length is the sum if that fits 64 bits
 pub record OneMore (before : WagnerTree) (done : Placed) (r : WagnerTree) : Type 0 where

@@ -18,7 +18,8 @@ pub struct WagnerTree {
 }
 
 impl WagnerTree {
-    ghost use Rattle.wagner.specs.Steps.{RowOne, OneMore};
+    ghost use Rattle.wagner.specs.Calls.{RowOne};
+    ghost use Rattle.wagner.specs.Steps.{OneMore};
 
     // Row 1 alone, before the first placement.
     // Kept: no plainer, `default` would not say that row 1 is in the tree.

@@ -7,13 +7,13 @@ use crate::closeness::Made;
 use crate::keys::Keys;
 use difference::nodes::Nodes;
 use matrix::lent::Lent;
-use matrix::questions::within_limits;
 use matrix_form::refusal::Refusal;
 use tree_form::order::Order;
 
 // The Wagner tree of a lent matrix that no question refuses, in an order of placing. The codes of the HTUs are written into their rows of
-// the matrix.
-// Kept: interface, a call that could not fail still cannot: beyond its limits it answers row 1 alone.
+// the matrix. Whatever is handed in, nothing else is written, and where the matrix has not its shape nothing is. Which tree it answers of
+// codes or weights out of range is left open: a call or a read has asked for these.
+// Kept: interface, a call that could not fail still cannot: where the matrix has not its shape it answers row 1 alone.
 // Kept: no plainer, a struct lent to be written could come back with other weights, n and m: each promise would have to say that they stay.
 pub fn build_tree(
     matrix: &mut [i32],
@@ -25,15 +25,15 @@ pub fn build_tree(
     ensures { TreeBuilt order (matrix_of matrix.old weights.now) matrix.new n m result }
 {
     let mut built = WagnerTree::alone();
-    if !within_limits(n, m) {
-        return built;
-    }
     let lent = Lent {
         matrix,
         weights,
         n,
         m,
     };
+    if !lent.is_shaped() {
+        return built;
+    }
     let mut keys = Keys::first(order, &Nodes { lent });
     for _turn in 1..n {
         let b = keys.next(n, &built.tree);

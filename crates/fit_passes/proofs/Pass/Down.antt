@@ -7,7 +7,8 @@ use Rattle.tree_form.specs.Ancestors.{ancestor}
 use Rattle.branching.specs.Index.{TreeIndex}
 use Rattle.tree_form.specs.Facts.{Grown}
 use Rattle.tree_form.specs.Within.{branching_within}
-use Rattle.tree_walk.specs.Walks.{WalkOf, node_at, Belows, below_at}
+use Rattle.tree_walk.specs.Walks.{node_at, Belows, below_at}
+use Rattle.tree_walk.proofs.Walks.{WalkOf}
 use Rattle.fit_form.specs.Sets.{join, nearest_member}
 use Rattle.fit_form.specs.Assignments.{character}
 use Rattle.fit_form.specs.Fit.{chosen_state}
@@ -44,10 +45,10 @@ module _ (n : ℕ) (tree : List ℕ) (rows : List (List ℤ)) (j : ℕ) (codes :
     taxon_seen : (a : Span) (s above : ℤ) (o : Span) → v ≤ n → s ≡ state_of (code_in codes v) a above
         → SeenIs tree rows n j v (record { state = s; outside = o })
     taxon_seen a s above o l is =
-        let own = codes_are.are v (walk.within i high).0 l in record {
+        let own = codes_are.are v (walk.down.within i high).0 l in record {
           state = is
               ∙ ap (λ (own : Option ℤ). state_of own a above) own
-              ∙ sym (taxon-state n tree branches rows j v (walk.within i high).0 l);
+              ∙ sym (taxon-state n tree branches rows j v (walk.down.within i high).0 l);
           outside = λ over. absurd (omega arith);
         }
 
@@ -59,11 +60,11 @@ module _ (n : ℕ) (tree : List ℕ) (rows : List (List ℤ)) (j : ℕ) (codes :
           either 1 i (λ l. l)
           (λ l.
           let zero : i ≡ 0 = omega arith in
-          absurd (omega (arith, ap (node_at nodes) zero, walk.first, codes_are.taxon)))
+          absurd (omega (arith, ap (node_at nodes) zero, walk.down.first, codes_are.taxon)))
 
       -- there are at least two taxa
       several : 2 ≤ n
-      several = unfold last_node in omega (arith, walk.within i high, codes_are.taxon)
+      several = unfold last_node in omega (arith, walk.down.within i high, codes_are.taxon)
 
       -- a tree of all n taxa
       grown : Grown n n tree
@@ -71,21 +72,21 @@ module _ (n : ℕ) (tree : List ℕ) (rows : List (List ℤ)) (j : ℕ) (codes :
 
       -- it is below row 1, and no further than the last
       within : (2 ≤ v) × (v ≤ 2 * n - 2)
-      within = (omega (arith, codes_are.taxon), omega (arith, walk.within i high, last_several n several))
+      within = (omega (arith, codes_are.taxon), omega (arith, walk.down.within i high, last_several n several))
 
       -- its ancestor is an index of a tree, and what is kept of it is right
       module _ (u : ℕ) (place : TreeIndex (ancestor tree v) u) where
         -- where it stands
         is-above : u ≡ ancestor tree v
         is-above =
-            let at = walk.behind i first high in
-            let node = walk.within at.0 (omega (arith, at.1)) in
+            let at = walk.down.behind i first high in
+            let node = walk.down.within at.0 (omega (arith, at.1)) in
             place.is (omega (arith, node, at.2, last_several n several, taxa-most n tree branches))
 
         -- what is kept of it
         above_right : SeenIs tree rows n j u (seen_at seen u)
         above_right =
-            let at = walk.behind i first high in
+            let at = walk.down.behind i first high in
             let here : node_at nodes at.0 ≡ u = at.2 ∙ sym is-above in
             rw here at (inv at.0 at.1 (omega (arith, at.1)))
 
@@ -146,7 +147,7 @@ module _ (n : ℕ) (tree : List ℕ) (rows : List (List ℤ)) (j : ℕ) (codes :
         by_cases (ℕ_discrete k i)
         (λ e. rw (e, get_or-set_same seen v x (record { state = pos 0; outside = record { low = pos 0; high = pos 0 } }) room) right)
         (λ ne.
-        let different : node_at nodes k ≢ v = λ same. ne (walk.once k i h high same) in
+        let different : node_at nodes k ≢ v = λ same. ne (walk.down.once k i h high same) in
         rw (get_or-set_other seen v (node_at nodes k) x (record { state = pos 0; outside = record { low = pos 0; high = pos 0 } }) different)
         (inv k (omega arith) h))
 

@@ -12,12 +12,12 @@ use Rattle.tree_form.specs.Nodes.{other_nodes}
 use Rattle.tree_form.specs.Growing.{branching}
 use Rattle.tree_form.specs.Facts.{Grown}
 use Rattle.tree_form.specs.Within.{branching_within}
-use Rattle.tree_walk.specs.Walks.{WalkOf, node_at, Belows, below_at, first_two}
+use Rattle.tree_walk.specs.Walks.{node_at, Belows, below_at, first_two}
+use Rattle.tree_walk.proofs.Walks.{WalkOf, walk_later}
 use Rattle.lists.proofs.Numbers.{numbers-within}
 use Rattle.tree_form.proofs.Descendants.{mem-descendants}
 use Rattle.tree_form.proofs.Test.{branching_iff}
 use Rattle.tree_form.proofs.Whole.{branching-grown}
-use Rattle.tree_walk.proofs.Walks.{walk_later}
 use Rattle.fit_passes.specs.Plans.{sister_in}
 use Rattle.fit_form.specs.Sets.{only}
 use Rattle.fit_form.specs.Clades.{clades_below}
@@ -72,7 +72,7 @@ descendant_behind n tree nodes grown walk side u a b i htu h at =
     let place = walk.each (on side a b) (omega (arith, d.second)) (omega (arith, d.last)) in
     let here = place.2 in
     let other : node_at nodes place.0 ≢ 1 = λ e. omega (arith, d.second) in
-    (place.0, walk_later n tree nodes walk i place.0 h place.1 other (ap (ancestor tree) here ∙ d.from ∙ sym at), place.1, here)
+    (place.0, walk_later _ _ tree nodes walk.down i place.0 h place.1 other (ap (ancestor tree) here ∙ d.from ∙ sym at), place.1, here)
 
 -- a taxon keeps its code under the chosen states, and its range is its code alone
 module _ (n : ℕ) (tree : List ℕ) (branches : branching_within n tree ≡ true) (rows : List (List ℤ)) (j v : ℕ) (first : 1 ≤ v)

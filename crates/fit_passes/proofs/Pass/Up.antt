@@ -6,7 +6,8 @@ use native.Mathlib.Decide.{ℕ_discrete}
 use Rattle.matrix_form.specs.Shape.{last_node}
 use Rattle.tree_form.specs.Facts.{Grown}
 use Rattle.tree_form.specs.Within.{branching_within}
-use Rattle.tree_walk.specs.Walks.{WalkOf, node_at, Belows, below_at}
+use Rattle.tree_walk.specs.Walks.{node_at, Belows, below_at}
+use Rattle.tree_walk.proofs.Walks.{WalkOf}
 use Rattle.fit_form.specs.Sets.{only, join, gap}
 use Rattle.fit_form.specs.Assignments.{character}
 use Rattle.fit_passes.specs.Steps.{code_in, Codes, PartOf, part_at, part_for, PartsAre, set_of, cost_of}
@@ -47,7 +48,7 @@ unfolding node_at last_node
 walk_room n tree nodes walk =
     either (last_node n) (length nodes) (λ l. l)
     (λ short.
-    let last = walk.within (last_node n - 1) (omega arith) in
+    let last = walk.down.within (last_node n - 1) (omega arith) in
     absurd (omega (arith, last.0, get_or_past nodes (last_node n - 1) 0 (omega arith))))
 
 -- where the pass ends, no node is left
@@ -77,12 +78,12 @@ module _ (n : ℕ) (tree : List ℕ) (rows : List (List ℤ)) (j : ℕ) (codes :
 
     -- it is no further than the last
     last : v ≤ 2 * n - 2
-    last = omega (arith, walk.within i high, last_several n several)
+    last = omega (arith, walk.down.within i high, last_several n several)
 
     -- a taxon
     taxon_right : (r a b : Part) → PartOf (code_in codes v) a b r → v ≤ n → r ≡ part_for tree n code v
     taxon_right r a b is l =
-        let first = (walk.within i high).0 in
+        let first = (walk.down.within i high).0 in
         is.tip _ (codes_are.are v first l)
         ∙ sym (part_of (only (code v)) 0 (part_for tree n code v) (set-taxon n tree grown rows j v first l)
         (cost-taxon n tree grown rows j v first l))
@@ -133,7 +134,7 @@ module _ (n : ℕ) (tree : List ℕ) (rows : List (List ℤ)) (j : ℕ) (codes :
       by_cases (ℕ_discrete k i)
       (λ e. rw e (get_or-set_same parts v r _ room ∙ node_right_lem i high inv several r is))
       (λ ne.
-      let other : node_at nodes k ≢ v = λ same. ne (walk.once k i h high same) in
+      let other : node_at nodes k ≢ v = λ same. ne (walk.down.once k i h high same) in
       get_or-set_other parts v (node_at nodes k) r _ other ∙ inv k (omega arith) h several)
 
   -- from the first place on, of every node

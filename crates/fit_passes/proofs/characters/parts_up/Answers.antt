@@ -3,6 +3,8 @@ use Rattle.std.proofs.Common.{◌≡◌, ◌+◌, ◌-◌, ◌≤◌, [], ◌∷
 use Rattle.std.proofs.lemmas.Iterator.Adapters.{YieldsList-from_rev_slice}
 use Rattle.std.proofs.lemmas.Iterator.Consumers.{YieldsList-at, YieldsList-turn, YieldsList-end}
 use Rattle.tree_walk.specs.Walks.{node_at}
+use Rattle.tree_walk.proofs.Walks.{node_most}
+use Rattle.tree_walk.proofs.Along.{walk_of}
 use Rattle.fit_passes.proofs.Pass.Up.{walk_room, turn_back, turns_all, up_next, up-all}
 use Rattle.fit_passes.specs.Plans.{TaxaTree}
 use Rattle.fit_passes.specs.Steps.{PartsUp}
@@ -18,7 +20,7 @@ loop-v-preserved c =
     let plan = c.plan.inside in
     let i = length loop.yielded in
     let size : length plan.walk.items ≡ 127 = search rules in
-    let most : plan.walk.count ≤ 126 = c.plan.invariant.walking.at_most in
+    let most : plan.walk.count ≤ 126 = omega (arith, c.plan.invariant.walking.most) in
     let turn = YieldsList-turn
     (YieldsList-at c.into_iter-v-iterator.ensures.into_iter_gives
     (YieldsList-from_rev_slice (take plan.walk.count plan.walk.items) (search rules)))
@@ -31,10 +33,10 @@ loop-v-preserved c =
       simp length-set loop.invariant.0,
       λ rows j codes branches.
           rw (more, back.1)
-          (up_next plan.n _ rows j c.args.codes.now codes branches plan.walk.items (c.plan.invariant.walking.walks branches)
+          (up_next plan.n _ rows j c.args.codes.now codes branches plan.walk.items (walk_of _ _ _ c.plan.invariant.walking branches)
           plan.below c.plan.invariant.below loop.parts loop.invariant.0 (plan.walk.count - (i + 1))
           (omega (arith, back.0, c.plan.invariant.walking.count branches)) c.part_of.result part
-          (c.plan.invariant.walking.within (plan.walk.count - (i + 1))) (rw before at (loop.invariant.1 rows j codes branches))),
+          (node_most _ _ _ _ c.plan.invariant.walking.down (plan.walk.count - (i + 1))) (rw before at (loop.invariant.1 rows j codes branches))),
     )
 
 pub returns : goal.returns
@@ -48,7 +50,7 @@ returns c =
     subst (λ (r : TaxaTree). PartsUp r.taxa r.tree c.args.codes.now loop.parts) c.plan.view_is
     (record {
       are = λ rows j codes branches.
-          let walks = c.plan.invariant.walking.walks branches in
+          let walks = walk_of _ _ _ c.plan.invariant.walking branches in
           let room = walk_room plan.n _ plan.walk.items walks in
           let first = turns_all plan.walk.items plan.walk.count (length loop.yielded)
           (omega (arith, room, c.plan.invariant.walking.count branches)) end.1 in

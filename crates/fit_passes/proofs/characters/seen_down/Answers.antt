@@ -3,6 +3,8 @@ use Rattle.std.proofs.Common.{◌≡◌, ℕ, ◌<◌, ◌≤◌, List, length, 
 use borrow.Author.Rules.{sfits_of}
 use Rattle.matrix_form.specs.Shape.{last_node}
 use Rattle.tree_walk.specs.Walks.{node_at}
+use Rattle.tree_walk.proofs.Walks.{node_most}
+use Rattle.tree_walk.proofs.Along.{walk_of}
 use Rattle.fit_passes.specs.Steps.{SeenDown, seen_at}
 use Rattle.fit_passes.proofs.Pass.Standing.{sister_within}
 use Rattle.fit_passes.proofs.Pass.Up.{walk_room}
@@ -43,10 +45,10 @@ loop-v-preserved c =
       simp length-set inv.0,
       λ rows j codes_are branches parts.
           rw (here, to_z-of_z {w = w32} (sfits_of c.state_of.type_inv))
-          (down_next plan.n _ rows j c.args.codes.now codes_are branches plan.walk.items (c.plan.invariant.walking.walks branches)
+          (down_next plan.n _ rows j c.args.codes.now codes_are branches plan.walk.items (walk_of _ _ _ c.plan.invariant.walking branches)
           plan.below c.plan.invariant.below c.args.parts.now parts loop.seen inv.0 loop.v-index
           (omega (arith, before, c.plan.invariant.walking.count branches)) (inv.1 rows j codes_are branches parts) u place _ _
-          (c.plan.invariant.walking.within loop.v-index) state outside),
+          (node_most _ _ _ _ c.plan.invariant.walking.down loop.v-index) state outside),
     )
 
 pub returns : goal.returns
@@ -56,7 +58,7 @@ returns c =
     subst (λ (r : TaxaTree). SeenDown r.taxa r.tree c.args.codes.now c.args.parts.now loop.seen) c.plan.view_is
     (record {
       are = λ rows j codes branches parts.
-          let walks = c.plan.invariant.walking.walks branches in
+          let walks = walk_of _ _ _ c.plan.invariant.walking branches in
           let room = walk_room plan.n _ plan.walk.items walks in
           let all = length-take plan.walk.count plan.walk.items in
           let end : last_node plan.n ≤ loop.v-index =

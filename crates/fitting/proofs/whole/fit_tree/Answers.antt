@@ -1,29 +1,40 @@
 -- `fitting::whole::fit_tree` meets its contract. Assumes nothing.
-use Rattle.std.proofs.Common.{sym, ◌∙◌}
-use Rattle.fitting.proofs.Shapes.{shaped, sizes, not_shaped, not_full, tree-fitted}
+use Rattle.std.proofs.Common.{sym, refl, ◌∙◌}
+use Rattle.fitting.specs.Lists.{all_shaped}
+use Rattle.matrix_form.proofs.Limits.{shaped-limits}
+use Rattle.fitting.proofs.Shapes.{sizes, not_fitted, tree-fitted}
 use Rattle.fitting.proofs.whole.fit_tree.Goals as goal
 
-pub returns-then-not-matrix_shaped : goal.returns-then-not-matrix_shaped
-returns-then-not-matrix_shaped c = not_shaped _ _ _ _ _ _ _ _ (sym c.matrix_shaped.ensures ∙ c.if-not-matrix_shaped.true)
+pub returns-then-not-is_shaped : goal.returns-then-not-is_shaped
+unfolding all_shaped
+returns-then-not-is_shaped c =
+    not_fitted _ _ _ _ _ _ _ _ (rw (sym c.is_shaped.ensures ∙ c.if-not-is_shaped.true) refl) c.no_fit.ensures
 
 pub returns-then-not-lists_full : goal.returns-then-not-lists_full
-returns-then-not-lists_full c = not_full _ _ _ _ _ _ _ _ (sym c.lists_full.ensures ∙ c.if-not-lists_full.true)
+unfolding all_shaped
+returns-then-not-lists_full c =
+    not_fitted _ _ _ _ _ _ _ _
+    (rw (sym c.is_shaped.ensures ∙ c.if-not-is_shaped.false, sym c.lists_full.ensures ∙ c.if-not-lists_full.true) refl)
+    c.no_fit-then-not-lists_full.ensures
 
 pub fit_columns-branches-requires : goal.fit_columns-branches-requires
 fit_columns-branches-requires c = record {
   some =
-      let shape = shaped _ _ _ (sym c.matrix_shaped.ensures ∙ c.if-not-matrix_shaped.false) in
-      rw c.of-plan.ensures (shape.some, shape.taxa);
+      let shape = shaped-limits _ _ _ (sym c.is_shaped.ensures ∙ c.if-not-is_shaped.false) in
+      rw c.of-plan.ensures (shape.taxon, shape.taxa);
   state_lists = sizes _ _ _ (sym c.lists_full.ensures ∙ c.if-not-lists_full.false);
 }
 
 pub sum_lengths-requires : goal.sum_lengths-requires
-sum_lengths-requires c = rw c.of-plan.ensures (shaped _ _ _ (sym c.matrix_shaped.ensures ∙ c.if-not-matrix_shaped.false)).taxa
+sum_lengths-requires c = rw c.of-plan.ensures (shaped-limits _ _ _ (sym c.is_shaped.ensures ∙ c.if-not-is_shaped.false)).taxa
 
 pub returns : goal.returns
+unfolding all_shaped
 returns c =
     let written = rw c.of-plan.ensures at c.fit_columns-branches.ensures in
-    tree-fitted _ _ _ _ _ _ _ _ _ _ _ _ written (rw c.of-plan.ensures at c.sum_lengths.ensures)
+    tree-fitted _ _ _ _ _ _ _ _ _ _ _ _
+    (rw (sym c.is_shaped.ensures ∙ c.if-not-is_shaped.false, sym c.lists_full.ensures ∙ c.if-not-lists_full.false) refl)
+    written (rw c.of-plan.ensures at c.sum_lengths.ensures)
 
 pub invariant_of-nodes : goal.invariant_of-nodes
-invariant_of-nodes c = record { narrow = (shaped _ _ _ (sym c.matrix_shaped.ensures ∙ c.if-not-matrix_shaped.false)).characters }
+invariant_of-nodes c = record { narrow = (shaped-limits _ _ _ (sym c.is_shaped.ensures ∙ c.if-not-is_shaped.false)).characters }

@@ -26,7 +26,7 @@ loop-i-init c =
       omega arith,
       search rules,
       rw items entries-start,
-      λ tree pairs. rw (items, count) (along_start _ tree (omega arith)),
+      λ tree pairs. rw (items, count) (along_start _ tree _ (omega arith)),
     )
 
 pub bounds-below-walk : goal.bounds-below-walk
@@ -62,4 +62,4 @@ returns c tree belows =
     let loop = c.loop-i in
     let inv = loop.invariant in
     let same : loop.i ≡ loop.walk.count = omega (arith, c.loop-i-test.false) in
-    walking _ _ tree _ _ c.last_index-last.ensures inv.1 inv.5 belows (λ pairs. rw same at (inv.6 tree pairs))
+    walking _ _ tree _ _ c.last_index-last.ensures inv.1 belows (λ pairs. rw same at (inv.6 tree pairs))

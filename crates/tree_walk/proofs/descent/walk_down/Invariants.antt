@@ -15,7 +15,7 @@ invariant-loop-i l = (1 ≤ l.walk.count)
     × (l.i ≤ l.walk.count)
     × (length l.walk.items ≡ 127)
     × ((k : ℕ) → node_at l.walk.items k ≤ 126)
-    × ((tree : List ℕ) → Pairs l.last tree l.below → Along l.last l.i l.walk.count tree l.walk.items)
+    × ((tree : List ℕ) → Pairs l.last tree l.below → Along l.last l.i l.walk.count tree l.below l.walk.items)
 
 abbrev pub decreases-loop-i : goal.decreases-loop-i
 decreases-loop-i l = 126 - l.i

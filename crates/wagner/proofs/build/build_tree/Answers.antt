@@ -1,29 +1,34 @@
 -- `wagner::build::build_tree` meets its contract.
-use Rattle.std.proofs.Common.{arith, refl, sym, ◌∙◌, [], ◌<◌, length, true≢false}
+use Rattle.std.proofs.Common.{arith, refl, sym, ◌≡◌, ◌+◌, ◌∙◌, [], ◌<◌, length, true≢false}
 use Prim.Native.Nat.{suc}
-use Rattle.matrix_form.proofs.Limits.{limits, lent_within}
+use Rattle.matrix_form.proofs.Limits.{shaped-limits, lent_shaped}
+use Rattle.matrix_form.proofs.NodeRows.{none-written}
+use Rattle.wagner.proofs.AnyMatrix.{begun_in, next_in}
 use Rattle.wagner.proofs.UnderWay.{begun_under_way, next_under_way, done_under_way}
 use Rattle.wagner.proofs.build.build_tree.Goals as goal
 
-pub returns-then-not-within_limits : goal.returns-then-not-within_limits
-returns-then-not-within_limits c = record {
-  is = λ lent weighted. absurd (true≢false (sym (lent_within _ _ _ lent) ∙ sym c.within_limits.ensures ∙ c.if-not-within_limits.true));
+pub returns-then-not-is_shaped : goal.returns-then-not-is_shaped
+returns-then-not-is_shaped c = record {
+  is = λ lent weighted. absurd (true≢false (sym (lent_shaped _ _ _ lent) ∙ sym c.is_shaped.ensures ∙ c.if-not-is_shaped.true));
+  only = none-written _ _ _;
+  unshaped = λ e. (refl, c.alone-built.ensures);
 }
 
 pub invariant_of-first : goal.invariant_of-first
-invariant_of-first c = record { narrow = (limits _ _ (sym c.within_limits.ensures ∙ c.if-not-within_limits.false)).characters }
+invariant_of-first c = record { narrow = (shaped-limits _ _ _ (sym c.is_shaped.ensures ∙ c.if-not-is_shaped.false)).characters }
 
 pub next-b-requires : goal.next-b-requires
-next-b-requires c = (limits _ _ (sym c.within_limits.ensures ∙ c.if-not-within_limits.false)).taxa
+next-b-requires c = (shaped-limits _ _ _ (sym c.is_shaped.ensures ∙ c.if-not-is_shaped.false)).taxa
 
 pub invariant_of-renew : goal.invariant_of-renew
 invariant_of-renew c =
-    let within = limits _ _ (sym c.within_limits.ensures ∙ c.if-not-within_limits.false) in
+    let within = shaped-limits _ _ _ (sym c.is_shaped.ensures ∙ c.if-not-is_shaped.false) in
     record { taxon = within.taxon; taxa = within.taxa }
 
 pub loop-turn-init : goal.loop-turn-init
 loop-turn-init c = record {
   order = refl;
+  placed = begun_in _ _ _ _ c.alone-built.ensures.tree;
   size = refl;
   count = omega (arith, c.alone-built.ensures.placements.count);
   way = λ lent weighted. ([], begun_under_way _ _ _ _ lent weighted _ c.first-keys.ensures.keys _ _ c.alone-built.ensures);
@@ -32,9 +37,15 @@ loop-turn-init c = record {
 pub loop-turn-preserved : goal.loop-turn-preserved
 loop-turn-preserved c =
     let inv = c.loop-turn.invariant in
-    let within = limits _ _ (sym c.within_limits.ensures ∙ c.if-not-within_limits.false) in
+    let within = shaped-limits _ _ _ (sym c.is_shaped.ensures ∙ c.if-not-is_shaped.false) in
     record {
       order = c.renew.ensures.order ∙ inv.order;
+      placed =
+          let more =
+          next_in _ _ _ _ _ _ _ _ within.taxon within.taxa within.characters c.loop-turn-test.true inv.placed c.next-b.ensures _ _
+          c.place_unasked-placed.ensures in
+          let turn : c.loop-turn._turn + 1 ≡ suc c.loop-turn._turn = omega arith in
+          rw (c.push.ensures.tree, turn) more;
       size = c.place_unasked-placed.auto.matrix ∙ inv.size;
       count = omega (arith, c.push.ensures.placements.count, inv.count, within.taxa, c.loop-turn-test.true);
       way = λ lent weighted.
@@ -53,4 +64,6 @@ returns c =
           let way = inv.way lent weighted in
           rw c.first-keys.ensures.order at
           (done_under_way _ _ _ _ _ _ _ _ _ lent weighted way.1 (omega (arith, way.1.count, inv.count, c.loop-turn-test.false)));
+      only = inv.placed.only;
+      unshaped = λ e. absurd (true≢false (sym (sym c.is_shaped.ensures ∙ c.if-not-is_shaped.false) ∙ e));
     }
