@@ -1,6 +1,7 @@
 //! The proved library as Rust sees it, and what the comparison and the
 //! benchmark share.
 
+pub mod files;
 pub mod lent;
 pub mod plain;
 
@@ -43,8 +44,9 @@ pub fn kind_number(kind: Kind) -> u64 {
     }
 }
 
-/// The orders of placing by number: by rising advancement, and the closest
-/// taxon first.
+/// The orders of placing by number: none for an `F` file, by rising
+/// advancement, and the closest taxon first.
+pub const NO_ORDER: u64 = 0;
 pub const ADVANCE: u64 = 1;
 pub const CLOSEST: u64 = 2;
 
@@ -56,8 +58,18 @@ pub fn order_number(order: Order) -> u64 {
     }
 }
 
+/// What the call for a listing answers: refusal 0 and how many bytes it wrote;
+/// or the number of the refusal and 0.
+#[repr(C)]
+#[derive(Clone, Copy, PartialEq, Eq, Debug)]
+pub struct Listed {
+    pub refusal: u64,
+    pub length: usize,
+}
+
 /// What a read answers: refusal 0, line 0, the number of the kind, n, m and the
-/// number of the order; or the number of the refusal, its line, and zeros.
+/// number of the order, 0 for an `F` file; or the number of the refusal, its
+/// line, and zeros.
 #[repr(C)]
 #[derive(Clone, Copy, PartialEq, Eq, Debug)]
 pub struct FileRead {
@@ -91,7 +103,7 @@ pub struct Indexed {
 }
 
 mod library {
-    use super::{FileRead, Indexed, Measured};
+    use super::{FileRead, Indexed, Listed, Measured};
 
     // A list is two arguments: where it begins, and how many items it has.
     extern "C" {
@@ -100,7 +112,7 @@ mod library {
             file_length: usize,
             out: *mut u8,
             out_length: usize,
-        ) -> usize;
+        ) -> Listed;
         pub fn wagner_read(
             file: *const u8,
             file_length: usize,
@@ -167,8 +179,8 @@ mod library {
 }
 
 /// Writes the listing of a file, or the line of its refusal, into the front of
-/// lent bytes; answers how many bytes that are, 0 for a wrong size.
-pub fn list(file: &[u8], out: &mut [u8]) -> usize {
+/// lent bytes; answers how many bytes that are, or 12 for a wrong size.
+pub fn list(file: &[u8], out: &mut [u8]) -> Listed {
     unsafe { library::wagner_list(file.as_ptr(), file.len(), out.as_mut_ptr(), out.len()) }
 }
 

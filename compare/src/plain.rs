@@ -1,7 +1,7 @@
 //! The same work in plain Rust loops over the lent matrix: what the parts of
 //! the proved library are measured against.
 
-use crate::{FileRead, ADVANCE, CLOSEST, OWN, WAGNER};
+use crate::{FileRead, ADVANCE, CLOSEST, NO_ORDER, OWN, WAGNER};
 use crate::{BRANCHES_SIZE, COLUMNS, MATRIX_SIZE, NAMES_SIZE, WEIGHTS_SIZE};
 
 /// A link of the network: a taxon, the one that it joins, their difference.
@@ -337,7 +337,7 @@ fn read_weights(line: &[u8], weights: &mut [u8]) -> Option<()> {
     fields.next().is_none().then_some(())
 }
 
-/// What line 1 says: the kind, n, m and the order.
+/// What line 1 says: the kind, n, m and, in a `W` file, the order.
 fn read_first(line: &[u8]) -> Option<FileRead> {
     let mut fields = fields(line);
     let kind = match fields.next()? {
@@ -348,6 +348,7 @@ fn read_first(line: &[u8]) -> Option<FileRead> {
     let n = number(fields.next()?, false)? as usize;
     let m = number(fields.next()?, false)? as usize;
     let order = match fields.next() {
+        None if kind == OWN => NO_ORDER,
         None => ADVANCE,
         Some(b"advance") if kind == WAGNER => ADVANCE,
         Some(b"closest") if kind == WAGNER => CLOSEST,

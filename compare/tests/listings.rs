@@ -1,7 +1,7 @@
 //! The whole listing held to the reference's: its bytes, their number, and
 //! every lent byte behind them, for sound, damaged and refused files.
 
-use compare::{lent, list, plain, IN_FORCE, OUTPUT_SIZE};
+use compare::{lent, list, plain, Listed, IN_FORCE, OUTPUT_SIZE};
 use std::sync::atomic::{AtomicU64, Ordering};
 use std::sync::OnceLock;
 use wagner_reference::data::Requests;
@@ -27,7 +27,8 @@ fn before() -> &'static [u8] {
 /// The listing of these bytes; every lent byte behind it is as before.
 fn listed(file: &[u8]) -> Vec<u8> {
     let mut out = before().to_vec();
-    let length = list(file, &mut out);
+    let Listed { refusal, length } = list(file, &mut out);
+    assert_eq!(refusal, 0);
     assert!(out[length..] == before()[length..], "a byte behind the listing differs");
     out.truncate(length);
     out
@@ -243,7 +244,7 @@ fn bytes_of_another_size() {
     for size in [0, 1, 38, 45_001, OUTPUT_SIZE - 1, OUTPUT_SIZE + 1, 2 * OUTPUT_SIZE] {
         for file in [&sound[..], &sound[1..], own, b"", &[b'x'; MOST_BYTES + 1]] {
             let mut out = lent::bytes(size);
-            assert_eq!(list(file, &mut out), 0);
+            assert_eq!(list(file, &mut out), Listed { refusal: 12, length: 0 });
             assert!(out == lent::bytes(size));
         }
     }

@@ -2,7 +2,7 @@
 //! is handed back, and every item of the lent lists, also on refusals.
 
 use compare::{kind_number, lent, order_number, FileRead, Indexed, Measured, IN_FORCE};
-use compare::{BRANCHES_SIZE, MATRIX_SIZE, NAMES_SIZE, WEIGHTS_SIZE};
+use compare::{BRANCHES_SIZE, MATRIX_SIZE, NAMES_SIZE, NO_ORDER, OWN, WEIGHTS_SIZE};
 use wagner_reference::consistency::{consistency, floor};
 use wagner_reference::data::{Data, Ends};
 use wagner_reference::files::Random;
@@ -87,7 +87,8 @@ fn read_refused(refusal: u64, line: usize) -> FileRead {
 /// The answer of a read that accepts a file.
 fn read_is(file: &File) -> FileRead {
     let (n, m) = (file.data.n, file.data.m);
-    let (kind, order) = (kind_number(file.kind), order_number(file.order));
+    let kind = kind_number(file.kind);
+    let order = if kind == OWN { NO_ORDER } else { order_number(file.order) };
     FileRead { refusal: 0, line: 0, kind, n, m, order }
 }
 

@@ -2,12 +2,11 @@
 //!
 //! `cargo run --release --bin benchmark`
 
-use compare::{lent, plain, FileRead, ADVANCE, CLOSEST, IN_FORCE, MATRIX_SIZE, OUTPUT_SIZE};
+use compare::{files, lent, plain, FileRead, ADVANCE, CLOSEST, IN_FORCE, MATRIX_SIZE, OUTPUT_SIZE};
 use std::hint::black_box;
 use std::time::{Duration, Instant};
 use wagner_reference::consistency::{consistency, floor};
 use wagner_reference::data::Data;
-use wagner_reference::files::Random;
 use wagner_reference::fit::fit;
 use wagner_reference::listing::listing;
 use wagner_reference::network::prim_network;
@@ -15,30 +14,9 @@ use wagner_reference::ranges::ranges;
 use wagner_reference::read::read;
 use wagner_reference::tree::{build, Order};
 
-/// A file of n taxa and m characters with codes from -999 to 999 at random.
+/// A file of n taxa and m characters.
 fn file(n: usize, m: usize) -> Vec<u8> {
-    let mut random = Random(19_700_301);
-    let mut text = format!("W\t{n}\t{m}\n");
-    for v in 1..=n {
-        text += &format!("Taxon_{v}");
-        for _ in 0..m {
-            text += &format!("\t{}", random.code(-999, 999));
-        }
-        text.push('\n');
-    }
-    text.into_bytes()
-}
-
-/// The same file with weights from 1 to 9 at random.
-fn weighted(file: &[u8], m: usize) -> Vec<u8> {
-    let mut random = Random(19_710_301);
-    let mut line = "V".to_string();
-    for _ in 0..m {
-        line += &format!("\t{}", random.code(1, 9));
-    }
-    line.push('\n');
-    let second = file.iter().position(|&byte| byte == b'\n').unwrap() + 1;
-    [&file[..second], line.as_bytes(), &file[second..]].concat()
+    files::file("Taxon_", n, m)
 }
 
 /// An `F` file of the same rows whose branching is the tree by advancement.
@@ -47,11 +25,8 @@ fn own_file(file: &[u8]) -> Vec<u8> {
     let (mut weights, mut names) = (lent::weights(), lent::names());
     let head = plain::read(file, &mut matrix, &mut weights, &mut names, &mut lent::branches());
     let FileRead { n, m, .. } = head.unwrap();
-    let mut text = [b"F", &file[1..]].concat();
-    for record in branches(&matrix, &weights, n, m).chunks_exact(3).take(2 * n - 3) {
-        text.extend(format!("C\t{}\t{}\n", record[0], record[1]).bytes());
-    }
-    text
+    let records = branches(&matrix, &weights, n, m);
+    files::own(file, records.chunks_exact(3).take(2 * n - 3).map(|record| record[1]))
 }
 
 /// The least time that some work takes, in microseconds: runs of it until a
@@ -298,7 +273,7 @@ fn growth(sizes: [(usize, usize); 4]) {
 /// Ours and the plain loops on a file with weights and on the same one without.
 fn with_and_without(n: usize, m: usize) {
     let without = file(n, m);
-    let with = weighted(&without, m);
+    let with = files::weighted(&without, m);
     let [a, b] = rounds_of_both(ours, [&with, &without]);
     let [c, d] = rounds_of_both(plain_loops, [&with, &without]);
     println!("{n} x {m}");

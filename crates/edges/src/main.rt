@@ -9,8 +9,7 @@ ghost use Rattle.std.specs.Prelude.{◌≡◌, ◌≤◌, length, IfSome};
 
 use exports::calls::wagner_list;
 use input::{MOST_CASES, MOST_READ, read_counted, read_number, unchanged};
-use listing::call::{OUTPUT_SIZE, list};
-use matrix::refusal::number;
+use listing::call::OUTPUT_SIZE;
 use std::io::Read;
 use std::rt::Files;
 use std::{fs, io};
@@ -50,18 +49,17 @@ fn print_text(rt: &impl Print, text: &[u8]) -> io::Result<()> {
 
 // Prints what the call writes for a file, and how many of the lent bytes stay; they are then as before.
 fn print_file(rt: &impl Print, file: &[u8], out: &mut [u8]) -> io::Result<()> {
-    let length = wagner_list(file, out);
-    print_text(rt, &out[..length])?;
+    let listed = wagner_list(file, out);
+    print_text(rt, &out[..listed.length])?;
     print_unchanged(rt, out)?;
     out.fill(LENT);
     Ok(())
 }
 
-// Prints what the two calls answer to bytes of another number than the full size, and how many of these stay.
+// Prints what the call answers to bytes of another number than the full size, and how many of these stay.
 fn print_refused(rt: &impl Print, out: &mut [u8]) -> io::Result<()> {
-    let file = b"W\t1\t1\nA\t0\n";
-    let refused = list(file, out).err().map_or(0, number);
-    println!(rt; "R\t{refused}\t{}", wagner_list(file, out))?;
+    let listed = wagner_list(b"W\t1\t1\nA\t0\n", out);
+    println!(rt; "R\t{}\t{}", listed.refusal, listed.length)?;
     print_unchanged(rt, out)
 }
 

@@ -12,14 +12,14 @@ use Rattle.file_form.specs.declared.header.Kind.TheVariants.{Wagner, Own}
 use Rattle.tree_form.specs.declared.order.Order.TheVariants.{Advance, Closest}
 use Rattle.fit_form.specs.Calls.{lists_full}
 use Rattle.export_form.specs.Orders.{is_number, order_numbered, ask_order, ask_fit_order}
-use Rattle.export_form.specs.Answers.{bytes_said, file_read, measured, indexed}
+use Rattle.export_form.specs.Answers.{listed, file_read, measured, indexed}
 use Rattle.export_form.specs.Calls.{ask_build}
 use Rattle.matrix_form.specs.Shape.{matrix_of}
 
 -- what comes back
 pub record Examples : Type 0 where
-  -- so many bytes as are written, and none on a refusal
-  pub bytes : bytes_said (value 7) ∷ bytes_said (refused 12 0) ∷ [] ≡ 7 ∷ 0 ∷ []
+  -- how many bytes are written, or the number of the refusal and none
+  pub bytes : listed (value 7) ∷ listed (refused 12 0) ∷ [] ≡ record { refusal = 0; length = 7 } ∷ record { refusal = 12; length = 0 } ∷ []
   -- a length, or the number of a refusal
   pub length : measured (value 7) ≡ record { refusal = 0; length = 7 }
   pub no_length : measured (refused 13 0) ≡ record { refusal = 13; length = 0 }
@@ -28,11 +28,14 @@ pub record Examples : Type 0 where
       ≡ record { refusal = 0; divided = 1; quotient = 888; remainder = 8 }
   pub no_index : indexed (value None) ≡ record { refusal = 0; divided = 0; quotient = 0; remainder = 0 }
   pub index_refused : indexed (refused 14 0) ≡ record { refusal = 14; divided = 0; quotient = 0; remainder = 0 }
-  -- a `W` file of 4 taxa and 3 characters with `closest`, an `F` file, which goes by advancement, and a refusal with its line
+  -- a `W` file of 4 taxa and 3 characters with `closest`, one without a word, which goes by advancement, an `F` file, which has no order,
+  -- and a refusal with its line
   pub read : file_read (value (record { kind = Wagner; n = 4; m = 3; order = Some Closest; weighed = true }))
       ≡ record { refusal = 0; line = 0; kind = 1; n = 4; m = 3; order = 2 }
+  pub wordless_read : file_read (value (record { kind = Wagner; n = 4; m = 3; order = None; weighed = false }))
+      ≡ record { refusal = 0; line = 0; kind = 1; n = 4; m = 3; order = 1 }
   pub own_read : file_read (value (record { kind = Own; n = 5; m = 2; order = None; weighed = false }))
-      ≡ record { refusal = 0; line = 0; kind = 2; n = 5; m = 2; order = 1 }
+      ≡ record { refusal = 0; line = 0; kind = 2; n = 5; m = 2; order = 0 }
   pub read_refused : file_read (refused 7 4) ≡ record { refusal = 7; line = 4; kind = 0; n = 0; m = 0; order = 0 }
 
 -- they are as said
@@ -46,6 +49,7 @@ examples =
       no_index = refl;
       index_refused = refl;
       read = refl;
+      wordless_read = refl;
       own_read = refl;
       read_refused = refl;
     }

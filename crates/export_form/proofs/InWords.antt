@@ -1,6 +1,6 @@
 -- What the exported calls hand back and leave, in words, where no question refuses and where one does. Each theorem uses the contract of
 -- its call, so that a weaker contract would not prove it.
-use mathlib.Core.Path.{◌≡◌, sym, ap, ap₂, ◌∙◌}
+use mathlib.Core.Path.{◌≡◌, ap, ap₂, ◌∙◌}
 use mathlib.Core.Logic.{◌↔◌}
 use mathlib.Core.Bool.{true}
 use mathlib.Core.List.{List, ◌++◌}
@@ -9,7 +9,7 @@ use native.Mathlib.Omega.{arith}
 use borrow.Author.Tests.{eq-eqb, ne_eqb}
 use lib.IntN.{ℤ}
 use lib.ListN.{length, take, drop}
-use lib.Seq.{take-append_seam}
+use lib.Seq.{take-append_seam, length-take-le}
 use Rattle.std.specs.Prelude.{Option, Ok, Err, ◌≤ℤ◌}
 use Rattle.matrix_form.specs.Shape.{row, state_at, MatrixLists}
 use Rattle.matrix_form.specs.NodeRows.{rows_of}
@@ -44,52 +44,58 @@ use Rattle.consistency_form.specs.Index.{thousand, IsIndex, divided, no_total, i
 use Rattle.consistency_form.specs.declared.index.Index.{Index}
 use Rattle.consistency_form.proofs.Division.{index_is}
 use Rattle.rivals.proofs.Floor.{floor_of_every_lent_matrix}
-use Rattle.listing_form.specs.Meant.{order_meant}
 use Rattle.listing_form.specs.Listing.{output}
 use Rattle.listing_form.specs.Calls.{output_size, ask_output}
-use Rattle.export_form.specs.Orders.{order_number, order_numbered}
-use Rattle.export_form.specs.Answers.{kind_number, file_read, indexed}
+use Rattle.listing_form.proofs.OfFiles.{output-some}
+use Rattle.export_form.specs.Orders.{order_numbered}
+use Rattle.export_form.specs.Answers.{kind_number, order_read, file_read, indexed}
 use Rattle.export_form.specs.Calls.{ListExported, ReadExported, network_exported, floor_exported, index_exported}
 use Rattle.export_form.specs.Calls.{ask_build, BuildExported, ask_wagner_fit, states_of_tree, total_of_tree, FitExported}
 use Rattle.export_form.specs.declared.answers.FileRead.{FileRead}
+use Rattle.export_form.specs.declared.answers.Listed.{Listed}
 use Rattle.export_form.specs.declared.answers.Measured.{Measured}
 
 -- a listing
-module _ (file old new : List ℕ) (r : ℕ) (done : ListExported file old new r) where
+module _ (file old new : List ℕ) (r : Listed) (done : ListExported file old new r) where
   -- into 1,048,576 lent bytes: it says how many bytes are printed, and these stand in front of what was lent
-  pub list_said : length old ≡ output_size → (r ≡ length (output file)) × (new ≡ output file ++ drop (length (output file)) old)
+  pub list_said : length old ≡ output_size
+      → (r ≡ record { refusal = 0; length = length (output file) }) × (new ≡ output file ++ drop (length (output file)) old)
   list_said full =
       let pass : ask_output old ≡ Ok tt = unfold ask_output in rw (eq-eqb (length old) output_size full) in
       (rw pass at done.answers, rw pass at done.bytes)
 
   -- so the first bytes, as many as it says, are what is printed
-  pub list_front : length old ≡ output_size → take r new ≡ output file
+  pub list_front : length old ≡ output_size → take r.length new ≡ output file
   list_front full =
       let said = list_said full in
-      ap₂ (λ (count : ℕ) (bytes : List ℕ). take count bytes) said.0 said.1
+      ap₂ (λ (answer : Listed) (bytes : List ℕ). take answer.length bytes) said.0 said.1
       ∙ take-append_seam (output file) (drop (length (output file)) old)
 
-  -- into another number of lent bytes: it says 0, and all are as before
-  pub list_kept : (length old ≡ output_size → ⊥) → (r ≡ 0) × (new ≡ old)
+  -- and that is at least one byte, whatever the file is
+  pub list_some : length old ≡ output_size → 1 ≤ r.length
+  list_some full = let count = ap (λ (answer : Listed). answer.length) (list_said full).0 in omega (arith, count, output-some file)
+
+  -- into another number of lent bytes: 12 comes back with the length 0, and all are as before
+  pub list_kept : (length old ≡ output_size → ⊥) → (r ≡ record { refusal = 12; length = 0 }) × (new ≡ old)
   list_kept other =
       let refuses : ask_output old ≡ Err ListSize = unfold ask_output in rw (ne_eqb (length old) output_size other) in
-      (done.zero.1 refuses, rw refuses at done.bytes)
+      (rw refuses at done.answers, rw refuses at done.bytes)
 
-  -- so where it says 0 nothing was written
-  pub list_none : r ≡ 0 → new ≡ old
-  list_none none = rw (done.zero.0 none) at done.bytes
+  -- so where 12 comes back nothing was written
+  pub list_none : r.refusal ≡ 12 → new ≡ old
+  list_none twelve = (list_kept (done.refused.0 twelve)).1
 
   -- what it says lies within what was lent
-  pub list_within : (r ≤ length new) × (length (take r new) ≡ r)
-  list_within = (done.within, sym done.counted)
+  pub list_within : length (take r.length new) ≡ r.length
+  list_within = length-take-le r.length new done.within
 
 -- a read
 module _ (file : List ℕ) (old new : LentLists) (r : FileRead) (done : ReadExported file old new r) where
-  -- of a file that says a job, into lists of full size: the header comes back with the number of the order that it means, and the job is
-  -- written over the lists
+  -- of a file that says a job, into lists of full size: the header comes back with the number of the order that it means, or 0, and the job
+  -- is written over the lists
   pub read_said : (job : Job) → read_outcome file old ≡ value job
       → (r
-      ≡ record { refusal = 0; line = 0; kind = kind_number job.kind; n = job.n; m = job.m; order = order_number (order_meant job.order) })
+      ≡ record { refusal = 0; line = 0; kind = kind_number job.kind; n = job.n; m = job.m; order = order_read job.kind job.order })
       × (new ≡ job_written job old)
   unfolding read_outcome lists_after
   read_said job e = (

@@ -1,5 +1,5 @@
 -- What each exported call answers, for all inputs and refusals, and what the lent lists then hold.
-use Rattle.std.specs.Prelude.{◌≡◌, ◌↔◌, List, ◌++◌, ℕ, ◌≤◌, eqb, ℤ, length, take, drop, Ok, Err}
+use Rattle.std.specs.Prelude.{◌≡◌, ◌↔◌, List, ◌++◌, ℕ, ◌≤◌, eqb, ℤ, length, drop, Ok}
 use Rattle.matrix_form.specs.Shape.{row, MatrixLists}
 use Rattle.matrix_form.specs.NodeRows.{rows_of}
 use Rattle.matrix_form.specs.Outcomes.{Asked, ask, and_then, on_line, answered, asked_says, afterwards}
@@ -19,22 +19,22 @@ use Rattle.fit_form.specs.Handing.{HandedBack}
 use Rattle.fit_form.specs.declared.whole.Fit.{Fit}
 use Rattle.consistency_form.specs.Calls.{floor_answer, index_answer}
 use Rattle.listing_form.specs.Listing.{output}
-use Rattle.listing_form.specs.Calls.{ask_output}
+use Rattle.listing_form.specs.Calls.{output_size, ask_output}
 use Rattle.export_form.specs.Orders.{ask_order, ask_fit_order}
-use Rattle.export_form.specs.Answers.{bytes_said, file_read, measured, indexed}
+use Rattle.export_form.specs.Answers.{listed, file_read, measured, indexed}
+use Rattle.export_form.specs.declared.answers.Listed.{Listed}
 use Rattle.export_form.specs.declared.answers.FileRead.{FileRead}
 use Rattle.export_form.specs.declared.answers.Measured.{Measured}
 use Rattle.export_form.specs.declared.answers.Indexed.{Indexed}
 
--- the call for a listing answers how many bytes are printed for the file, or 0 for a refusal; they stand in front of the lent bytes, and
+-- the call for a listing answers how many bytes are printed for the file, or the refusal; they stand in front of the lent bytes, and
 -- everything behind them is as before; on a refusal all is
-pub record ListExported (file old new : List ℕ) (r : ℕ) : Type 0 where
-  pub answers : r ≡ bytes_said (answered (ask_output old) (length (output file)))
+pub record ListExported (file old new : List ℕ) (r : Listed) : Type 0 where
+  pub answers : r ≡ listed (answered (ask_output old) (length (output file)))
   pub bytes : new ≡ afterwards (asked_says (ask_output old)) (output file ++ drop (length (output file)) old) old
-  -- so it says 0 exactly if it refuses, and what it counts lies within the lent bytes
-  pub zero : (r ≡ 0) ↔ (ask_output old ≡ Err ListSize)
-  pub within : r ≤ length new
-  pub counted : r ≡ length (take r new)
+  -- so it is refused, by 12, exactly if not 1,048,576 bytes are lent, and what it counts lies within the lent bytes
+  pub refused : (r.refusal ≡ 12) ↔ (length old ≡ output_size → ⊥)
+  pub within : r.length ≤ length new
 
 -- a read answers what the file brings; what an accepted file says is then written into the lent lists, and on a refusal they are as before
 pub record ReadExported (file : List ℕ) (old new : LentLists) (r : FileRead) : Type 0 where

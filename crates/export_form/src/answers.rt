@@ -1,7 +1,16 @@
 // What the exported calls hand back: the number of the refusal, or 0, and what was asked for.
 
+// What the call for a listing answers: 0 and how many bytes it wrote; or the number of the refusal and 0.
+// Kept: interface, C reads a refusal as a number, and 0 for none.
+#[repr(C)]
+#[derive(Clone, Copy)]
+pub struct Listed {
+    pub refusal: u64,
+    pub length: usize,
+}
+
 // What a read answers: 0, the line 0, the number of the kind of file, the numbers of taxa and characters, and the number of the order of
-// placing that the file means; or the number of the refusal, its line, and zeros.
+// placing that a `W` file means, 0 for an `F` file; or the number of the refusal, its line, and zeros.
 // Kept: interface, C reads a refusal, a kind and an order as numbers.
 #[repr(C)]
 #[derive(Clone, Copy, Default)]

@@ -2,16 +2,18 @@
 ghost use Rattle.std.specs.Prelude.{◌≡◌};
 ghost use Rattle.matrix_form.specs.Outcomes.{result_says};
 ghost use Rattle.file_form.specs.Calls.{read_says};
-ghost use Rattle.export_form.specs.Answers.{file_read, indexed, kind_number, measured};
+ghost use Rattle.listing_form.specs.Calls.{listed_says};
+ghost use Rattle.export_form.specs.Answers.{file_read, indexed, kind_number, listed, measured, order_read};
 
 use crate::orders::order_number;
 use consistency_form::index::Index;
-use export_form::answers::{FileRead, Indexed, Measured};
+use export_form::answers::{FileRead, Indexed, Listed, Measured};
 use file_form::answer::Refused;
 use file_form::header::{Header, Kind};
 use listing::order::order_meant;
 use matrix::refusal::number;
 use matrix_form::refusal::Refusal;
+use tree_form::order::Order;
 
 // The number of a kind of file: 1 for `W`, 2 for `F`.
 // Kept: interface, the numbers are C's; as `From<Kind>` they would have to stand in file_form, which knows nothing of C.
@@ -21,6 +23,31 @@ fn kind_number(kind: Kind) -> u64
     match kind {
         Kind::Wagner => 1,
         Kind::Own => 2,
+    }
+}
+
+// The number of the order of placing that a file means: 0 for an `F` file.
+// Kept: interface, the numbers are C's; as a method of `Header` it would have to stand in file_form, which knows nothing of C.
+fn order_read(kind: Kind, word: Option<Order>) -> u64
+    ensures { result ≡ order_read kind word }
+{
+    match kind {
+        Kind::Wagner => order_number(order_meant(word)),
+        Kind::Own => 0,
+    }
+}
+
+// How many bytes were written, or the refusal.
+// Kept: no plainer, as a `Measured` each caller would cast the count before it cuts its list.
+pub(crate) fn listed(answer: Result<usize, Refusal>) -> Listed
+    ensures { result ≡ listed (listed_says answer) }
+{
+    match answer {
+        Ok(length) => Listed { refusal: 0, length },
+        Err(refusal) => Listed {
+            refusal: number(refusal),
+            length: 0,
+        },
     }
 }
 
@@ -35,7 +62,7 @@ pub(crate) fn file_read(answer: Result<Header, Refused>) -> FileRead
             kind: kind_number(header.kind),
             n: header.n,
             m: header.m,
-            order: order_number(order_meant(header.order)),
+            order: order_read(header.kind, header.order),
         },
         Err(refused) => FileRead {
             refusal: number(refused.refusal),

@@ -1,5 +1,5 @@
 // The calls that `exports_c` exports.
-// Kept: interface, C hands over each list and number by itself (matrix, weights, n and m, the three lists of states) and an order as a number, and `wagner_list` answers 0 where it refuses.
+// Kept: interface, C hands over each list and number by itself (matrix, weights, n and m, the three lists of states) and an order as a number.
 ghost use Rattle.std.specs.Prelude.{◌≡◌};
 ghost use Rattle.matrix_form.specs.Outcomes.{result_says};
 ghost use Rattle.file_form.specs.Written.{lent};
@@ -10,11 +10,11 @@ ghost use Rattle.export_form.specs.Calls.{ask_wagner_fit, FitExported, floor_exp
 ghost use Rattle.matrix_form.specs.Shape.{matrix_of};
 ghost use Rattle.matrix.specs.Lent.{lent_lists};
 
-use crate::answers::{file_read, indexed, measured};
+use crate::answers::{file_read, indexed, listed, measured};
 use crate::orders::order_asked;
 use consistency::calls::{floor, index};
 use consistency_form::index::Index;
-use export_form::answers::{FileRead, Indexed, Measured};
+use export_form::answers::{FileRead, Indexed, Listed, Measured};
 use fitting::whole::{fit_tree, lists_full};
 use listing::call::list;
 use matrix::lent::Lent;
@@ -24,12 +24,12 @@ use prim::network::network;
 use tree_records::numbers::{LENT_NUMBERS, records_in};
 use wagner::build::build;
 
-// Writes the listing of a file's bytes, or the line of its refusal, into the front of lent bytes, and answers how many bytes that are: 0 if
-// not exactly 1,048,576 are lent, and then nothing is written.
-pub fn wagner_list(file: &[u8], out: &mut [u8]) -> usize
+// Writes the listing of a file's bytes, or the line of its refusal, into the front of lent bytes, and answers how many bytes that are, or 12
+// if not exactly 1,048,576 are lent, and then nothing is written.
+pub fn wagner_list(file: &[u8], out: &mut [u8]) -> Listed
     ensures { ListExported file.now out.old out.new result }
 {
-    list(file, out).unwrap_or(0)
+    listed(list(file, out))
 }
 
 // Reads a file into a lent matrix and lent lists of weights, names and branch records, three numbers for each of 125: the branching of an

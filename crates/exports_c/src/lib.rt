@@ -1,5 +1,5 @@
 // The calls for other languages, as a static library. Each hands its arguments to the call of the same name in `exports`, and has its contract.
-// Kept: interface, C hands over each list and number by itself (matrix, weights, n and m, the three lists of states) and an order as a number, and `wagner_list` answers 0 where it refuses.
+// Kept: interface, C hands over each list and number by itself (matrix, weights, n and m, the three lists of states) and an order as a number.
 #![tactic(auto)]
 
 ghost use Rattle.std.specs.Prelude.{◌≡◌};
@@ -9,13 +9,13 @@ ghost use Rattle.export_form.specs.Calls.{ListExported, ReadExported, network_ex
 ghost use Rattle.export_form.specs.Calls.{ask_wagner_fit, FitExported, floor_exported, index_exported};
 ghost use Rattle.matrix_form.specs.Shape.{matrix_of};
 
-use export_form::answers::{FileRead, Indexed, Measured};
+use export_form::answers::{FileRead, Indexed, Listed, Measured};
 use exports::calls;
 
-// Writes the listing of a file's bytes, or the line of its refusal, into the front of lent bytes, and answers how many bytes that are: 0 if
-// not exactly 1,048,576 are lent, and then nothing is written.
+// Writes the listing of a file's bytes, or the line of its refusal, into the front of lent bytes, and answers how many bytes that are, or 12
+// if not exactly 1,048,576 are lent, and then nothing is written.
 #[unsafe(no_mangle)]
-pub extern "C" fn wagner_list(file: &[u8], out: &mut [u8]) -> usize
+pub extern "C" fn wagner_list(file: &[u8], out: &mut [u8]) -> Listed
     ensures { ListExported file.now out.old out.new result }
 {
     calls::wagner_list(file, out)

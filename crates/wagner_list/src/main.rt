@@ -14,8 +14,8 @@ const READ_SIZE: usize = MOST_BYTES + 1;
 // Reads a file into one lent list, writes what is printed for it into the other, and prints that.
 fn run(rt: &(impl Input + Print), file: &mut [u8], out: &mut [u8]) -> io::Result<()> {
     let got = read_full(&mut rt.reader(), file);
-    let length = wagner_list(&file[..got], out);
-    rt.write_all(&out[..length])
+    let listed = wagner_list(&file[..got], out);
+    rt.write_all(&out[..listed.length])
 }
 
 fn main(rt: HostRuntime) -> io::Result<()> {
