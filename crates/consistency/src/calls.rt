@@ -17,6 +17,7 @@ use tree_records::lent::tree_of;
 use tree_records::questions::ask_branching;
 
 // The floor of a lent matrix. It writes nothing.
+#[tactic(auto, using(crate::proofs::Answered::floor_passed), unfolding(consistency_form::specs::Calls::floor_answer))]
 pub fn floor(lent: &Lent) -> Result<u64, Refusal>
     ensures { result_says result ≡ floor_answer (lent_lists lent.now) lent.now.n lent.now.m }
 {
@@ -25,6 +26,7 @@ pub fn floor(lent: &Lent) -> Result<u64, Refusal>
 }
 
 // The consistency index of a lent branching, by the floor of its matrix and its fitted total: none with a total of 0. It writes nothing.
+#[tactic(auto, unfolding(consistency_form::specs::Calls::index_answer))]
 pub fn index(lent: &Lent, records: &[Branch; BRANCHES]) -> Result<Option<Index>, Refusal>
     ensures { result_says result ≡ index_answer (lent_lists lent.now) lent.now.n lent.now.m records.now }
 {

@@ -3,6 +3,7 @@ use mathlib.Core.Path.{◌≡◌, refl}
 use mathlib.Core.List.{[], ◌∷◌}
 use lib.IntN.{pos}
 use lib.ListN.{replicate, set}
+use native.Mathlib.Omega.{arith}
 use Rattle.std.proofs.Common.{Some, None}
 use Rattle.lists.specs.Numbers.{numbers}
 use Rattle.lists.specs.Sums.{sum_over}
@@ -15,7 +16,7 @@ use Rattle.matrix_form.proofs.Sample.{rows_abcd}
 use Rattle.difference_form.specs.Rows.{apart, part, lower, higher, weighing}
 use Rattle.fit_form.specs.Assignments.{character}
 use Rattle.consistency_form.specs.Floor.{left_by, lowest, highest, codes_of, character_floor, floor}
-use Rattle.consistency_form.specs.Index.{index}
+use Rattle.consistency_form.specs.Index.{IsIndex, divided, index}
 use Rattle.consistency_form.specs.Calls.{floor_answer}
 
 -- the floor of document 01's example A, B, C, D is 3 and 3 and 2; row 1 has the lowest code of characters 2 and 3
@@ -38,6 +39,10 @@ weighed-answer = refl
 example_index : index 8 9 ≡ Some (record { quotient = 888; remainder = 8 })
 unfolding index
 example_index = refl
+
+-- so it is the index by its meaning: 8000 are 888 times 9 and 8
+example_divided : IsIndex 8 9 (Some (record { quotient = 888; remainder = 8 }))
+example_divided = divided 888 8 refl (omega arith)
 
 -- a total that is its floor makes 1000 thousandths, and nothing is left over
 whole-index : index 9 9 ≡ Some (record { quotient = 1000; remainder = 0 })

@@ -10,7 +10,6 @@ use borrow.Author.Tests.{le-leb, leb-true}
 use lib.Dec.{leb}
 use lib.ListN.{length, get_or}
 use Rattle.std.specs.Prelude.{Option, None, Some, Result, Ok, Err}
-use Rattle.lists.specs.Tests.{same_numbers as same_text}
 use Rattle.lists.proofs.Both.{and_left, and_right, and_both}
 use Rattle.matrix_form.specs.Outcomes.{ask}
 use Rattle.matrix_form.specs.Questions.{within_limits}
@@ -18,15 +17,12 @@ use Rattle.matrix_form.specs.declared.refusal.Refusal.{Refusal}
 use Rattle.matrix_form.specs.declared.refusal.Refusal.TheVariants.{FirstLine, UnknownOrder, BeyondLimits}
 use Rattle.file_form.specs.declared.header.Header.{Header}
 use Rattle.file_form.specs.declared.header.Kind.{Kind}
-use Rattle.file_form.specs.declared.header.Kind.TheVariants.{Wagner, Own}
 use Rattle.tree_form.specs.declared.order.Order.{Order}
-use Rattle.tree_form.specs.declared.order.Order.TheVariants.{Advance, Closest}
 use Rattle.text_form.specs.Bytes.{line_feed}
-use Rattle.file_form.specs.Words.{word_w, word_f, word_advance, word_closest}
 use Rattle.text_form.specs.Decimal.{number_form, number_of}
 use Rattle.text_form.specs.Lines.{lines_of, fields_of}
 use Rattle.file_form.specs.Kinds.{kind_form, is_kind, kind_said}
-use Rattle.file_form.specs.Header.{order_word, first_form, first_line_form, order_known, order_in, header_from, header_in}
+use Rattle.file_form.specs.Header.{first_form, first_line_form, order_known, order_in, header_from, header_in}
 use Rattle.file_form.specs.Header.{ask_first_line}
 use Rattle.file_form.specs.Optional.{optional_there}
 use Rattle.file_form.specs.Weights.{letter_v}
@@ -34,39 +30,7 @@ use Rattle.file_form.proofs.File.FirstForm.{too_few, too_many, no_kind, no_taxa,
 use Rattle.text_form.proofs.Parts.{pieces_some}
 use Rattle.file_header.specs.Steps.{first_said, with_value, order_asked}
 use Rattle.file_text.specs.Steps.{read_as}
-use Rattle.file_header.proofs.Words.{other_text}
 use Rattle.file_text.proofs.ReadAs.{read_formed, read_formless, formed_read, formless_read}
-
--- a word, and what it says
-module _ (word : List ℕ) where
-  -- `F`
-  pub own_said : word ≡ word_f → Some Own ≡ read_as is_kind kind_said word
-  unfolding is_kind kind_said same_text
-  own_said e = sym (ap (read_as is_kind kind_said) e)
-
-  -- `W`
-  pub wagner_said : word ≡ word_w → Some Wagner ≡ read_as is_kind kind_said word
-  unfolding is_kind kind_said same_text
-  wagner_said e = sym (ap (read_as is_kind kind_said) e)
-
-  -- another word says no kind
-  pub no_kind_said : (word ≡ word_f → ⊥) → (word ≡ word_w → ⊥) → None ≡ read_as is_kind kind_said word
-  unfolding is_kind
-  no_kind_said f w = read_formless is_kind kind_said word (rw (other_text word word_w w, other_text word word_f f))
-
-  -- `advance`
-  pub advance_said : word ≡ word_advance → Some Advance ≡ order_word word
-  unfolding same_text
-  advance_said e = sym (ap order_word e)
-
-  -- `closest`
-  pub closest_said : word ≡ word_closest → Some Closest ≡ order_word word
-  unfolding same_text
-  closest_said e = sym (ap order_word e)
-
-  -- another word says no order
-  pub no_order_said : (word ≡ word_advance → ⊥) → (word ≡ word_closest → ⊥) → None ≡ order_word word
-  no_order_said a c = sym (rw (other_text word word_advance a, other_text word word_closest c))
 
 -- the fields of line 1, and the first of them
 module _ (fields : List (List ℕ)) (word : List ℕ) (w : word ≡ get_or fields 0 []) where

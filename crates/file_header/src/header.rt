@@ -26,16 +26,24 @@ pub fn header_lines(header: Header) -> usize
     1 + usize::from(header.weighed)
 }
 
+// The words for the two kinds of file.
+const WAGNER: &[u8] = b"W";
+
+const OWN: &[u8] = b"F";
+
 // The kind that a word says, if it is one of the two with which line 1 begins.
 // Kept: no plainer, `file_form` holds definitions and no function, so that a wrong one is refused in seconds; a `TryFrom` for `Kind` would be its first.
+#[tactic(auto, using(text_form::proofs::Slices::same_pointwise), unfolding(file_form::specs::Kinds::is_kind, file_form::specs::Kinds::kind_said))]
 fn kind(word: &[u8]) -> Option<Kind>
     ensures { result ≡ read_as is_kind kind_said word.now }
 {
-    match word {
-        b"F" => Some(Kind::Own),
-        b"W" => Some(Kind::Wagner),
-        _ => None,
+    if word == WAGNER {
+        return Some(Kind::Wagner);
     }
+    if word == OWN {
+        return Some(Kind::Own);
+    }
+    None
 }
 
 // The field of line 1 that has the word for the order, if there is one.
@@ -68,16 +76,24 @@ fn first_said(line: &[u8]) -> Option<(Kind, usize, usize)>
     Some((kind, n, m))
 }
 
+// The words for the two orders of placing.
+const ADVANCE: &[u8] = b"advance";
+
+const CLOSEST: &[u8] = b"closest";
+
 // The order of placing that a word says, if it is one of the two for it.
 // Kept: no plainer, as `TryFrom` of bytes it would stand in branching, beside `Order`, which knows no words of a file.
+#[tactic(auto, using(text_form::proofs::Slices::same_pointwise))]
 fn order(word: &[u8]) -> Option<Order>
     ensures { result ≡ order_word word.now }
 {
-    match word {
-        b"advance" => Some(Order::Advance),
-        b"closest" => Some(Order::Closest),
-        _ => None,
+    if word == ADVANCE {
+        return Some(Order::Advance);
     }
+    if word == CLOSEST {
+        return Some(Order::Closest);
+    }
+    None
 }
 
 // The word for the order that a line 1 of the right form carries in a fourth field, if it has one: is it such a word?

@@ -15,6 +15,9 @@ pub const NODE: usize = 1;
 // The one that says the node's immediate ancestor.
 pub const ANCESTOR: usize = 2;
 
+// The word with which it begins.
+const WORD: &[u8] = b"C";
+
 // Whether a line is the `C` line of node v: three fields, `C`, the number of the node, and a number.
 fn branch_form(line: &[u8], v: usize) -> bool
     ensures { result ≡ branch_form v (fields_of line.now) }
@@ -22,9 +25,9 @@ fn branch_form(line: &[u8], v: usize) -> bool
     if separators(line, TAB) != ANCESTOR {
         return false;
     }
-    let b"C" = field(line, 0) else {
+    if field(line, 0) != WORD {
         return false;
-    };
+    }
     if number(field(line, ANCESTOR)).is_none() {
         return false;
     }

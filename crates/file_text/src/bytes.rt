@@ -27,7 +27,12 @@ fn piece_length(text: &[u8], separator: u8) -> usize
 pub fn separators(text: &[u8], separator: u8) -> usize
     ensures { result + 1 ≡ length (pieces_at separator text.now) }
 {
-    text.iter().filter(|byte| **byte == separator).count()
+    let mut count = 0;
+    // Kept: no plainer, `filter(..).count()` goes from one separator to the next byte by byte, and this loop over many bytes at once.
+    for byte in text {
+        count += usize::from(*byte == separator);
+    }
+    count
 }
 
 // The rest of a text from an index on: nothing past its end.

@@ -1,6 +1,6 @@
 -- The claim about the third rival at document 01's example: its tree is a branching, every assignment has a total of at least 9,
 -- and in character 3 of an assignment of least length #1 has state 0 or 1, and no other.
-use Rattle.std.proofs.Common.{◌≡◌, ℕ, ◌≤◌, true, ◌↔◌, List, [], ◌∷◌, ℤ, pos, refl, arith}
+use Rattle.std.proofs.Common.{◌≡◌, ℕ, ◌≤◌, true, ◌↔◌, List, [], ◌∷◌, ℤ, pos, negsuc, refl, arith}
 use Rattle.lists.specs.Numbers.{numbers}
 use Rattle.matrix_form.proofs.Sample.{rows_abcd}
 use Rattle.matrix_form.specs.Shape.{last_node, is_weight}
@@ -34,6 +34,11 @@ alike = 1 ∷ 1 ∷ 1 ∷ []
 alike-known : are_weights alike 3 ≡ true
 unfolding are_weights is_weight every
 alike-known = refl
+
+-- every assignment leaves D its code -1 in character 1
+taxon_kept : (states : ℕ → ℕ → ℤ) → IsAssignment rows_abcd 4 3 states → states 4 1 ≡ negsuc 0
+unfolding printed
+taxon_kept states h = h.keeps 4 1 (omega arith) (omega arith) (omega arith) (omega arith)
 
 -- every assignment has a total of at least 9
 pub at_least_9 : (states : ℕ → ℕ → ℤ) → IsAssignment rows_abcd 4 3 states → 9 ≤ total (weighing alike).step tree_abcd 4 3 states

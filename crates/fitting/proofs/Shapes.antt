@@ -8,7 +8,7 @@ use Rattle.lists.proofs.Sums.{sum_same, sum_most}
 use Rattle.matrix_form.specs.Shape.{matrix_size, last_node, MatrixLists}
 use Rattle.matrix_form.specs.NodeRows.{rows_of}
 use Rattle.matrix_form.proofs.NodeRows.{none-written}
-use Rattle.matrix_form.specs.Questions.{LentMatrix, LentWeights}
+use Rattle.matrix_form.specs.Questions.{LentMatrix, LentWeights, matrix_shaped}
 use Rattle.matrix_form.proofs.Limits.{lent_shaped}
 use Rattle.matrix_form.proofs.Passing.{true-one_to}
 use Rattle.difference_form.specs.Rows.{most_difference, weighing}
@@ -38,11 +38,29 @@ full_lists : (low high chosen : ℕ) → low ≡ matrix_size → high ≡ matrix
 unfolding lists_full
 full_lists low high chosen l h c = rw (eq-eqb low matrix_size l, eq-eqb high matrix_size h, eq-eqb chosen matrix_size c)
 
+-- where both tests pass, all shapes are right
+pub both-shaped : (codes : List ℤ) (n m : ℕ) (low high chosen : List ℤ) → matrix_shaped (length codes) n m ≡ true
+    → lists_full (length low) (length high) (length chosen) ≡ true → all_shaped codes n m low high chosen ≡ true
+unfolding all_shaped
+both-shaped codes n m low high chosen right full = rw (right, full) refl
+
 -- a lent matrix and lists of the matrix's size have their shapes
 lent-all_shaped : (codes : List ℤ) (n m : ℕ) (low high chosen : List ℤ) → LentMatrix codes n m → length low ≡ matrix_size
     → length high ≡ matrix_size → length chosen ≡ matrix_size → all_shaped codes n m low high chosen ≡ true
+lent-all_shaped codes n m low high chosen lent l h c =
+    both-shaped codes n m low high chosen (lent_shaped codes n m lent) (full_lists _ _ _ l h c)
+
+-- where that of the matrix fails, they are not
+pub matrix-unshaped : (codes : List ℤ) (n m : ℕ) (low high chosen : List ℤ) → matrix_shaped (length codes) n m ≡ false
+    → all_shaped codes n m low high chosen ≡ false
 unfolding all_shaped
-lent-all_shaped codes n m low high chosen lent l h c = rw (lent_shaped codes n m lent, full_lists _ _ _ l h c)
+matrix-unshaped codes n m low high chosen wrong = rw wrong refl
+
+-- nor where that of the lists fails
+pub lists-unshaped : (codes : List ℤ) (n m : ℕ) (low high chosen : List ℤ) → matrix_shaped (length codes) n m ≡ true
+    → lists_full (length low) (length high) (length chosen) ≡ false → all_shaped codes n m low high chosen ≡ false
+unfolding all_shaped
+lists-unshaped codes n m low high chosen right short = rw (right, short) refl
 
 -- where a shape fails, lists left as they were and the fit of no branch are what a tree's fit promises
 pub not_fitted : (lists : MatrixLists) (n m : ℕ) (tree : List ℕ) (low high chosen : List ℤ) (fit : Fit)

@@ -77,6 +77,7 @@ pub fn states(
 }
 
 // The fitted total of a lent branching. It writes nothing.
+#[tactic(auto, unfolding(fit_form::specs::Calls::total_answer))]
 pub fn total(lent: &Lent, records: &[Branch; BRANCHES]) -> Result<u64, Refusal>
     ensures { result_says result ≡ total_answer (lent_lists lent.now) lent.now.n lent.now.m records.now }
 {

@@ -13,11 +13,6 @@ use lib.ListN.{length, length-append}
 use Rattle.std.specs.Prelude.{Some}
 use Rattle.lists.specs.Least.{first_least, least_key, least_of}
 
--- of three items with equal keys the first is chosen
-first_of_equals : first_least (λ (item : ℕ). 7) 1 (2 ∷ 3 ∷ []) ≡ 1
-unfolding first_least
-first_of_equals = refl
-
 module _ {A : Type 0} where
   -- an element of a list such that each one before it has a greater key, and none behind it a lesser one
   pub record Chosen (key : A → ℕ) (list : List A) (chosen : A) : Type 0 where

@@ -1,4 +1,4 @@
--- Laws of the definitions of this crate.
+-- Laws of the definitions of this crate; computed examples.
 pub mod Between
 pub mod Both
 pub mod Every
@@ -14,3 +14,4 @@ pub mod Stripes
 pub mod Filled
 pub mod Filling
 pub mod Pairs
+pub mod Examples

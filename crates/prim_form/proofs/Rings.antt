@@ -1,6 +1,7 @@
--- Networks that count as rivals: links are gone along in both directions, and rings, repeats and a taxon linked to itself are allowed;
--- and a network with further nodes.
+-- Networks that count as rivals, and such as do not: links are gone along in both directions, and rings, repeats and a taxon linked to
+-- itself are allowed; a taxon that nothing links is not reached; and a network with further nodes.
 use mathlib.Core.Path.{◌≡◌, refl}
+use mathlib.Core.List.Memᴰ
 use mathlib.Core.List.{List, [], ◌∷◌, Memᴰ}
 use mathlib.Core.Bool.{Bool, true, ◌&&◌}
 use mathlib.Core.Logic.{inl, inr, by_cases}
@@ -21,6 +22,16 @@ forwards = inl (Memᴰ.head refl)
 -- and against its direction
 backwards : Joins {A = ℕ} ((2, 3) ∷ []) 3 2
 backwards = inr (Memᴰ.head refl)
+
+-- over no links only row 1 is reached
+only_row1 : {v : ℕ} → Reached (λ x. x ≡ 1) [] v → v ≡ 1
+only_row1 (start e) = e
+only_row1 (step r (inl m)) = absurd (Memᴰ.not-nil m)
+only_row1 (step r (inr m)) = absurd (Memᴰ.not-nil m)
+
+-- so two taxa that nothing links are no connected network
+unlinked : Connected 2 [] → ⊥
+unlinked c = let same : ◌≡◌ {A = ℕ} 2 1 = only_row1 (c.reached 2 (omega arith, omega arith)) in omega arith
 
 -- a ring of three taxa, with one link twice and one from a taxon to itself
 abbrev ring : List (ℕ × ℕ)

@@ -11,6 +11,7 @@ use Rattle.tree_form.specs.Branches.{lent_branching}
 use Rattle.fit_form.specs.Handing.{ask_node}
 use Rattle.fitting.proofs.LastNode.{last_told}
 use Rattle.fitting.proofs.calls.ask_node.Goals as goal
+use Rattle.fitting.proofs.calls.ask_node.Goals.{After-last_node}
 use Rattle.matrix.specs.Lent.{lent_lists}
 
 -- the questions, where those on the matrix have passed
@@ -30,27 +31,29 @@ returns-in_err-ask c =
     let told = err_from_is_err_and c.from_residual.result c.from_residual.ensures.1 in
     rw (told.1, told.2, eq-eqb _ _ size, sym c.ask.ensures ∙ c.in_err-ask.was)
 
+-- so they are asked here
+asked : (c : After-last_node)
+    → ask_node (lent_lists c.args.lent.now) c.args.lent.now.n c.args.lent.now.m c.args.records.now c.args.node c.args.character
+    ≡ ask (one_to c.last_node.result c.args.node) NotThere
+    (ask (one_to c.args.lent.now.m c.args.character) NotThere (ask (lent_branching c.args.lent.now.n c.args.records.now) NotBranching (Ok tt)))
+asked c = passed_on _ _ _ _ _ _ _ (search rules) (sym c.ask.ensures ∙ c.in_ok-ask.was) c.last_node.ensures
+
 pub returns-then-not-one_to : goal.returns-then-not-one_to
 returns-then-not-one_to c =
-    let asked = passed_on (lent_lists c.args.lent.now) c.args.lent.now.n c.args.lent.now.m c.args.records.now c.args.node
-    c.args.character _ (search rules)
-    (sym c.ask.ensures ∙ c.in_ok-ask.was) c.last_node.ensures in
-    rw (asked, sym c.one_to.ensures ∙ c.if-not-one_to.true)
+    rw (asked (goal.at.returns-then-not-one_to c).After-last_node, sym c.one_to.ensures ∙ c.if-not-one_to.true)
 
 pub returns-then-not-one_to-2 : goal.returns-then-not-one_to-2
 returns-then-not-one_to-2 c =
-    let asked = passed_on (lent_lists c.args.lent.now) c.args.lent.now.n c.args.lent.now.m c.args.records.now c.args.node
-    c.args.character _ (search rules)
-    (sym c.ask.ensures ∙ c.in_ok-ask.was) c.last_node.ensures in
-    rw (asked, sym c.one_to.ensures ∙ c.if-not-one_to.false, sym c.one_to-2.ensures ∙ c.if-not-one_to-2.true)
+    rw (
+      asked (goal.at.returns-then-not-one_to-2 c).After-last_node,
+      sym c.one_to.ensures ∙ c.if-not-one_to.false,
+      sym c.one_to-2.ensures ∙ c.if-not-one_to-2.true,
+    )
 
 pub returns-then-not-lent_branching : goal.returns-then-not-lent_branching
 returns-then-not-lent_branching c =
-    let asked = passed_on (lent_lists c.args.lent.now) c.args.lent.now.n c.args.lent.now.m c.args.records.now c.args.node
-    c.args.character _ (search rules)
-    (sym c.ask.ensures ∙ c.in_ok-ask.was) c.last_node.ensures in
     rw (
-      asked,
+      asked (goal.at.returns-then-not-lent_branching c).After-last_node,
       sym c.one_to.ensures ∙ c.if-not-one_to.false,
       sym c.one_to-2.ensures ∙ c.if-not-one_to-2.false,
       sym c.lent_branching.ensures ∙ c.if-not-lent_branching.true,
@@ -58,11 +61,8 @@ returns-then-not-lent_branching c =
 
 pub returns : goal.returns
 returns c =
-    let asked = passed_on (lent_lists c.args.lent.now) c.args.lent.now.n c.args.lent.now.m c.args.records.now c.args.node
-    c.args.character _ (search rules)
-    (sym c.ask.ensures ∙ c.in_ok-ask.was) c.last_node.ensures in
     rw (
-      asked,
+      asked (goal.at.returns c).After-last_node,
       sym c.one_to.ensures ∙ c.if-not-one_to.false,
       sym c.one_to-2.ensures ∙ c.if-not-one_to-2.false,
       sym c.lent_branching.ensures ∙ c.if-not-lent_branching.false,

@@ -1,20 +1,17 @@
 -- `fitting::whole::fit_tree` meets its contract. Assumes nothing.
-use Rattle.std.proofs.Common.{sym, refl, ◌∙◌}
-use Rattle.fitting.specs.Lists.{all_shaped}
+use Rattle.std.proofs.Common.{sym, ◌∙◌}
 use Rattle.matrix_form.proofs.Limits.{shaped-limits}
-use Rattle.fitting.proofs.Shapes.{sizes, not_fitted, tree-fitted}
+use Rattle.fitting.proofs.Shapes.{sizes, both-shaped, matrix-unshaped, lists-unshaped, not_fitted, tree-fitted}
 use Rattle.fitting.proofs.whole.fit_tree.Goals as goal
 
 pub returns-then-not-is_shaped : goal.returns-then-not-is_shaped
-unfolding all_shaped
 returns-then-not-is_shaped c =
-    not_fitted _ _ _ _ _ _ _ _ (rw (sym c.is_shaped.ensures ∙ c.if-not-is_shaped.true) refl) c.no_fit.ensures
+    not_fitted _ _ _ _ _ _ _ _ (matrix-unshaped _ _ _ _ _ _ (sym c.is_shaped.ensures ∙ c.if-not-is_shaped.true)) c.no_fit.ensures
 
 pub returns-then-not-lists_full : goal.returns-then-not-lists_full
-unfolding all_shaped
 returns-then-not-lists_full c =
     not_fitted _ _ _ _ _ _ _ _
-    (rw (sym c.is_shaped.ensures ∙ c.if-not-is_shaped.false, sym c.lists_full.ensures ∙ c.if-not-lists_full.true) refl)
+    (lists-unshaped _ _ _ _ _ _ (sym c.is_shaped.ensures ∙ c.if-not-is_shaped.false) (sym c.lists_full.ensures ∙ c.if-not-lists_full.true))
     c.no_fit-then-not-lists_full.ensures
 
 pub fit_columns-branches-requires : goal.fit_columns-branches-requires
@@ -29,11 +26,10 @@ pub sum_lengths-requires : goal.sum_lengths-requires
 sum_lengths-requires c = rw c.of-plan.ensures (shaped-limits _ _ _ (sym c.is_shaped.ensures ∙ c.if-not-is_shaped.false)).taxa
 
 pub returns : goal.returns
-unfolding all_shaped
 returns c =
     let written = rw c.of-plan.ensures at c.fit_columns-branches.ensures in
     tree-fitted _ _ _ _ _ _ _ _ _ _ _ _
-    (rw (sym c.is_shaped.ensures ∙ c.if-not-is_shaped.false, sym c.lists_full.ensures ∙ c.if-not-lists_full.false) refl)
+    (both-shaped _ _ _ _ _ _ (sym c.is_shaped.ensures ∙ c.if-not-is_shaped.false) (sym c.lists_full.ensures ∙ c.if-not-lists_full.false))
     written (rw c.of-plan.ensures at c.sum_lengths.ensures)
 
 pub invariant_of-nodes : goal.invariant_of-nodes

@@ -26,4 +26,5 @@ returns c =
     c.from_ancestors.ensures
     ∙ ap (put_mid 2 125 (replicate 127 0))
     (c.write_pieces.ensures (λ line. ancestor_in line ∷ []) (λ out line done after e. e) ∙ side_by_side ancestor_in lines 0 (replicate 125 0))
-    ∙ tree_written (map ancestor_in lines) (omega (arith, c.requires.0, length-map lines ancestor_in, length-take c.args.count (lines_of c.args.text.now)))
+    ∙ tree_written (map ancestor_in lines)
+    (omega (arith, c.requires.0, length-map lines ancestor_in, length-take c.args.count (lines_of c.args.text.now)))

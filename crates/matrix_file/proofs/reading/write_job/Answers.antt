@@ -64,8 +64,12 @@ branch_count-requires c =
 pub write_pieces-requires-3 : goal.write_pieces-requires-3
 unfolding lines_of
 write_pieces-requires-3 c =
-    let few = branches_few _ _ c.requires.answered _ c.header_lines.ensures _ c.behind_lines-rows.ensures _ c.behind_lines-behind.ensures _ c.branch_count.ensures in
-    let lines = branches_given _ _ c.requires.answered _ c.header_lines.ensures _ c.behind_lines-rows.ensures _ c.behind_lines-behind.ensures _ c.branch_count.ensures in
+    let few =
+    branches_few _ _ c.requires.answered _ c.header_lines.ensures _ c.behind_lines-rows.ensures _ c.behind_lines-behind.ensures _
+    c.branch_count.ensures in
+    let lines =
+    branches_given _ _ c.requires.answered _ c.header_lines.ensures _ c.behind_lines-rows.ensures _ c.behind_lines-behind.ensures _
+    c.branch_count.ensures in
     record {
       room = omega (arith, few, (lists-full _ _ _ _ c.requires.full_sizes).3);
       enough = omega (arith, lines.more);

@@ -27,7 +27,8 @@ write-requires g c =
 pub loop-i-preserved : goal.loop-i-preserved
 loop-i-preserved g c =
     let walk = c.loop-i.invariant.1 c.loop-i-test.true in
-    let room = item_room c.args.width c.args.count c.loop-i.i c.loop-i-test.true c.loop-i.out (omega (arith, c.requires.room, c.loop-i.invariant.0)) in
+    let room =
+    item_room c.args.width c.args.count c.loop-i.i c.loop-i-test.true c.loop-i.out (omega (arith, c.requires.room, c.loop-i.invariant.0)) in
     let below : c.loop-i.i < length (pieces_at c.args.separator c.args.text.now) = omega (arith, c.requires.enough, c.loop-i-test.true) in (
       search rules,
       λ more. ap (pieces_at c.args.separator) c.cut_piece.ensures.1 ∙ next_rest _ _ _ _ _ c.requires.enough c.loop-i-test.true walk more,
@@ -40,4 +41,5 @@ pub returns : goal.returns
 returns g c =
     let all : c.loop-i.i ≡ c.args.count = omega (arith, c.loop-i-test.false) in
     λ says writes.
-    subst (λ k. PiecesWritten c.args.width says (pieces_at c.args.separator c.args.text.now) c.args.out.now k c.loop-i.out) all (c.loop-i.invariant.2 says writes)
+    subst (λ k. PiecesWritten c.args.width says (pieces_at c.args.separator c.args.text.now) c.args.out.now k c.loop-i.out) all
+    (c.loop-i.invariant.2 says writes)
