@@ -1,7 +1,7 @@
 // The floor of a matrix: the sum over characters of the weight times highest less lowest code among the taxa.
 ghost use Rattle.std.specs.Prelude.{◌≡◌, ◌≤◌};
 ghost use Rattle.consistency.specs.Steps.{FloorOf};
-ghost use Rattle.consistency.specs.Steps.{widened, EndsOf, FloorIn, column_floors};
+ghost use Rattle.consistency.specs.Steps.{narrowed, EndsOf, FloorIn, column_floors};
 ghost use Rattle.matrix.specs.Lent.{lent_lists};
 
 use difference::codes::{higher, lower, part};
@@ -12,13 +12,13 @@ use matrix::lent::Lent;
 use matrix::weights::weight_at;
 use matrix_form::spans::Span;
 
-// The ends of some codes, lowest and highest, with one code more.
-fn widened(code: i32, ends: Span) -> Span
-    ensures { result ≡ widened code ends }
+// The greatest low and the least high end of some states, with those of one taxon more.
+fn narrowed(own: Span, ends: Span) -> Span
+    ensures { result ≡ narrowed own ends }
 {
     Span {
-        low: lower(code, ends.low),
-        high: higher(code, ends.high),
+        low: higher(own.low, ends.low),
+        high: lower(own.high, ends.high),
     }
 }
 
@@ -30,14 +30,16 @@ struct Taxa<'a> {
 }
 
 impl<'a> Taxa<'a> {
-    // The lowest and the highest code of the taxa in character j.
+    // The greatest low and the least high end of the taxa's states in character j, of each its code alone.
     fn ends(&self, j: usize) -> Span
         ensures { EndsOf self.now.nodes.lent.matrix.now self.now.nodes.lent.n j result }
     {
         let matrix = self.nodes.lent.matrix;
         let n = self.nodes.lent.n;
         let last = only(code_at(matrix, n, j));
-        (1..n).fold(last, |ends, v| widened(code_at(matrix, v, j), ends))
+        (1..n).fold(last, |ends, v| {
+            narrowed(only(code_at(matrix, v, j)), ends)
+        })
     }
 
     // The floor of character j, by its weight.
@@ -45,7 +47,7 @@ impl<'a> Taxa<'a> {
         ensures { FloorIn weight self.now.nodes.lent.matrix.now self.now.nodes.lent.n j result }
     {
         let ends = self.ends(j);
-        part(weight, ends.high, ends.low)
+        part(weight, ends.low, lower(ends.low, ends.high))
     }
 
     // The sum of the floors of all characters.

@@ -13,26 +13,27 @@ use Rattle.matrix_form.specs.NodeRows.{rows_of}
 use Rattle.matrix_form.specs.Questions.{one_to, within_limits, ask_code, ask_row_of, ask_rows_of, are_weights, ask_matrix}
 use Rattle.matrix_form.specs.Outcomes.{value, ask_each}
 use Rattle.matrix_form.proofs.Sample.{rows_abcd}
+use Rattle.matrix_form.specs.Spans.{only, singles, spans_of}
 use Rattle.difference_form.specs.Rows.{apart, part, lower, higher, weighing}
 use Rattle.fit_form.specs.Assignments.{character}
-use Rattle.consistency_form.specs.Floor.{left_by, lowest, highest, codes_of, character_floor, floor}
+use Rattle.consistency_form.specs.Floor.{left_by, lowest, highest, states_of, character_floor, floor}
 use Rattle.consistency_form.specs.Index.{IsIndex, divided, index}
 use Rattle.consistency_form.specs.Calls.{floor_answer}
 
 -- the floor of document 01's example A, B, C, D is 3 and 3 and 2; row 1 has the lowest code of characters 2 and 3
-example_floor : floor (weighing (1 ∷ 1 ∷ 1 ∷ [])).step rows_abcd 4 3 ≡ 8
-unfolding floor character_floor codes_of character numbers sum_over highest lowest left_by higher lower part apart weight_of weight_at
+example_floor : floor (weighing (1 ∷ 1 ∷ 1 ∷ [])).step (singles rows_abcd) 4 3 ≡ 8
+unfolding floor character_floor states_of character singles only numbers sum_over highest lowest left_by higher lower part apart weight_of weight_at
 example_floor = refl
 
 -- by the weights 2, 1 and 5 it is 6 and 3 and 10
-weighed-floor : floor (weighing (2 ∷ 1 ∷ 5 ∷ [])).step rows_abcd 4 3 ≡ 19
-unfolding floor character_floor codes_of character numbers sum_over highest lowest left_by higher lower part apart weight_of weight_at
+weighed-floor : floor (weighing (2 ∷ 1 ∷ 5 ∷ [])).step (singles rows_abcd) 4 3 ≡ 19
+unfolding floor character_floor states_of character singles only numbers sum_over highest lowest left_by higher lower part apart weight_of weight_at
 weighed-floor = refl
 
 -- the call for the floor: one character of two taxa with codes 5 and 0, which counts four times
 weighed-answer : floor_answer (matrix_of (set (replicate 16128 (pos 0)) 0 (pos 5)) (4 ∷ replicate 127 1)) 2 1 ≡ value 20
-unfolding floor character_floor codes_of character numbers sum_over highest lowest left_by higher lower part apart weight_of weight_at
-    every row in_range is_weight one_to within_limits ask_each ask_code ask_row_of ask_rows_of are_weights ask_matrix rows_of floor_answer
+unfolding floor character_floor states_of character singles only numbers sum_over highest lowest left_by higher lower part apart weight_of weight_at
+    every row in_range is_weight one_to within_limits ask_each ask_code ask_row_of ask_rows_of are_weights ask_matrix rows_of spans_of floor_answer
 weighed-answer = refl
 
 -- the example's total is 9: 888 thousandths, and 8 left over

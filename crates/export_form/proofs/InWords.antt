@@ -12,7 +12,7 @@ use lib.ListN.{length, take, drop}
 use lib.Seq.{take-append_seam, length-take-le}
 use Rattle.std.specs.Prelude.{Option, Ok, Err, ◌≤ℤ◌}
 use Rattle.matrix_form.specs.Shape.{row, state_at, MatrixLists}
-use Rattle.matrix_form.specs.NodeRows.{rows_of}
+use Rattle.matrix_form.specs.Spans.{spans_of}
 use Rattle.matrix_form.specs.Outcomes.{value, refused, afterwards}
 use Rattle.matrix_form.specs.Refusals.{refusal_number}
 use Rattle.matrix_form.specs.Questions.{ask_matrix}
@@ -149,21 +149,21 @@ module _ (lists : MatrixLists) (new : List ℤ) (n m number : ℕ) (low low' hig
 
   module _ (e : ask_wagner_fit lists n m number low high chosen ≡ Ok tt) where
     -- no choice of states on the Wagner tree has a lower total than the one that comes back
-    pub fit_least : (states : ℕ → ℕ → ℤ) → IsAssignment (rows_of lists.codes m n) n m states
+    pub fit_least : (states : ℕ → ℕ → ℤ) → IsAssignment (spans_of lists m n) n m states
         → r.length ≤ total (weighing lists.weights).step (wagner_in (order_numbered number) lists n m).tree n m states
     fit_least states is = let back = done.handed e in omega (arith, back.1, back.2.least states is)
 
     -- the states in the list of the chosen ones are such a choice, of that total
-    pub fit_chosen : IsAssignment (rows_of lists.codes m n) n m (handed_states (rows_of lists.codes m n) n chosen')
+    pub fit_chosen : IsAssignment (spans_of lists m n) n m (handed_states (spans_of lists m n) n chosen')
         × (total (weighing lists.weights).step (wagner_in (order_numbered number) lists n m).tree n m
-        (handed_states (rows_of lists.codes m n) n chosen')
+        (handed_states (spans_of lists m n) n chosen')
         ≡ r.length)
     fit_chosen = let back = done.handed e in (back.2.assigns, back.2.is_total ∙ back.1)
 
     -- a state lies from the list of the lowest to that of the highest exactly if the HTU has it in some choice of least length
     pub fit_ranges : (v j : ℕ) (s : ℤ) → n < v → v ≤ 2 * n - 2 → 1 ≤ j → j ≤ m
         → ((state_at low' v j ≤ℤ s) × (s ≤ℤ state_at high' v j))
-        ↔ Occurs (weighing lists.weights).step (wagner_in (order_numbered number) lists n m).tree (rows_of lists.codes m n) n m v j s
+        ↔ Occurs (weighing lists.weights).step (wagner_in (order_numbered number) lists n m).tree (spans_of lists m n) n m v j s
     fit_ranges = (done.handed e).2.ranges
 
 -- an index as numbers: where it is divided, 1000 times the floor is the quotient times the total plus the remainder, which is below the
@@ -182,7 +182,7 @@ taxa_apart lists m = node_difference (difference lists.weights) (row lists.codes
 -- the fitted total of a lent branching
 abbrev pub lent_total : MatrixLists → ℕ → ℕ → List ℕ → ℕ
 lent_total lists n m lent =
-    fitted_total (weighing lists.weights).step (ancestors_of n (records_in lent)) (rows_of lists.codes m n) n m
+    fitted_total (weighing lists.weights).step (ancestors_of n (records_in lent)) (spans_of lists m n) n m
 
 -- the calls that leave all lists as they are
 module _ (lists : MatrixLists) (n m : ℕ) where
@@ -213,7 +213,7 @@ module _ (lists : MatrixLists) (n m : ℕ) where
 
   -- which no choice of states on any branching is below
   pub floor_least : ask_matrix lists n m ≡ Ok tt → (tree : List ℕ) → branching n tree ≡ true
-      → (states : ℕ → ℕ → ℤ) → IsAssignment (rows_of lists.codes m n) n m states
+      → (states : ℕ → ℕ → ℤ) → IsAssignment (spans_of lists m n) n m states
       → (floor_exported lists n m).length ≤ total (weighing lists.weights).step tree n m states
   floor_least e tree whole states is =
       rw (floor_said e) ((floor_of_every_lent_matrix lists n m e).least tree whole states is)

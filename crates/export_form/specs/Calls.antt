@@ -1,7 +1,7 @@
 -- What each exported call answers, for all inputs and refusals, and what the lent lists then hold.
 use Rattle.std.specs.Prelude.{◌≡◌, ◌↔◌, List, ◌++◌, ℕ, ◌≤◌, eqb, ℤ, length, drop, Ok}
 use Rattle.matrix_form.specs.Shape.{row, MatrixLists}
-use Rattle.matrix_form.specs.NodeRows.{rows_of}
+use Rattle.matrix_form.specs.Spans.{spans_of}
 use Rattle.matrix_form.specs.Outcomes.{Asked, ask, and_then, on_line, answered, asked_says, afterwards}
 use Rattle.matrix_form.specs.Questions.{ask_matrix}
 use Rattle.matrix_form.specs.declared.refusal.Refusal.TheVariants.{ListSize}
@@ -81,11 +81,11 @@ ask_wagner_fit lists n m number low high chosen =
 
 -- a list of the matrix's shape with one of the states of each HTU of the matrix's own Wagner tree in each of m characters
 abbrev pub states_of_tree : Order → Which → MatrixLists → ℕ → ℕ → List ℤ → List ℤ
-states_of_tree order which lists n m old = states_written which (wagner_in order lists n m).tree (rows_of lists.codes m n) n m old
+states_of_tree order which lists n m old = states_written which (wagner_in order lists n m).tree (spans_of lists m n) n m old
 
 -- the fitted total of the matrix's own Wagner tree
 abbrev pub total_of_tree : Order → MatrixLists → ℕ → ℕ → ℕ
-total_of_tree order lists n m = fitted_total (weighing lists.weights).step (wagner_in order lists n m).tree (rows_of lists.codes m n) n m
+total_of_tree order lists n m = fitted_total (weighing lists.weights).step (wagner_in order lists n m).tree (spans_of lists m n) n m
 
 -- after questions: the fitted total of the matrix's own Wagner tree, or the refusal; the matrix then has the rows of the HTUs, and the
 -- lists hold, in the HTUs' rows and the m columns, lowest, highest and chosen states; all else, and all on a refusal, is as before. The
@@ -105,4 +105,4 @@ pub record FitExported
   pub handed : asked ≡ Ok tt
       → (fit : Fit)
       × (fit.total ≡ r.length)
-      × HandedBack (weighing lists.weights).step (wagner_in order lists n m).tree (rows_of lists.codes m n) n m low' high' chosen' fit
+      × HandedBack (weighing lists.weights).step (wagner_in order lists n m).tree (spans_of lists m n) n m low' high' chosen' fit

@@ -6,7 +6,7 @@ use Prim.Native.Nat.{ℕ}
 use lib.IntN.{ℤ}
 use lib.ListN.{length}
 use Rattle.std.specs.Prelude.{Ok}
-use Rattle.matrix_form.specs.NodeRows.{rows_of}
+use Rattle.matrix_form.specs.Spans.{spans_of}
 use Rattle.matrix_form.specs.Outcomes.{value}
 use Rattle.matrix_form.specs.Questions.{ask_matrix}
 use Rattle.matrix_form.proofs.Passing.{matrix_passes}
@@ -19,7 +19,7 @@ use Rattle.tree_form.specs.declared.order.Order.{Order}
 use Rattle.wagner.specs.Calls.{BuiltFrom}
 use Rattle.wagner_form.specs.Matrix.{wagner_in}
 use Rattle.wagner.proofs.Lengths.{ours-branching}
-use Rattle.wagner.proofs.StillLent.{still_lent, same-taxa}
+use Rattle.wagner.proofs.StillLent.{still_lent, same-states}
 use Rattle.fit_form.specs.Calls.{lists_full}
 use Rattle.fitting.specs.Lists.{TreeFitted}
 use Rattle.fit_form.specs.declared.whole.Fit.{Fit}
@@ -43,12 +43,12 @@ module _ (order : Order) (lists : MatrixLists) (n m : ℕ) (low high chosen : Li
       let passed = (matrix_passes lists n m).0 pass in
       let lent = passed.0 in
       let tree = (wagner_in order lists n m).tree in
-      let rows = rows_of lists.codes m n in
+      let rows = spans_of lists m n in
       let size = sizes _ _ _ full in
       let test = (branching_iff tree n lent.taxon).1 (ours-branching order lists n m lent) in
       let within = branching-plain n tree lent.taxa ∙ test in
       let back : FittedBack (weighing lists.weights).step tree rows n m low low' high high' chosen chosen' fit =
-      rw (same-taxa order lists n m lent) at
+      rw (same-states order lists n m lent) at
       (fitted_back (with_codes lists _) n m tree low low' high high' chosen chosen' fit (rw (done.tree, done.matrix) at of) within
       (still_lent order lists n m lent) passed.1 size.0 size.1 size.2 test) in
       record {

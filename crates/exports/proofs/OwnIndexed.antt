@@ -31,14 +31,15 @@ use Rattle.export_form.specs.Answers.{indexed}
 use Rattle.export_form.specs.Calls.{index_exported}
 use Rattle.export_form.specs.declared.answers.Indexed.{Indexed}
 use Rattle.matrix_form.specs.Shape.{matrix_of}
+use Rattle.matrix_form.specs.Spans.{singles, spans_of}
 
 -- the index of a job's rows on its own branching, by lent weights
 abbrev own_index : List ℕ → Job → Indexed
 own_index weights job =
     indexed
     (value
-    (index (floor (weighing weights).step job.rows job.n job.m)
-    (fitted_total (weighing weights).step (tree_with job.ancestors) job.rows job.n job.m)))
+    (index (floor (weighing weights).step (singles job.rows) job.n job.m)
+    (fitted_total (weighing weights).step (tree_with job.ancestors) (singles job.rows) job.n job.m)))
 
 -- a read of an `F` file, and then the call for an index on what it has written
 pub own-indexed : (file : List ℕ) (old new : LentLists) (r : Result Header Refused) (header : Header) → ReadDone file old new r → r ≡ Ok header
@@ -46,7 +47,7 @@ pub own-indexed : (file : List ℕ) (old new : LentLists) (r : Result Header Ref
     → (job : Job)
     × (read_answer file ≡ value job)
     × (index_exported (matrix_of new.matrix new.weights) header.n header.m new.branches ≡ own_index new.weights job)
-unfolding index_exported index_answer ask_branching
+unfolding index_exported index_answer ask_branching spans_of
 own-indexed file old new r header done e own =
     let told = read_accepting file old new r header done e in
     let job = told.job in

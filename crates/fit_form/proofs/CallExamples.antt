@@ -9,6 +9,7 @@ use Rattle.matrix_form.specs.Shape.{row, in_range, is_weight, last_node, matrix_
 use Rattle.matrix_form.specs.NodeRows.{rows_of, with_rows}
 use Rattle.matrix_form.specs.Questions.{one_to, within_limits, ask_code, ask_row_of, ask_rows_of, are_weights, ask_matrix}
 use Rattle.matrix_form.specs.Outcomes.{value, ask_each}
+use Rattle.matrix_form.specs.Spans.{singles, spans_of}
 use Rattle.tree_form.specs.declared.branch.Branch.{Branch}
 use Rattle.tree_form.specs.Ancestors.{ancestor, descendants}
 use Rattle.tree_form.specs.Nodes.{has_ancestor, in_tree, nodes_in, other_nodes, taxa_placed}
@@ -22,13 +23,13 @@ use Rattle.fit_form.specs.Calls.{Which, Low, High, Chosen, states_written, total
 use Rattle.fit_form.proofs.Examples.{printed, tree_abcd}
 
 -- the states of document 01's HTU #2 in character 3, as in its `H` line
-node_states : states_in tree_abcd rows_abcd 4 6 3 ≡ record { low = pos 0; high = pos 1; chosen = pos 1 }
+node_states : states_in tree_abcd (singles rows_abcd) 4 6 3 ≡ record { low = pos 0; high = pos 1; chosen = pos 1 }
 unfolding printed states_in
 node_states = refl
 
 -- a list of nines with one of the states of the HTUs of that example: rows 5 and 6 begin behind 512 and 640 codes
 abbrev written : Which → List ℤ
-written which = states_written which tree_abcd rows_abcd 4 3 (replicate 645 (pos 9))
+written which = states_written which tree_abcd (singles rows_abcd) 4 3 (replicate 645 (pos 9))
 
 -- what it then holds: three states of #1 and of #2, and all else as before
 abbrev holding : List ℤ → List ℤ → List ℤ
@@ -59,7 +60,7 @@ weighed_total : total_answer (matrix_of (set (set (replicate 16128 (pos 0)) 0 (n
     ≡ value 12
 unfolding printed numbers every same_numbers keep row in_range last_node one_to within_limits ask_each ask_code ask_row_of ask_rows_of
     is_weight
-    are_weights ask_matrix rows_of ancestor descendants has_ancestor in_tree nodes_in other_nodes taxa_placed descendant_count descendants_wanted climbs
+    are_weights ask_matrix rows_of spans_of ancestor descendants has_ancestor in_tree nodes_in other_nodes taxa_placed descendant_count descendants_wanted climbs
     row_one_alone nodes_only htus_in ancestors_in descendants_right all_climb grown growing_tree branching branches_read ancestors_of filled
     named_in_order lent_branching ask_branching total_answer
 weighed_total = refl

@@ -10,7 +10,9 @@ use Rattle.tree_form.specs.Ancestors.{ancestor, descendants}
 use Rattle.tree_form.specs.Nodes.{other_nodes}
 use Rattle.lists.specs.Sums.{sum_over}
 use Rattle.lists.specs.Filters.{keep}
-use Rattle.fit_form.specs.Sets.{only, own_sets, join, nearest_member, insert, in_order, middle, ordered}
+use Rattle.fit_form.specs.Sets.{join, nearest_member, insert, in_order, middle, ordered}
+use Rattle.matrix_form.specs.Spans.{span, only, singles}
+use Rattle.matrix_form.specs.declared.spans.Span.{Span}
 use Rattle.clades.specs.Clades.{Clade, tip, fork}
 use Rattle.fit_form.specs.Clades.{above, clade_at, clades_below}
 use Rattle.clades.specs.ByNode.{value_at}
@@ -19,7 +21,6 @@ use Rattle.fit_form.specs.Assignments.{character, branch_length, total}
 use Rattle.fit_form.specs.Fit.{chosen_state, range, fitted_length, fitted_total, marked}
 use Rattle.fit_form.specs.Marks.{MarkMeans}
 use Rattle.fit_form.proofs.Marks.{plus_of_length, minus_of_none}
-use Rattle.fit_form.proofs.Sets.Distance.{span}
 
 -- [0,1] with [2,2] gives [1,2]
 pub join_apart : join (span (pos 0) (pos 1)) (span (pos 2) (pos 2)) ≡ span (pos 1) (pos 2)
@@ -46,10 +47,10 @@ pub record Printed : Type 0 where
   pub states : List (List (List ℤ))
 
 -- the fit of a matrix as a listing shows it, by weights
-unfoldable pub printed : List ℕ → List ℕ → List (List ℤ) → ℕ → ℕ → Printed
+unfoldable pub printed : List ℕ → List ℕ → List (List Span) → ℕ → ℕ → Printed
 unfolding clades_below clade_at above other_nodes numbers descendants keep ancestor fitted_total marked fitted_length total branch_length
     sum_over apart part weight_at weight_of lower higher chosen_state range state_of range_of row1_range value_at chosen ranges up join nearest_member middle in_order insert only
-    character flat_map
+    character singles flat_map
 printed weights tree rows n m = record {
   lengths = map (fitted_length (weighing weights).step tree rows n m) (other_nodes n);
   marks = map (marked (weighing weights).step tree rows n m) (other_nodes n);
@@ -76,7 +77,7 @@ unfolding printed
 clade_ABCD = refl
 
 -- document 01's `T`, `t` and `H` lines
-pub fit_ABCD : printed (1 ∷ 1 ∷ 1 ∷ []) tree_abcd rows_abcd 4 3 ≡ record {
+pub fit_ABCD : printed (1 ∷ 1 ∷ 1 ∷ []) tree_abcd (singles rows_abcd) 4 3 ≡ record {
   lengths = 1 ∷ 2 ∷ 2 ∷ 2 ∷ 2 ∷ [];
   marks = true ∷ true ∷ true ∷ true ∷ true ∷ [];
   sum_of_lengths = 9;
@@ -89,7 +90,7 @@ unfolding printed
 fit_ABCD = refl
 
 -- with weights 3, 1 and 2 the lengths are others, and all else is the same
-pub fit-weighed : printed (3 ∷ 1 ∷ 2 ∷ []) tree_abcd rows_abcd 4 3 ≡ record {
+pub fit-weighed : printed (3 ∷ 1 ∷ 2 ∷ []) tree_abcd (singles rows_abcd) 4 3 ≡ record {
   lengths = 2 ∷ 2 ∷ 5 ∷ 3 ∷ 6 ∷ [];
   marks = true ∷ true ∷ true ∷ true ∷ true ∷ [];
   sum_of_lengths = 18;
@@ -102,17 +103,17 @@ unfolding printed
 fit-weighed = refl
 
 -- the set of #1 in character 3, from the tips up
-pub set_of_#1 : up ordered (own_sets (character rows_abcd 3)) clade#1 ≡ span (pos 1) (pos 2)
+pub set_of_#1 : up ordered (character (singles rows_abcd) 3) clade#1 ≡ span (pos 1) (pos 2)
 unfolding printed
 set_of_#1 = refl
 
 -- the range of #1 in character 3
-pub range_of_#1 : range tree_abcd rows_abcd 4 5 3 ≡ span (pos 0) (pos 1)
+pub range_of_#1 : range tree_abcd (singles rows_abcd) 4 5 3 ≡ span (pos 0) (pos 1)
 unfolding printed
 range_of_#1 = refl
 
 -- the set of a node from the tips up is not its range
-pub range_not_set : range tree_abcd rows_abcd 4 5 3 ≡ up ordered (own_sets (character rows_abcd 3)) clade#1 → ⊥
+pub range_not_set : range tree_abcd (singles rows_abcd) 4 5 3 ≡ up ordered (character (singles rows_abcd) 3) clade#1 → ⊥
 range_not_set e = never (ap (λ a. a.low) (sym range_of_#1 ∙ e ∙ set_of_#1))
   where
     never : pos 0 ≡ pos 1 → ⊥
@@ -146,7 +147,7 @@ unfolding printed
 clade_five = refl
 
 -- negative states; the chosen state of #2 is the highest of its range in character 1, and the lowest in character 2
-pub fit_five : printed [] tree_five rows_five 5 2 ≡ record {
+pub fit_five : printed [] tree_five (singles rows_five) 5 2 ≡ record {
   lengths = 4 ∷ 0 ∷ 3 ∷ 0 ∷ 2 ∷ 2 ∷ 5 ∷ [];
   marks = true ∷ false ∷ true ∷ false ∷ true ∷ true ∷ true ∷ [];
   sum_of_lengths = 16;
@@ -160,18 +161,18 @@ unfolding printed
 fit_five = refl
 
 -- in both characters the sets of #1 and #2 from the tips up are not their ranges
-pub sets_five : map (λ j. map (up ordered (own_sets (character rows_five j))) (fiveFrom#1 ∷ fiveFrom#2 ∷ [])) (1 ∷ 2 ∷ [])
+pub sets_five : map (λ j. map (up ordered (character (singles rows_five) j)) (fiveFrom#1 ∷ fiveFrom#2 ∷ [])) (1 ∷ 2 ∷ [])
     ≡ (span (negsuc 2) (negsuc 1) ∷ span (negsuc 1) (pos 1) ∷ []) ∷ (span (pos 2) (pos 5) ∷ span (pos 0) (pos 2) ∷ []) ∷ []
 unfolding printed
 sets_five = refl
 
 -- row 1 alone
-pub fit_1 : printed [] (0 ∷ 0 ∷ []) ((pos 7 ∷ []) ∷ []) 1 1 ≡ record { lengths = []; marks = []; sum_of_lengths = 0; states = [] }
+pub fit_1 : printed [] (0 ∷ 0 ∷ []) (singles ((pos 7 ∷ []) ∷ [])) 1 1 ≡ record { lengths = []; marks = []; sum_of_lengths = 0; states = [] }
 unfolding printed
 fit_1 = refl
 
 -- two taxa: one branch and no HTU
-pub fit_2 : printed [] (0 ∷ 0 ∷ 1 ∷ []) ((pos 7 ∷ pos 0 ∷ []) ∷ (negsuc 2 ∷ pos 1 ∷ []) ∷ []) 2 2 ≡ record {
+pub fit_2 : printed [] (0 ∷ 0 ∷ 1 ∷ []) (singles ((pos 7 ∷ pos 0 ∷ []) ∷ (negsuc 2 ∷ pos 1 ∷ []) ∷ [])) 2 2 ≡ record {
   lengths = 11 ∷ [];
   marks = true ∷ [];
   sum_of_lengths = 11;
@@ -188,7 +189,7 @@ abbrev pub tree_3 : List ℕ
 tree_3 = 0 ∷ 0 ∷ 4 ∷ 4 ∷ 1 ∷ []
 
 -- the one HTU has the median of their codes; a branch of length 0 is not marked
-pub fit_3 : printed [] tree_3 rows_3 3 1 ≡ record {
+pub fit_3 : printed [] tree_3 (singles rows_3) 3 1 ≡ record {
   lengths = 2 ∷ 0 ∷ 1 ∷ [];
   marks = true ∷ false ∷ true ∷ [];
   sum_of_lengths = 3;
@@ -199,8 +200,8 @@ fit_3 = refl
 
 -- whatever means what a mark says is `+` for the branch of taxon 2, of length 2, and `-` for that of taxon 3, of length 0
 pub marks_3 : (two three : Bool)
-    → MarkMeans (weighing []).step tree_3 rows_3 3 1 (chosen_state tree_3 rows_3 3) 2 two
-    → MarkMeans (weighing []).step tree_3 rows_3 3 1 (chosen_state tree_3 rows_3 3) 3 three
+    → MarkMeans (weighing []).step tree_3 (singles rows_3) 3 1 (chosen_state tree_3 (singles rows_3) 3) 2 two
+    → MarkMeans (weighing []).step tree_3 (singles rows_3) 3 1 (chosen_state tree_3 (singles rows_3) 3) 3 three
     → (two ≡ true) × (three ≡ false)
 unfolding printed
 marks_3 two three p q = (plus_of_length _ _ _ _ _ _ _ _ p (omega arith), minus_of_none _ _ _ _ _ _ _ _ q refl)

@@ -3,7 +3,7 @@
 use Rattle.std.proofs.Common.{◌≡◌, ℕ, ◌-◌, ◌*◌, ◌<◌, ◌≤◌, ◌≤ℤ◌, ◌↔◌, true, false, Result, Ok, Err, List, ℤ, refl, ap, ◌∙◌, arith}
 use Rattle.lists.specs.Sums.{sum_over}
 use Rattle.matrix_form.specs.Shape.{state_at, MatrixLists}
-use Rattle.matrix_form.specs.NodeRows.{rows_of}
+use Rattle.matrix_form.specs.Spans.{spans_of}
 use Rattle.matrix_form.specs.Outcomes.{value, result_says}
 use Rattle.matrix_form.specs.declared.refusal.Refusal.{Refusal}
 use Rattle.difference_form.specs.Rows.{weighing}
@@ -16,9 +16,10 @@ use Rattle.fit_form.specs.Calls.{Low, High, Chosen, states_written, branch_at, F
 use Rattle.fit_form.specs.Handing.{handed_states, FitHanded, FitAnswer, ask_node, NodeAnswer}
 use Rattle.fit_form.specs.declared.characters.States.{States}
 use Rattle.fit_form.specs.declared.whole.Fit.{Fit}
+use Rattle.matrix_form.specs.declared.spans.Span.{Span}
 
 -- a fit of n taxa and m characters to a tree
-module _ (step : ℕ → ℤ → ℤ → ℕ) (tree : List ℕ) (rows : List (List ℤ)) (n m : ℕ) (fit : Fit) (of : FitOf step tree rows n m fit) where
+module _ (step : ℕ → ℤ → ℤ → ℕ) (tree : List ℕ) (rows : List (List Span)) (n m : ℕ) (fit : Fit) (of : FitOf step tree rows n m fit) where
   -- a branch has its fitted length and its mark
   pub branch_fitted : (v : ℕ) → 2 ≤ v → v ≤ 2 * n - 2
       → ((branch_at fit.branches v).length ≡ fitted_length step tree rows n m v)
@@ -44,8 +45,8 @@ module _ (lists : MatrixLists) (n m : ℕ) (records : List Branch) (low low' hig
   tree = ancestors_of n records
 
   -- the rows of its taxa
-  abbrev rows : List (List ℤ)
-  rows = rows_of lists.codes m n
+  abbrev rows : List (List Span)
+  rows = spans_of lists m n
 
   -- after a refusal its answer is the refusal, and the three lists are as before
   pub fit_refused : (r : Result Fit Refusal) → FitAnswer lists n m records low low' high high' chosen chosen' r → (refusal : Refusal)
@@ -98,16 +99,16 @@ pub node_handed : (lists : MatrixLists) (n m : ℕ) (records : List Branch) (v j
     → NodeAnswer lists n m records v j r → ask_node lists n m records v j ≡ Ok tt
     → (states : States)
     × (r ≡ Ok states)
-    × (states ≡ states_in (ancestors_of n records) (rows_of lists.codes m n) n v j)
+    × (states ≡ states_in (ancestors_of n records) (spans_of lists m n) n v j)
     × ((s : ℤ) → ((states.low ≤ℤ s) × (s ≤ℤ states.high))
-    ↔ Occurs (weighing lists.weights).step (ancestors_of n records) (rows_of lists.codes m n) n m v j s)
+    ↔ Occurs (weighing lists.weights).step (ancestors_of n records) (spans_of lists m n) n m v j s)
 node_handed lists n m records v j r answer e = go r refl (answer.says ∙ rw e)
   where
-    go : (s : Result States Refusal) → r ≡ s → result_says r ≡ value (states_in (ancestors_of n records) (rows_of lists.codes m n) n v j)
+    go : (s : Result States Refusal) → r ≡ s → result_says r ≡ value (states_in (ancestors_of n records) (spans_of lists m n) n v j)
         → (states : States)
         × (r ≡ Ok states)
-        × (states ≡ states_in (ancestors_of n records) (rows_of lists.codes m n) n v j)
+        × (states ≡ states_in (ancestors_of n records) (spans_of lists m n) n v j)
         × ((s : ℤ) → ((states.low ≤ℤ s) × (s ≤ℤ states.high))
-        ↔ Occurs (weighing lists.weights).step (ancestors_of n records) (rows_of lists.codes m n) n m v j s)
+        ↔ Occurs (weighing lists.weights).step (ancestors_of n records) (spans_of lists m n) n m v j s)
     go (Ok states) is says = (states, is, cc, answer.ranges states is)
     go (Err refusal) is says = cc

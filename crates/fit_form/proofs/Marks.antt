@@ -4,8 +4,9 @@ use borrow.Author.Tests.{ltb-true, lt-ltb}
 use Rattle.fit_form.specs.Assignments.{branch_length}
 use Rattle.fit_form.specs.Fit.{chosen_state, fitted_length, marked}
 use Rattle.fit_form.specs.Marks.{MarkMeans}
+use Rattle.matrix_form.specs.declared.spans.Span.{Span}
 
-module _ (step : ℕ → ℤ → ℤ → ℕ) (tree : List ℕ) (rows : List (List ℤ)) (n m v : ℕ) where
+module _ (step : ℕ → ℤ → ℤ → ℕ) (tree : List ℕ) (rows : List (List Span)) (n m v : ℕ) where
   -- the mark of the fit means this of the chosen states
   pub marked_means : MarkMeans step tree rows n m (chosen_state tree rows n) v (marked step tree rows n m v)
   unfolding marked fitted_length

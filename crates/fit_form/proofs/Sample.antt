@@ -17,7 +17,9 @@ use Rattle.tree_form.proofs.Test.{branching_iff}
 use Rattle.fit_form.specs.Sets.{In}
 use Rattle.fit_form.specs.Assignments.{total, IsAssignment, Occurs}
 use Rattle.fit_form.proofs.Examples.{tree_abcd, printed}
-use Rattle.fit_form.proofs.Sets.Distance.{span}
+use Rattle.matrix_form.specs.Spans.{span, singles}
+use Rattle.fit_form.proofs.Sets.Single.{only_code}
+use Rattle.fit_form.proofs.Matrix.Proper.{singles_proper}
 use Rattle.fit_form.proofs.Matrix.ThirdRival.{third_rival}
 
 -- document 01's tree is a branching
@@ -36,18 +38,18 @@ unfolding are_weights is_weight every
 alike-known = refl
 
 -- every assignment leaves D its code -1 in character 1
-taxon_kept : (states : ℕ → ℕ → ℤ) → IsAssignment rows_abcd 4 3 states → states 4 1 ≡ negsuc 0
+taxon_kept : (states : ℕ → ℕ → ℤ) → IsAssignment (singles rows_abcd) 4 3 states → states 4 1 ≡ negsuc 0
 unfolding printed
-taxon_kept states h = h.keeps 4 1 (omega arith) (omega arith) (omega arith) (omega arith)
+taxon_kept states h = only_code (states 4 1) (negsuc 0) (h.keeps 4 1 (omega arith) (omega arith) (omega arith) (omega arith))
 
 -- every assignment has a total of at least 9
-pub at_least_9 : (states : ℕ → ℕ → ℤ) → IsAssignment rows_abcd 4 3 states → 9 ≤ total (weighing alike).step tree_abcd 4 3 states
+pub at_least_9 : (states : ℕ → ℕ → ℤ) → IsAssignment (singles rows_abcd) 4 3 states → 9 ≤ total (weighing alike).step tree_abcd 4 3 states
 unfolding printed
-at_least_9 states h = (third_rival alike 4 3 tree_abcd rows_abcd (omega arith) alike-known branching_ABCD).least states h
+at_least_9 states h = (third_rival alike 4 3 tree_abcd (singles rows_abcd) (omega arith) alike-known (singles_proper rows_abcd 4 3) branching_ABCD).least states h
 
 -- #1 has a state in character 3 of an assignment of least length exactly if it is from 0 to 1
-pub #1-in-character-3 : (s : ℤ) → In s (span (pos 0) (pos 1)) ↔ Occurs (weighing alike).step tree_abcd rows_abcd 4 3 5 3 s
+pub #1-in-character-3 : (s : ℤ) → In s (span (pos 0) (pos 1)) ↔ Occurs (weighing alike).step tree_abcd (singles rows_abcd) 4 3 5 3 s
 unfolding printed
 #1-in-character-3 s =
-    (third_rival alike 4 3 tree_abcd rows_abcd (omega arith) alike-known branching_ABCD
+    (third_rival alike 4 3 tree_abcd (singles rows_abcd) (omega arith) alike-known (singles_proper rows_abcd 4 3) branching_ABCD
     ).ranges 5 3 s (omega arith) (unfold last_node in omega arith) (omega arith) (omega arith)

@@ -6,3 +6,4 @@ pub mod Order
 pub mod Three
 pub mod Single
 pub mod IsKind
+pub mod Near

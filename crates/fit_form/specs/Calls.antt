@@ -2,7 +2,8 @@
 use Rattle.std.specs.Prelude.{◌≡◌, ℕ, ◌+◌, ◌-◌, ◌*◌, ◌≤◌, Bool, false, ◌&&◌, List, map, length, ℤ, ◌==◌, slice_index_or}
 use Rattle.lists.specs.Numbers.{numbers}
 use Rattle.matrix_form.specs.Shape.{matrix_size, MatrixLists}
-use Rattle.matrix_form.specs.NodeRows.{rows_of, with_rows}
+use Rattle.matrix_form.specs.NodeRows.{with_rows}
+use Rattle.matrix_form.specs.Spans.{spans_of}
 use Rattle.matrix_form.specs.Outcomes.{Asked, Outcome, answered, ask}
 use Rattle.matrix_form.specs.declared.refusal.Refusal.TheVariants.{ListSize}
 use Rattle.difference_form.specs.Rows.{weighing}
@@ -14,6 +15,7 @@ use Rattle.fit_form.specs.Fit.{states_in, fitted_length, fitted_total, marked}
 use Rattle.fit_form.specs.declared.characters.States.{States}
 use Rattle.fit_form.specs.declared.whole.BranchFit.{BranchFit}
 use Rattle.fit_form.specs.declared.whole.Fit.{Fit}
+use Rattle.matrix_form.specs.declared.spans.Span.{Span}
 
 -- which of a node's states: the lowest or the highest of its range, or the chosen one
 pub data Which : Type 0 where
@@ -28,7 +30,7 @@ state_in High states = states.high
 state_in Chosen states = states.chosen
 
 -- a list of the matrix's shape with one of the states of each HTU in each of m characters written into the HTUs' rows
-unfoldable pub states_written : Which → List ℕ → List (List ℤ) → ℕ → ℕ → List ℤ → List ℤ
+unfoldable pub states_written : Which → List ℕ → List (List Span) → ℕ → ℕ → List ℤ → List ℤ
 states_written which tree rows n m old =
     with_rows old (n + 1) (map (λ v. map (λ j. state_in which (states_in tree rows n v j)) (numbers 1 m)) (htus n))
 
@@ -41,7 +43,7 @@ abbrev pub branch_at : List BranchFit → ℕ → BranchFit
 branch_at branches v = slice_index_or branches v no_branch
 
 -- a fit handed back: by node number the fitted lengths and the marks of the branches, and 0 and no mark elsewhere; the fitted total
-pub record FitOf (step : ℕ → ℤ → ℤ → ℕ) (tree : List ℕ) (rows : List (List ℤ)) (n m : ℕ) (fit : Fit) : Type 0 where
+pub record FitOf (step : ℕ → ℤ → ℤ → ℕ) (tree : List ℕ) (rows : List (List Span)) (n m : ℕ) (fit : Fit) : Type 0 where
   pub lengths : (v : ℕ) → 2 ≤ v → v ≤ 2 * n - 2 → (branch_at fit.branches v).length ≡ fitted_length step tree rows n m v
   pub no_length : (v : ℕ) → (2 ≤ v → v ≤ 2 * n - 2 → ⊥) → (branch_at fit.branches v).length ≡ 0
   pub marks : (v : ℕ) → 2 ≤ v → v ≤ 2 * n - 2 → (branch_at fit.branches v).mark ≡ marked step tree rows n m v
@@ -52,7 +54,7 @@ pub record FitOf (step : ℕ → ℤ → ℤ → ℕ) (tree : List ℕ) (rows : 
 unfoldable pub total_answer : MatrixLists → ℕ → ℕ → List Branch → Outcome ℕ
 total_answer lists n m records =
     answered (ask_branching lists n m records)
-    (fitted_total (weighing lists.weights).step (ancestors_of n records) (rows_of lists.codes m n) n m)
+    (fitted_total (weighing lists.weights).step (ancestors_of n records) (spans_of lists m n) n m)
 
 -- three lists have the matrix's size
 unfoldable pub lists_full : ℕ → ℕ → ℕ → Bool

@@ -3,7 +3,8 @@ use Rattle.std.specs.Prelude.{◌≡◌, ℕ, ◌-◌, ◌*◌, ◌<◌, ◌≤�
 use Rattle.lists.specs.Sums.{sum_over}
 use Rattle.matrix_form.specs.Shape.{state_at, last_node, MatrixLists}
 use Rattle.matrix_form.specs.Questions.{one_to, ask_matrix}
-use Rattle.matrix_form.specs.NodeRows.{rows_of}
+use Rattle.matrix_form.specs.Spans.{spans_of}
+use Rattle.matrix_form.specs.declared.spans.Span.{Span}
 use Rattle.matrix_form.specs.Outcomes.{Asked, answered, result_says, ask, and_then}
 use Rattle.matrix_form.specs.declared.refusal.Refusal.{Refusal}
 use Rattle.matrix_form.specs.declared.refusal.Refusal.TheVariants.{ListSize, NotThere, NotBranching}
@@ -18,13 +19,14 @@ use Rattle.fit_form.specs.declared.whole.Fit.{Fit}
 use Rattle.fit_form.specs.Fit.{states_in}
 use Rattle.fit_form.specs.Marks.{MarkMeans}
 use Rattle.fit_form.specs.declared.characters.States.{States}
+use Rattle.matrix_form.specs.declared.spans.Span.{Span}
 
--- the states that a list of the matrix's shape gives the HTUs; the taxa have their codes
-unfoldable pub handed_states : List (List ℤ) → ℕ → List ℤ → ℕ → ℕ → ℤ
-handed_states rows n list v j = cond (nat_le v n) (character rows j v) (state_at list v j)
+-- the states that a list of the matrix's shape gives the HTUs; the taxa have the low ends of theirs
+unfoldable pub handed_states : List (List Span) → ℕ → List ℤ → ℕ → ℕ → ℤ
+handed_states rows n list v j = cond (nat_le v n) (character rows j v).low (state_at list v j)
 
 -- what a fit of a tree hands back, by the numbers in the lists and by assignments
-pub record HandedBack (step : ℕ → ℤ → ℤ → ℕ) (tree : List ℕ) (rows : List (List ℤ)) (n m : ℕ) (low high chosen : List ℤ)
+pub record HandedBack (step : ℕ → ℤ → ℤ → ℕ) (tree : List ℕ) (rows : List (List Span)) (n m : ℕ) (low high chosen : List ℤ)
     (fit : Fit) : Type 0 where
   -- a state lies from low to high exactly if the HTU has it in some assignment of least length
   pub ranges : (v j : ℕ) (s : ℤ) → n < v → v ≤ 2 * n - 2 → 1 ≤ j → j ≤ m
@@ -46,11 +48,11 @@ pub record HandedBack (step : ℕ → ℤ → ℤ → ℕ) (tree : List ℕ) (ro
 pub record FitHanded (lists : MatrixLists) (n m : ℕ) (records : List Branch) (low low' high high' chosen chosen' : List ℤ)
     (fit : Fit) : Type 0 where
   pub passed : ask_fit lists n m records low high chosen ≡ Ok tt
-  pub fitted : FitOf (weighing lists.weights).step (ancestors_of n records) (rows_of lists.codes m n) n m fit
-  pub is_low : low' ≡ states_written Low (ancestors_of n records) (rows_of lists.codes m n) n m low
-  pub is_high : high' ≡ states_written High (ancestors_of n records) (rows_of lists.codes m n) n m high
-  pub is_chosen : chosen' ≡ states_written Chosen (ancestors_of n records) (rows_of lists.codes m n) n m chosen
-  pub handed : HandedBack (weighing lists.weights).step (ancestors_of n records) (rows_of lists.codes m n) n m low' high' chosen' fit
+  pub fitted : FitOf (weighing lists.weights).step (ancestors_of n records) (spans_of lists m n) n m fit
+  pub is_low : low' ≡ states_written Low (ancestors_of n records) (spans_of lists m n) n m low
+  pub is_high : high' ≡ states_written High (ancestors_of n records) (spans_of lists m n) n m high
+  pub is_chosen : chosen' ≡ states_written Chosen (ancestors_of n records) (spans_of lists m n) n m chosen
+  pub handed : HandedBack (weighing lists.weights).step (ancestors_of n records) (spans_of lists m n) n m low' high' chosen' fit
 
 -- a question of a fit has refused, and all lists are as before
 pub record NotFitted (lists : MatrixLists) (n m : ℕ) (records : List Branch) (low low' high high' chosen chosen' : List ℤ)
@@ -78,7 +80,7 @@ ask_node lists n m records v j =
 -- the call for node v in character j answers its questions; the states are those of the branching, and a state lies from low to high
 -- exactly if the node, taxon or HTU, has it in some assignment of least length
 pub record NodeAnswer (lists : MatrixLists) (n m : ℕ) (records : List Branch) (v j : ℕ) (r : Result States Refusal) : Type 0 where
-  pub says : result_says r ≡ answered (ask_node lists n m records v j) (states_in (ancestors_of n records) (rows_of lists.codes m n) n v j)
+  pub says : result_says r ≡ answered (ask_node lists n m records v j) (states_in (ancestors_of n records) (spans_of lists m n) n v j)
   pub ranges : (states : States) → r ≡ Ok states → (s : ℤ)
       → ((states.low ≤ℤ s) × (s ≤ℤ states.high))
-      ↔ Occurs (weighing lists.weights).step (ancestors_of n records) (rows_of lists.codes m n) n m v j s
+      ↔ Occurs (weighing lists.weights).step (ancestors_of n records) (spans_of lists m n) n m v j s

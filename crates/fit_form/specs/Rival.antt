@@ -8,10 +8,11 @@ use Rattle.fit_form.specs.Sets.{In}
 use Rattle.fit_form.specs.Assignments.{total, IsAssignment, Occurs}
 use Rattle.fit_form.specs.Fit.{chosen_state, range, fitted_length, fitted_total, marked}
 use Rattle.fit_form.specs.Marks.{MarkMeans}
+use Rattle.matrix_form.specs.declared.spans.Span.{Span}
 
 -- the claim, for a branching of n taxa and the m characters of their rows;
 -- `step j a b` is what a change between states a and b costs in character j
-pub record FitIsLeast (step : ℕ → ℤ → ℤ → ℕ) (tree : List ℕ) (rows : List (List ℤ)) (n m : ℕ) : Type 0 where
+pub record FitIsLeast (step : ℕ → ℤ → ℤ → ℕ) (tree : List ℕ) (rows : List (List Span)) (n m : ℕ) : Type 0 where
   -- our chosen states are an assignment
   pub assigns : IsAssignment rows n m (chosen_state tree rows n)
   -- the fitted lengths of the branches, node by node from 2 to 2n-2, add up to the fitted total

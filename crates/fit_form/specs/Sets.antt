@@ -13,14 +13,6 @@ pub record In (state : ℤ) (a : Span) : Type 0 where
   pub from_low : a.low ≤ℤ state
   pub to_high : state ≤ℤ a.high
 
--- a taxon's set is its code alone
-unfoldable pub only : ℤ → Span
-only state = record { low = state; high = state }
-
--- the taxa's own sets
-abbrev pub own_sets : (ℕ → ℤ) → ℕ → Span
-own_sets code v = only (code v)
-
 -- two sets join to their intersection, or, if that is empty, to the smallest interval that touches both
 unfoldable pub join : Span → Span → Span
 join a b =

@@ -1,14 +1,14 @@
 // The passes over a branching in one character: sets and least costs from the tips up; chosen states and what is outside from row 1 down;
 // ranges from both.
-// Kept: no plainer, the plan serves all characters, and each has codes of its own: a struct of both would be made anew for each, to be taken apart in four passes.
+// Kept: no plainer, the plan serves all characters, and each has sets of its own: a struct of both would be made anew for each, to be taken apart in four passes.
 ghost use Rattle.std.specs.Prelude.{◌≡◌};
-ghost use Rattle.fit_passes.specs.Steps.{taxon_code, Column, PartOf, PartsUp, LeastCost};
-ghost use Rattle.fit_passes.specs.Steps.{state_of, outside_from, SeenDown, states_from, Fits};
+ghost use Rattle.fit_passes.specs.Steps.{taxon_span, Column, PartOf, PartsUp, LeastCost};
+ghost use Rattle.fit_passes.specs.Steps.{row1_seen, outside_from, SeenDown, range_from, states_from, Fits};
 
 use crate::planning::{Plan, sister};
 use branching::tree::tree_index;
 use fit_form::characters::States;
-use fit_sets::spans::{gap, join, middle, nearest_member, only};
+use fit_sets::spans::{gap, join, middle, nearest_member, nearest_members, only};
 use matrix::codes::code_at;
 use matrix_form::spans::Span;
 use std::array;
@@ -21,7 +21,8 @@ pub struct Part {
     pub cost: u64,
 }
 
-// What is found of a node from row 1 down: its chosen state, and the set of all nodes that are not in its clade.
+// What is found of a node from row 1 down: its chosen state, and the set of all nodes that are not in its clade; of row 1 the set of the
+// clade below it.
 #[derive(Clone, Copy, Default)]
 pub struct Seen {
     pub state: i32,
@@ -29,29 +30,26 @@ pub struct Seen {
 }
 
 // Kept: no plainer, the states of lists of the same shape are read by `code_at` as well, and the plan says how many taxa there are.
-// The code of node v in character j if it is one of n taxa; the row of an HTU is not read.
-fn taxon_code(matrix: &[i32], n: usize, v: usize, j: usize) -> Option<i32>
-    ensures { result ≡ taxon_code matrix.now n v j }
+// The states of node v in character j if it is one of n taxa: its code alone; the row of an HTU is not read.
+fn taxon_span(matrix: &[i32], n: usize, v: usize, j: usize) -> Option<Span>
+    ensures { result ≡ taxon_span matrix.now n v j }
 {
-    (v <= n).then(|| code_at(matrix, v, j))
+    (v <= n).then(|| only(code_at(matrix, v, j)))
 }
 
-// The codes of the n taxa in character j; that of taxon v stands at index v.
-pub fn codes_of(matrix: &[i32], n: usize, j: usize) -> [Option<i32>; TREE_SIZE]
+// The own sets of the n taxa in character j; that of taxon v stands at index v.
+pub fn own_sets(matrix: &[i32], n: usize, j: usize) -> [Option<Span>; TREE_SIZE]
     ensures { Column matrix.now n j result }
 {
-    array::from_fn(|v| taxon_code(matrix, n, v, j))
+    array::from_fn(|v| taxon_span(matrix, n, v, j))
 }
 
-// What is found of a node from the tips up: of a taxon from its code, of an HTU, which has none, from its two descendants.
-fn part_of(code: Option<i32>, a: Part, b: Part) -> Part
-    ensures { PartOf code a b result }
+// What is found of a node from the tips up: of a taxon from its own set, of an HTU, which has none, from its two descendants.
+fn part_of(own: Option<Span>, a: Part, b: Part) -> Part
+    ensures { PartOf own a b result }
 {
-    match code {
-        Some(code) => Part {
-            set: only(code),
-            cost: 0,
-        },
+    match own {
+        Some(set) => Part { set, cost: 0 },
         None => Part {
             set: join(a.set, b.set),
             cost: gap(a.set, b.set).wrapping_add(a.cost.wrapping_add(b.cost)),
@@ -61,103 +59,109 @@ fn part_of(code: Option<i32>, a: Part, b: Part) -> Part
 
 // The pass up: against the walk, so that both descendants of an HTU come before it.
 #[tactic(auto, unfolding(tree_walk::specs::Walks::node_at))]
-fn parts_up(codes: &[Option<i32>; TREE_SIZE], plan: &Plan) -> [Part; TREE_SIZE]
-    ensures { PartsUp plan.now.taxa plan.now.tree codes.now result }
+fn parts_up(own: &[Option<Span>; TREE_SIZE], plan: &Plan) -> [Part; TREE_SIZE]
+    ensures { PartsUp plan.now.taxa plan.now.tree own.now result }
 {
     let mut parts = [Part::default(); TREE_SIZE];
     for v in plan.walk.as_slice().iter().rev() {
         let pair = plan.below[*v];
-        parts[*v] = part_of(codes[*v], parts[pair.first], parts[pair.second]);
+        parts[*v] = part_of(own[*v], parts[pair.first], parts[pair.second]);
     }
     parts
 }
 
-// The least cost of a character, from the pass up alone: that of the clade below row 1, and how far row 1's code lies from its set.
-pub fn least_cost(codes: &[Option<i32>; TREE_SIZE], plan: &Plan) -> u64
-    ensures { LeastCost plan.now.taxa plan.now.tree codes.now result }
+// The least cost of a character, from the pass up alone: that of the clade below row 1, and how far row 1's own set lies from its set.
+pub fn least_cost(own: &[Option<Span>; TREE_SIZE], plan: &Plan) -> u64
+    ensures { LeastCost plan.now.taxa plan.now.tree own.now result }
 {
     if plan.n < 2 {
         return 0;
     }
-    let parts = parts_up(codes, plan);
+    let parts = parts_up(own, plan);
     let part = parts[plan.below[1].first];
     part.cost.wrapping_add(gap(part.set, parts[1].set))
 }
 
-// The chosen state of a node: a taxon's code; of an HTU, which has none, the member of its set nearest to the state chosen above.
-fn state_of(code: Option<i32>, set: Span, above: i32) -> i32
-    ensures { result ≡ state_of code set above }
+// What is found of row 1, which has no ancestor: its lowest state among those nearest to the set of the clade below it.
+fn row1_seen(own: Span, below: Span) -> Seen
+    ensures { result ≡ row1_seen own below }
 {
-    match code {
-        Some(code) => code,
-        None => nearest_member(above, set),
+    Seen {
+        state: nearest_members(below, own).low,
+        outside: below,
     }
 }
 
-// What is outside of a node's clade: the code of the node above if that is a taxon, which is row 1; else the join of its sister's set and
-// what is outside of its ancestor's clade.
-fn outside_of(above: Option<i32>, beside: Span, outside: Span) -> Span
+// What is outside of a node's clade: the own set of the node above if that is a taxon, which is row 1; else the join of its sister's set
+// and what is outside of its ancestor's clade.
+fn outside_of(above: Option<Span>, beside: Span, outside: Span) -> Span
     ensures { result ≡ outside_from above beside outside }
 {
     match above {
-        Some(row1) => only(row1),
+        Some(row1) => row1,
         None => join(beside, outside),
     }
 }
 
-// The pass down: along the walk, so that the ancestor of each node comes before it.
+// The pass down: row 1, and then along the walk, so that the ancestor of each node comes before it. Below a taxon that is the only one hangs
+// no clade: its own set stands for that.
 #[tactic(auto, unfolding(tree_walk::specs::Walks::node_at))]
 fn seen_down(
-    codes: &[Option<i32>; TREE_SIZE],
+    own: &[Option<Span>; TREE_SIZE],
     plan: &Plan,
     parts: &[Part; TREE_SIZE],
 ) -> [Seen; TREE_SIZE]
-    ensures { SeenDown plan.now.taxa plan.now.tree codes.now parts.now result }
+    ensures { SeenDown plan.now.taxa plan.now.tree own.now parts.now result }
 {
     let mut seen = [Seen::default(); TREE_SIZE];
-    for v in plan.walk.as_slice() {
-        let u = tree_index(plan.tree.ancestor(*v));
+    let below = parts[plan.below[1].first.max(1)];
+    seen[1] = row1_seen(parts[1].set, below.set);
+    // Kept: unproved, of a slice of the nodes behind the first the check leaves open that each is an index of these lists.
+    for i in 1..plan.walk.count {
+        let v = plan.walk.items[i];
+        let u = tree_index(plan.tree.ancestor(v));
         let above = seen[u];
-        let beside = parts[sister(plan.below[u], *v)];
-        seen[*v] = Seen {
-            state: state_of(codes[*v], parts[*v].set, above.state),
-            outside: outside_of(codes[u], beside.set, above.outside),
+        let beside = parts[sister(plan.below[u], v)];
+        seen[v] = Seen {
+            state: nearest_member(above.state, parts[v].set),
+            outside: outside_of(own[u], beside.set, above.outside),
         };
     }
     seen
 }
 
-// The states of a node: of a taxon three times its code; of an HTU, which has none, the middle of the sets of its descendants and of what
-// is outside, and the chosen state.
-fn states_of(code: Option<i32>, a: Part, b: Part, seen: Seen) -> States
-    ensures { result ≡ states_from code a b seen }
+// The range of a node: of a taxon the members of its own set that are nearest to what is outside; of an HTU, which has none, the middle of
+// the sets of its descendants and of what is outside.
+fn range_of(own: Option<Span>, a: Span, b: Span, outside: Span) -> Span
+    ensures { result ≡ range_from own a b outside }
 {
-    match code {
-        Some(code) => States {
-            low: code,
-            high: code,
-            chosen: code,
-        },
-        None => {
-            let range = middle(a.set, b.set, seen.outside);
-            States {
-                low: range.low,
-                high: range.high,
-                chosen: seen.state,
-            }
-        }
+    match own {
+        Some(own) => nearest_members(outside, own),
+        None => middle(a, b, outside),
+    }
+}
+
+// The states of a node: its range, and the chosen state.
+fn states_of(own: Option<Span>, a: Part, b: Part, seen: Seen) -> States
+    ensures { result ≡ states_from own a b seen }
+{
+    let range = range_of(own, a.set, b.set, seen.outside);
+    States {
+        low: range.low,
+        high: range.high,
+        chosen: seen.state,
     }
 }
 
 // The fit of one character: the states of each node.
-pub fn fit_character(codes: &[Option<i32>; TREE_SIZE], plan: &Plan) -> [States; TREE_SIZE]
-    ensures { Fits plan.now.taxa plan.now.tree codes.now result }
+pub fn fit_character(own: &[Option<Span>; TREE_SIZE], plan: &Plan) -> [States; TREE_SIZE]
+    ensures { Fits plan.now.taxa plan.now.tree own.now result }
 {
-    let parts = parts_up(codes, plan);
-    let seen = seen_down(codes, plan, &parts);
+    let parts = parts_up(own, plan);
+    let seen = seen_down(own, plan, &parts);
     let below = &plan.below;
     array::from_fn(|v| {
         let pair = below[v];
-        states_of(codes[v], parts[pair.first], parts[pair.second], seen[v])
+        states_of(own[v], parts[pair.first], parts[pair.second], seen[v])
     })
 }

@@ -9,7 +9,7 @@ use Rattle.difference_form.proofs.Laws.Codes.{lower-first, lower_second, higher-
 use Rattle.fit_form.specs.Sets.{insert, in_order, six_ends, middle}
 use Rattle.matrix_form.specs.declared.spans.Span.{Span}
 use Rattle.fit_sets.specs.Steps.{carried, Carried}
-use Rattle.fit_form.proofs.Sets.Distance.{span}
+use Rattle.matrix_form.specs.Spans.{span}
 use Rattle.fit_form.proofs.Sets.Order.{Rising, rising_in_order}
 
 -- one place of a list through which a state is carried

@@ -1,8 +1,9 @@
 // Sets of states: closed intervals of whole numbers, for every i32.
 // Kept: no plainer, the definitions are operations on two sets and have these names, which contracts cite: a method would have one set before the other.
 ghost use Rattle.std.specs.Prelude.{◌≡◌, ◌<◌};
-ghost use Rattle.fit_form.specs.Sets.{only, join, nearest_member, middle};
-ghost use Rattle.fit_sets.specs.Steps.{Carried, GapOf};
+ghost use Rattle.matrix_form.specs.Spans.{only};
+ghost use Rattle.fit_form.specs.Sets.{join, nearest_member, middle};
+ghost use Rattle.fit_sets.specs.Steps.{nearest_members, Carried, GapOf};
 
 use difference::codes::{apart, higher, lower};
 use filled::Filled;
@@ -38,6 +39,16 @@ pub fn nearest_member(state: i32, a: Span) -> i32
     ensures { result ≡ nearest_member state a }
 {
     higher(a.low, lower(state, a.high))
+}
+
+// The members of a set that are nearest to another one, by its two ends.
+pub fn nearest_members(other: Span, a: Span) -> Span
+    ensures { result ≡ nearest_members other a }
+{
+    Span {
+        low: nearest_member(other.low, a),
+        high: nearest_member(other.high, a),
+    }
 }
 
 // How far two sets lie from each other; 0 if they meet.

@@ -10,9 +10,10 @@ use Rattle.tree_form.specs.Nodes.{other_nodes}
 use Rattle.fit_form.specs.Assignments.{branch_length, total}
 use Rattle.fit_form.specs.Fit.{chosen_state, fitted_total}
 use Rattle.fit_passes.specs.Steps.{character_length}
+use Rattle.matrix_form.specs.declared.spans.Span.{Span}
 
 -- the fitted total is the sum of the characters' lengths, each as often as its weight says
-pub total-characters : (weights tree : List ℕ) (rows : List (List ℤ)) (n m : ℕ) →
+pub total-characters : (weights tree : List ℕ) (rows : List (List Span)) (n m : ℕ) →
     fitted_total (weighing weights).step tree rows n m ≡ sum_over (λ j. weight_of weights j * character_length tree rows n j) (numbers 1 m)
 unfolding fitted_total total branch_length character_length part
 total-characters weights tree rows n m =

@@ -31,10 +31,10 @@ module _ (lists : MatrixLists) (n m : ℕ) (tree : List ℕ) (low low' high high
       (none.0, none.1, none.2, ap (λ (f : Fit). f.total) none.3)
 
 -- nor are there states of a node
-pub many-unfound : (codes : List ℤ) (n m : ℕ) (tree : List ℕ) (v j : ℕ) (r : States) → StatesOf codes n m tree v j r → 64 < n
+pub many-unfound : (lists : MatrixLists) (n m : ℕ) (tree : List ℕ) (v j : ℕ) (r : States) → StatesOf lists n m tree v j r → 64 < n
     → r ≡ no_states
 unfolding node_shaped
-many-unfound codes n m tree v j r of more = of.unshaped (rw (many-unshaped (length codes) n m more))
+many-unfound lists n m tree v j r of more = of.unshaped (rw (many-unshaped (length lists.codes) n m more))
 
 -- nor is a total counted
 pub many-uncounted : (lists : MatrixLists) (n m : ℕ) (tree : List ℕ) (r : ℕ) → TotalOf lists n m tree r → 64 < n → r ≡ 0

@@ -8,7 +8,8 @@ use Rattle.lists.proofs.Maps.{map_same}
 use Rattle.lists.proofs.Numbers.{numbers-within, length-numbers}
 use Rattle.lists.proofs.Sums.{sum_most}
 use Rattle.matrix_form.specs.Shape.{columns, row_start, last_node, in_range, weight_of, MatrixLists}
-use Rattle.matrix_form.specs.NodeRows.{rows_of, HtusWritten}
+use Rattle.matrix_form.specs.NodeRows.{HtusWritten}
+use Rattle.matrix_form.specs.Spans.{spans_of}
 use Rattle.matrix_form.proofs.NodeRows.{none-written, more-written}
 use Rattle.matrix_form.specs.Questions.{LentMatrix, LentWeights}
 use Rattle.difference_form.specs.Rows.{apart, part, most_part, weighing}
@@ -19,16 +20,17 @@ use Rattle.tree_form.specs.Within.{branching_within}
 use Rattle.tree_walk.proofs.Walks.{branching-rooted}
 use Rattle.fit_form.specs.Assignments.{character, branch_length}
 use Rattle.fit_form.specs.Fit.{chosen_state, states_in, fitted_length, marked}
-use Rattle.fit_passes.specs.Steps.{Column, Fits, states_at}
+use Rattle.fit_passes.specs.Steps.{Each, Known, Column, Fits, states_at}
 use Rattle.fit_form.specs.Calls.{Which, Low, High, Chosen, no_branch, branch_at, state_in, states_written}
 use Rattle.fitting.specs.Lists.{with_column, fitted_branch, marks_in, Lengthened, Written}
 use Rattle.fit_form.specs.declared.characters.States.{States}
 use Rattle.fit_form.specs.declared.whole.BranchFit.{BranchFit}
 use Rattle.lists.proofs.Filling.{sum_next}
-use Rattle.fitting.proofs.Columns.{column-codes, character-known}
+use Rattle.fitting.proofs.Columns.{column-own, character-known}
 use Rattle.fitting.proofs.Rewriting.{column-written, written_none, written_next}
 use Rattle.fit_passes.proofs.Matrix.OnlyCodes.{chosen_state-each}
 use Rattle.fit_passes.proofs.Pass.Standing.{branching_parts, taxa-most, grown_of, last_several}
+use Rattle.matrix_form.specs.declared.spans.Span.{Span}
 
 -- a column of what is the same for each HTU is the same
 column-same : (n j : ℕ) (f g : ℕ → ℤ) (old : List ℤ) → ((v : ℕ) → n < v → v ≤ 2 * n - 2 → f v ≡ g v)
@@ -43,21 +45,21 @@ column-same n j f g old same =
 pub start_written : (lists : MatrixLists) (n m : ℕ) (tree : List ℕ) (low high chosen : List ℤ) →
     Written lists n m 0 tree low low high high chosen chosen (replicate 127 no_branch)
 start_written lists n m tree low high chosen = record {
-  is_low = λ branches lent. sym (written_none Low tree (rows_of lists.codes m n) n low);
-  is_high = λ branches lent. sym (written_none High tree (rows_of lists.codes m n) n high);
-  is_chosen = λ branches lent. sym (written_none Chosen tree (rows_of lists.codes m n) n chosen);
+  is_low = λ branches lent. sym (written_none Low tree (spans_of lists m n) n low);
+  is_high = λ branches lent. sym (written_none High tree (spans_of lists m n) n high);
+  is_chosen = λ branches lent. sym (written_none Chosen tree (spans_of lists m n) n chosen);
   are = λ branches lent weighed v l h. get_d_replicate no_branch 127 v ∙ unfold marked fitted_length branch_length sum_over numbers in refl;
   no_others = λ v out. get_d_replicate no_branch 127 v;
   only = (none-written n m low, none-written n m high, none-written n m chosen);
 }
 
 -- the chosen one of a node's states
-pub chosen_is : (tree : List ℕ) (rows : List (List ℤ)) (n v j : ℕ) → (states_in tree rows n v j).chosen ≡ chosen_state tree rows n v j
+pub chosen_is : (tree : List ℕ) (rows : List (List Span)) (n v j : ℕ) → (states_in tree rows n v j).chosen ≡ chosen_state tree rows n v j
 unfolding states_in
 chosen_is tree rows n v j = refl
 
 -- the fitted length of a branch with one character more
-length-next : (weights tree : List ℕ) (rows : List (List ℤ)) (n j v : ℕ) → 1 ≤ j →
+length-next : (weights tree : List ℕ) (rows : List (List Span)) (n j v : ℕ) → 1 ≤ j →
     fitted_length (weighing weights).step tree rows n (j + 1 - 1) v
     ≡ fitted_length (weighing weights).step tree rows n (j - 1) v
     + part (weight_of weights j) (chosen_state tree rows n v j) (chosen_state tree rows n (ancestor tree v) j)
@@ -84,7 +86,7 @@ times_above_zero w k some = go (ltb 0 k) refl
         ap (ltb 0) (ap (λ i. w * i) none ∙ mul-zero w)
 
 -- the mark of a branch with one character more: its weight, at least 1, does not move it
-mark-next : (weights tree : List ℕ) (rows : List (List ℤ)) (n j v : ℕ) → 1 ≤ j → 1 ≤ weight_of weights j →
+mark-next : (weights tree : List ℕ) (rows : List (List Span)) (n j v : ℕ) → 1 ≤ j → 1 ≤ weight_of weights j →
     marked (weighing weights).step tree rows n (j + 1 - 1) v
     ≡ (marked (weighing weights).step tree rows n (j - 1) v || marks_in (states_in tree rows n v j) (states_in tree rows n (ancestor tree v) j))
 unfolding marked states_in part
@@ -98,8 +100,8 @@ mark-next weights tree rows n j v first some =
 module _ (lists : MatrixLists) (n m : ℕ) (tree : List ℕ) (branches : branching_within n tree ≡ true)
     (lent : LentMatrix lists.codes n m) (weighed : LentWeights lists.weights m) where
   -- the rows of the taxa
-  abbrev rows : List (List ℤ)
-  rows = rows_of lists.codes m n
+  abbrev rows : List (List Span)
+  rows = spans_of lists m n
 
   module _ (v : ℕ) (second : 2 ≤ v) (last : v ≤ 2 * n - 2) where
     -- there are at least two taxa
@@ -118,8 +120,7 @@ module _ (lists : MatrixLists) (n m : ℕ) (tree : List ℕ) (branches : branchi
         → part (weight_of lists.weights j) (chosen_state tree rows n v j) (chosen_state tree rows n (ancestor tree v) j) ≤ most_part
     step-most j first end =
         let grown = grown_of n tree branches several in
-        let known : (u : ℕ) → 1 ≤ u → u ≤ n → in_range (character rows j u)
-        ≡ true = λ u l h. character-known lists.codes n m lent u j l h first end in
+        let known : (u : ℕ) → 1 ≤ u → u ≤ n → Each Known (character rows j u) = λ u l h. character-known lists n m lent u j l h first end in
         part-in_range (weight_of lists.weights j) (chosen_state tree rows n v j) (chosen_state tree rows n (ancestor tree v) j)
         (weight_of_weight lists.weights m weighed.known j first end)
         (chosen_state-each (λ z. in_range z ≡ true) n tree grown rows j known v (omega arith) last)
@@ -137,25 +138,25 @@ module _ (lists : MatrixLists) (n m : ℕ) (tree : List ℕ) (branches : branchi
         rw (length-numbers 1 k) at most
 
 -- one character more
-module _ (lists : MatrixLists) (n m j : ℕ) (first : 1 ≤ j) (last : j ≤ m) (wide : m ≤ columns) (tree : List ℕ) (codes : List (Option ℤ))
-    (column : Column lists.codes n j codes) (states : List States) (fits : Fits n tree codes states) where
+module _ (lists : MatrixLists) (n m j : ℕ) (first : 1 ≤ j) (last : j ≤ m) (wide : m ≤ columns) (tree : List ℕ) (own : List (Option Span))
+    (column : Column lists.codes n j own) (states : List States) (fits : Fits n tree own states) where
   -- the states found
   states-are : branching_within n tree ≡ true → LentMatrix lists.codes n m → (v : ℕ) → 1 ≤ v → v ≤ last_node n
-      → states_at states v ≡ states_in tree (rows_of lists.codes m n) n v j
-  states-are branches lent = fits.are (rows_of lists.codes m n) j (column-codes lists.codes n m lent j first last codes column) branches
+      → states_at states v ≡ states_in tree (spans_of lists m n) n v j
+  states-are branches lent = fits.are (spans_of lists m n) j (column-own lists n m lent j first last own column) branches
 
   -- a list with one of them written
   list-next : (which : Which) (old now new : List ℤ) → branching_within n tree ≡ true → LentMatrix lists.codes n m
-      → now ≡ states_written which tree (rows_of lists.codes m n) n (j - 1) old
+      → now ≡ states_written which tree (spans_of lists m n) n (j - 1) old
       → new ≡ with_column n j (λ v. state_in which (states_at states v)) now
-      → new ≡ states_written which tree (rows_of lists.codes m n) n (j + 1 - 1) old
+      → new ≡ states_written which tree (spans_of lists m n) n (j + 1 - 1) old
   list-next which old now new branches lent before written =
       written
       ∙ column-same n j (λ v. state_in which (states_at states v))
-      (λ v. state_in which (states_in tree (rows_of lists.codes m n) n v j)) now
+      (λ v. state_in which (states_in tree (spans_of lists m n) n v j)) now
       (λ v l h. ap (state_in which) (states-are branches lent v (omega arith) (unfold last_node in omega arith)))
-      ∙ ap (with_column n j (λ v. state_in which (states_in tree (rows_of lists.codes m n) n v j))) before
-      ∙ written_next which tree (rows_of lists.codes m n) n j old first (omega arith)
+      ∙ ap (with_column n j (λ v. state_in which (states_in tree (spans_of lists m n) n v j))) before
+      ∙ written_next which tree (spans_of lists m n) n j old first (omega arith)
 
   -- with one of them written, at most states of HTUs are
   list-only : (which : Which) (old now new : List ℤ) → HtusWritten n m old now
@@ -167,10 +168,10 @@ module _ (lists : MatrixLists) (n m j : ℕ) (first : 1 ≤ j) (last : j ≤ m) 
   -- a branch with one character more
   branch_right : (old new : List BranchFit) → branching_within n tree ≡ true → LentMatrix lists.codes n m → LentWeights lists.weights m
       → Lengthened (weight_of lists.weights j) n tree states old new
-      → (v : ℕ) → 2 ≤ v → v ≤ 2 * n - 2 → branch_at old v ≡ fitted_branch lists.weights tree (rows_of lists.codes m n) n (j - 1) v
-      → branch_at new v ≡ fitted_branch lists.weights tree (rows_of lists.codes m n) n (j + 1 - 1) v
+      → (v : ℕ) → 2 ≤ v → v ≤ 2 * n - 2 → branch_at old v ≡ fitted_branch lists.weights tree (spans_of lists m n) n (j - 1) v
+      → branch_at new v ≡ fitted_branch lists.weights tree (spans_of lists m n) n (j + 1 - 1) v
   branch_right old new branches lent weighed longer v l h before =
-      let rows = rows_of lists.codes m n in
+      let rows = spans_of lists m n in
       let above = above_within lists n m tree branches lent weighed v l h in
       let few = taxa-most n tree branches in
       let end = last_several n (omega arith) in

@@ -8,7 +8,8 @@ use Rattle.lists.proofs.Numbers.{numbers-within, map-numbers, map-beyond, length
 use Rattle.lists.proofs.Stripes.{Narrow, stripes-inside}
 use Rattle.lists.proofs.Sums.{sum_same}
 use Rattle.matrix_form.specs.Shape.{columns, matrix_size, row_start, last_node, state_at, MatrixLists}
-use Rattle.matrix_form.specs.NodeRows.{with_rows, rows_of}
+use Rattle.matrix_form.specs.NodeRows.{with_rows}
+use Rattle.matrix_form.specs.Spans.{only, spans_of}
 use Rattle.matrix_form.specs.Questions.{LentMatrix, LentWeights}
 use Rattle.difference_form.specs.Rows.{weighing}
 use Rattle.tree_form.specs.Ancestors.{ancestor}
@@ -27,10 +28,16 @@ use Rattle.fit_form.specs.Handing.{handed_states, HandedBack}
 use Rattle.fit_form.specs.declared.whole.Fit.{Fit}
 use Rattle.fit_form.proofs.Cases.{either}
 use Rattle.fit_form.proofs.Marks.{means_alike}
+use Rattle.fit_form.proofs.Sets.Single.{only_code}
+use Rattle.fit_form.proofs.Matrix.Proper.{spans_proper}
 use Rattle.fit_form.proofs.Matrix.ThirdRival.{third_rival}
+use Rattle.fitting.proofs.Columns.{character-code}
+use Rattle.fit_form.specs.Assignments.{character}
+use lib.Signed.{≤ℤ_refl}
 use Rattle.fit_passes.proofs.Pass.Standing.{last_several}
 use Rattle.fitting.specs.Lists.{TreeFitted}
 use Rattle.fitting.proofs.Gathering.{chosen_is}
+use Rattle.matrix_form.specs.declared.spans.Span.{Span}
 
 -- rows of m codes are no wider than their indices
 rows_narrow : (f : ℕ → ℕ → ℤ) (m first count : ℕ) → m ≤ columns → Narrow columns (map (λ v. map (f v) (numbers 1 m)) (numbers first count))
@@ -42,7 +49,7 @@ rows_narrow f m first count wide k =
     rw (map-beyond (λ v. map (f v) (numbers 1 m)) [] first count k out) (omega arith))
 
 -- a state written is read back
-pub state_written : (which : Which) (tree : List ℕ) (rows : List (List ℤ)) (n m : ℕ) (old : List ℤ) (v j : ℕ) → length old ≡ matrix_size
+pub state_written : (which : Which) (tree : List ℕ) (rows : List (List Span)) (n m : ℕ) (old : List ℤ) (v j : ℕ) → length old ≡ matrix_size
     → n ≤ 64
     → m ≤ columns → n < v → v ≤ 2 * n - 2 → 1 ≤ j → j ≤ m
     → state_at (states_written which tree rows n m old) v j ≡ state_in which (states_in tree rows n v j)
@@ -65,7 +72,7 @@ state_written which tree rows n m old v j size few wide l h first last =
     ∙ ap (f v) here)
 
 -- both ends of a range are its ends
-pub ends_in : (tree : List ℕ) (rows : List (List ℤ)) (n v j : ℕ) (s a b : ℤ) → a ≡ state_in Low (states_in tree rows n v j)
+pub ends_in : (tree : List ℕ) (rows : List (List Span)) (n v j : ℕ) (s a b : ℤ) → a ≡ state_in Low (states_in tree rows n v j)
     → b ≡ state_in High (states_in tree rows n v j)
     → ((a ≤ℤ s) × (s ≤ℤ b)) ↔ In s (range tree rows n v j)
 unfolding states_in
@@ -76,8 +83,8 @@ module _ (lists : MatrixLists) (n m : ℕ) (lent : LentMatrix lists.codes n m) (
     (whole : branching n tree ≡ true) (low low' high high' chosen chosen' : List ℤ) (low_size : length low ≡ matrix_size)
     (high_size : length high ≡ matrix_size) (chosen_size : length chosen ≡ matrix_size) (fit : Fit) where
   -- the rows of its taxa
-  abbrev rows : List (List ℤ)
-  rows = rows_of lists.codes m n
+  abbrev rows : List (List Span)
+  rows = spans_of lists m n
 
   -- what a change costs
   abbrev step : ℕ → ℤ → ℤ → ℕ
@@ -85,7 +92,7 @@ module _ (lists : MatrixLists) (n m : ℕ) (lent : LentMatrix lists.codes n m) (
 
   -- the claim about the third rival
   claim : FitIsLeast step tree rows n m
-  claim = third_rival lists.weights n m tree rows lent.taxon weighed.known ((branching_iff tree n lent.taxon).0 whole)
+  claim = third_rival lists.weights n m tree rows lent.taxon weighed.known (spans_proper lists n m) ((branching_iff tree n lent.taxon).0 whole)
 
   -- the immediate ancestor of a node is a node
   above : (v : ℕ) → 2 ≤ v → v ≤ 2 * n - 2 → (1 ≤ ancestor tree v) × (ancestor tree v ≤ 2 * n - 2)
@@ -102,7 +109,11 @@ module _ (lists : MatrixLists) (n m : ℕ) (lent : LentMatrix lists.codes n m) (
     unfolding handed_states
     handed-state v j p q l h =
         either v n
-        (λ taxon. rw (le-leb v n taxon) (sym (claim.assigns.keeps v j p taxon l h)))
+        (λ taxon.
+        let code = character-code lists n m lent v j p taxon l h in
+        rw (le-leb v n taxon)
+        (ap (λ (a : Span). a.low) code
+        ∙ unfold only in sym (only_code (chosen_state tree rows n v j) _ (rw code at (claim.assigns.keeps v j p taxon l h)))))
         (λ htu.
         let read : state_at chosen' v j ≡ state_in Chosen (states_in tree rows n v j) =
         ap (λ (list : List ℤ). state_at list v j) is_chosen
@@ -131,7 +142,11 @@ module _ (lists : MatrixLists) (n m : ℕ) (lent : LentMatrix lists.codes n m) (
           (ap (λ (list : List ℤ). state_at list v j) is_high ∙ b) in
           let occurs = claim.ranges v j s (omega arith) (unfold last_node in omega arith) l h in
           (λ between. occurs.0 (ends.0 between), λ o. ends.1 (occurs.1 o));
-      assigns = record { keeps = λ v j p q l h. unfold handed_states in rw (le-leb v n q) };
+      assigns = record {
+        keeps = λ v j p q l h.
+            unfold handed_states in
+            rw (le-leb v n q) (record { from_low = ≤ℤ_refl _; to_high = ((spans_proper lists n m).proper v j p q l h).ordered });
+      };
       is_total = same_total ∙ sym fits.total;
       least = λ states h. omega (arith, claim.least states h, fits.total);
       sums = same-sums ∙ claim.lengths ∙ sym fits.total;
@@ -152,7 +167,7 @@ module _ (lists : MatrixLists) (n m : ℕ) (lent : LentMatrix lists.codes n m) (
             (λ v i. let w = numbers-within 2 (2 * n - 3) v i in fits.lengths v w.0 (omega (arith, w.0, w.1)))
 
 -- what a fitted tree hands back: the fit of a branching, the states written, and what these say of assignments
-pub record FittedBack (step : ℕ → ℤ → ℤ → ℕ) (tree : List ℕ) (rows : List (List ℤ)) (n m : ℕ) (low low' high high' chosen chosen' : List ℤ)
+pub record FittedBack (step : ℕ → ℤ → ℤ → ℕ) (tree : List ℕ) (rows : List (List Span)) (n m : ℕ) (low low' high high' chosen chosen' : List ℤ)
     (fit : Fit) : Type 0 where
   pub fits : FitOf step tree rows n m fit
   pub is_low : low' ≡ states_written Low tree rows n m low
@@ -165,7 +180,7 @@ pub fitted_back : (lists : MatrixLists) (n m : ℕ) (tree : List ℕ) (low low' 
     → TreeFitted lists n m tree low low' high high' chosen chosen' fit
     → branching_within n tree ≡ true → LentMatrix lists.codes n m → LentWeights lists.weights m
     → length low ≡ matrix_size → length high ≡ matrix_size → length chosen ≡ matrix_size → branching n tree ≡ true
-    → FittedBack (weighing lists.weights).step tree (rows_of lists.codes m n) n m low low' high high' chosen chosen' fit
+    → FittedBack (weighing lists.weights).step tree (spans_of lists m n) n m low low' high high' chosen chosen' fit
 fitted_back lists n m tree low low' high high' chosen chosen' fit of within lent weighed low_size high_size chosen_size whole =
     let all = of.fitted within lent weighed low_size high_size chosen_size in
     record {

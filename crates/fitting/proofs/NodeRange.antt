@@ -1,7 +1,7 @@
 -- The states of one node, taxon or HTU, told by assignments, and the answer of the call for them.
 use Rattle.std.proofs.Common.{Result, Ok, Err, ◌≡◌, ℕ, ◌≤◌, true, eqb, ◌↔◌, List, length, ap, ◌∙◌}
 use Rattle.matrix_form.specs.Shape.{last_node, MatrixLists}
-use Rattle.matrix_form.specs.NodeRows.{rows_of}
+use Rattle.matrix_form.specs.Spans.{spans_of}
 use Rattle.matrix_form.specs.Questions.{ask_matrix, one_to, LentMatrix, LentWeights}
 use Rattle.matrix_form.specs.declared.refusal.Refusal.{Refusal}
 use Rattle.matrix_form.specs.declared.refusal.Refusal.TheVariants.{ListSize, NotThere, NotBranching}
@@ -17,6 +17,7 @@ use Rattle.fit_form.specs.Handing.{ask_node, NodeAnswer}
 use Rattle.fit_form.specs.declared.characters.States.{States}
 use Rattle.fitting.proofs.Passed.{size-branching, lent_test}
 use Rattle.fitting.proofs.Handed.{ends_in}
+use Rattle.fit_form.proofs.Matrix.Proper.{spans_proper}
 use Rattle.fit_form.proofs.Matrix.ThirdRival.{third_rival}
 
 -- what passed questions tell of a node and a character
@@ -54,18 +55,18 @@ found_same a b e = cc
 
 -- where no question refuses, the states are those of the node, and its range is that of all assignments of least length
 pub node_answer : (lists : MatrixLists) (n m : ℕ) (records : List Branch) (v j : ℕ) (tree : List ℕ) (r : States)
-    → ask_node lists n m records v j ≡ Ok tt → tree ≡ ancestors_of n records → StatesOf lists.codes n m tree v j r
+    → ask_node lists n m records v j ≡ Ok tt → tree ≡ ancestors_of n records → StatesOf lists n m tree v j r
     → NodeAnswer lists n m records v j (Ok r)
 node_answer lists n m records v j tree r e is of =
     let named = node_named lists n m records v j e in
     let lent = named.lent in
-    let rows = rows_of lists.codes m n in
+    let rows = spans_of lists m n in
     let new = ancestors_of n records in
     let test = lent_test n records named.branches in
     let tested = size-branching lists.codes n m records lent named.branches in
     let found : r ≡ states_in new rows n v j =
     (rw is at of).are tested lent named.node.0 named.node.1 named.character.0 named.character.1 in
-    let claim = third_rival lists.weights n m new rows lent.taxon named.weighed.known ((branching_iff new n lent.taxon).0 test) in
+    let claim = third_rival lists.weights n m new rows lent.taxon named.weighed.known (spans_proper lists n m) ((branching_iff new n lent.taxon).0 test) in
     record {
       says = rw (e, found);
       ranges = λ states same s.

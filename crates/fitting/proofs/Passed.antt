@@ -1,7 +1,7 @@
 -- What passed questions tell of a lent branching: the matrix is lent, and the tree that the records give is a branching.
 use Rattle.std.proofs.Common.{Ok, ◌≡◌, ℕ, true, eqb, List, length, ℤ, sym, ap, ◌∙◌}
 use mathlib.Core.Bool.{and-eq-true_iff}
-use Rattle.matrix_form.specs.NodeRows.{rows_of}
+use Rattle.matrix_form.specs.Spans.{spans_of}
 use Rattle.matrix_form.specs.Outcomes.{value}
 use Rattle.difference_form.specs.Rows.{weighing}
 use Rattle.matrix_form.specs.Questions.{LentMatrix, LentWeights, ask_matrix}
@@ -55,11 +55,11 @@ branching_passed lists n m records e =
 -- what is found of a lent branching that no question refuses is its fitted total
 pub total-is : (lists : MatrixLists) (n m : ℕ) (records : List Branch) (tree : List ℕ) (r : ℕ)
     → ask_branching lists n m records ≡ Ok tt → tree ≡ ancestors_of n records → TotalOf lists n m tree r
-    → r ≡ fitted_total (weighing lists.weights).step (ancestors_of n records) (rows_of lists.codes m n) n m
+    → r ≡ fitted_total (weighing lists.weights).step (ancestors_of n records) (spans_of lists m n) n m
 total-is lists n m records tree r e is of =
     let passed = branching_passed lists n m records e in
     of.costs.is (rw is passed.2) passed.0 passed.1
-    ∙ ap (λ given. fitted_total (weighing lists.weights).step given (rows_of lists.codes m n) n m) is
+    ∙ ap (λ given. fitted_total (weighing lists.weights).step given (spans_of lists m n) n m) is
 
 -- so the call for it answers that
 pub total_passed : (lists : MatrixLists) (n m : ℕ) (records : List Branch) (tree : List ℕ) (r : ℕ)

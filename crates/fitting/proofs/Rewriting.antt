@@ -14,6 +14,7 @@ use Rattle.fit_form.specs.Calls.{Which, state_in, states_written}
 use Rattle.fit_form.proofs.Cases.{either}
 use Rattle.fitting.specs.Lists.{with_column}
 use Rattle.tree_form.specs.Nodes.{htus}
+use Rattle.matrix_form.specs.declared.spans.Span.{Span}
 
 -- stripes without items
 empty_stripes : (vs : List ℕ) (place : ℕ) (old : List ℤ) → stripes columns place (map (λ (v : ℕ). []) vs) old ≡ old
@@ -60,7 +61,7 @@ column-more n j v f old out first is =
     ∙ column-next columns (row_start (n + 1) + (j - 1)) f (n + 1) old (v - (n + 1))
     ∙ ap (λ (k : ℕ). stripes columns (row_start (n + 1) + (j - 1)) (map (λ u. f u ∷ []) (numbers (n + 1) k)) old) (sym more)
 
-module _ (which : Which) (tree : List ℕ) (rows : List (List ℤ)) (n : ℕ) where
+module _ (which : Which) (tree : List ℕ) (rows : List (List Span)) (n : ℕ) where
   -- one of the states of node v in character j
   abbrev state : ℕ → ℕ → ℤ
   state v j = state_in which (states_in tree rows n v j)

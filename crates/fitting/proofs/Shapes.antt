@@ -6,7 +6,7 @@ use Rattle.lists.specs.Numbers.{numbers}
 use Rattle.lists.proofs.Numbers.{numbers-within, length-numbers}
 use Rattle.lists.proofs.Sums.{sum_same, sum_most}
 use Rattle.matrix_form.specs.Shape.{matrix_size, last_node, MatrixLists}
-use Rattle.matrix_form.specs.NodeRows.{rows_of}
+use Rattle.matrix_form.specs.Spans.{spans_of}
 use Rattle.matrix_form.proofs.NodeRows.{none-written}
 use Rattle.matrix_form.specs.Questions.{LentMatrix, LentWeights, matrix_shaped}
 use Rattle.matrix_form.proofs.Limits.{lent_shaped}
@@ -79,10 +79,10 @@ lent-node_shaped codes n m v j lent p q l h =
     rw (lent_shaped codes n m lent, true-one_to m j l h, true-one_to (last_node n) v p q)
 
 -- where they do not, zeros are what the states of a node promise
-pub not_found : (codes : List ℤ) (n m : ℕ) (tree : List ℕ) (v j : ℕ) (r : States) → node_shaped codes n m v j ≡ false → r ≡ no_states
-    → StatesOf codes n m tree v j r
-not_found codes n m tree v j r e none = record {
-  are = λ branches lent p q l h. absurd (true≢false (sym (lent-node_shaped codes n m v j lent p q l h) ∙ e));
+pub not_found : (lists : MatrixLists) (n m : ℕ) (tree : List ℕ) (v j : ℕ) (r : States) → node_shaped lists.codes n m v j ≡ false → r ≡ no_states
+    → StatesOf lists n m tree v j r
+not_found lists n m tree v j r e none = record {
+  are = λ branches lent p q l h. absurd (true≢false (sym (lent-node_shaped lists.codes n m v j lent p q l h) ∙ e));
   unshaped = λ f. none;
 }
 
@@ -99,17 +99,17 @@ tree-fitted lists n m tree low low' high high' chosen chosen' branches total all
 }
   where
     each : branching_within n tree ≡ true → LentMatrix lists.codes n m → LentWeights lists.weights m → (v : ℕ) → 2 ≤ v → v ≤ 2 * n - 2
-        → (branch_at branches v).length ≡ fitted_length (weighing lists.weights).step tree (rows_of lists.codes m n) n m v
+        → (branch_at branches v).length ≡ fitted_length (weighing lists.weights).step tree (spans_of lists m n) n m v
     each whole lent weighed v l h = ap (λ (b : BranchFit). b.length) (written.are whole lent weighed v l h)
 
     sums : branching_within n tree ≡ true → LentMatrix lists.codes n m → LentWeights lists.weights m
         → sum_over (λ v. (branch_at branches v).length) (other_nodes n)
-        ≡ fitted_total (weighing lists.weights).step tree (rows_of lists.codes m n) n m
+        ≡ fitted_total (weighing lists.weights).step tree (spans_of lists m n) n m
     sums whole lent weighed = unfold other_nodes in
-        sum_same (λ v. (branch_at branches v).length) (fitted_length (weighing lists.weights).step tree (rows_of lists.codes m n) n m)
+        sum_same (λ v. (branch_at branches v).length) (fitted_length (weighing lists.weights).step tree (spans_of lists m n) n m)
         (numbers 2 (2 * n - 3))
         (λ v i. let w = numbers-within 2 (2 * n - 3) v i in each whole lent weighed v w.0 (omega (arith, w.0, w.1)))
-        ∙ lengths-total (weighing lists.weights).step n m tree (rows_of lists.codes m n)
+        ∙ lengths-total (weighing lists.weights).step n m tree (spans_of lists m n)
 
     small : branching_within n tree ≡ true → LentMatrix lists.codes n m → LentWeights lists.weights m
         → sum_over (λ v. (branch_at branches v).length) (other_nodes n) < 2 ^ 64
@@ -124,7 +124,7 @@ tree-fitted lists n m tree low low' high high' chosen chosen' branches total all
         omega (arith, most, length-numbers 2 (2 * n - 3))
 
     fits : branching_within n tree ≡ true → LentMatrix lists.codes n m → LentWeights lists.weights m
-        → FitOf (weighing lists.weights).step tree (rows_of lists.codes m n) n m (record { branches = branches; total = total })
+        → FitOf (weighing lists.weights).step tree (spans_of lists m n) n m (record { branches = branches; total = total })
     fits whole lent weighed = record {
       lengths = λ v l h. each whole lent weighed v l h;
       no_length = λ v out. ap (λ (b : BranchFit). b.length) (written.no_others v out);

@@ -5,6 +5,7 @@ use Rattle.lists.specs.Over.{stripes}
 use Rattle.lists.specs.Sums.{sum_over}
 use Rattle.matrix_form.specs.Shape.{columns, matrix_size, row_start, last_node, MatrixLists}
 use Rattle.matrix_form.specs.NodeRows.{rows_of, HtusWritten}
+use Rattle.matrix_form.specs.Spans.{spans_of}
 use Rattle.matrix_form.specs.Questions.{LentMatrix, LentWeights, matrix_shaped, one_to}
 use Rattle.difference_form.specs.Rows.{apart, part, weighing}
 use Rattle.tree_form.specs.Ancestors.{tree_size, ancestor}
@@ -16,6 +17,7 @@ use Rattle.fit_form.specs.Calls.{Which, Low, High, Chosen, state_in, no_branch, 
 use Rattle.fit_form.specs.declared.characters.States.{States}
 use Rattle.fit_form.specs.declared.whole.BranchFit.{BranchFit}
 use Rattle.fit_form.specs.declared.whole.Fit.{Fit}
+use Rattle.matrix_form.specs.declared.spans.Span.{Span}
 
 -- what a function says of its answers is that they are one of the states of a node
 abbrev pub Picks : (States → ℤ → Type 0) → Which → Type 0
@@ -26,7 +28,7 @@ unfoldable pub with_column : ℕ → ℕ → (ℕ → ℤ) → List ℤ → List
 with_column n j f old = stripes columns (row_start (n + 1) + (j - 1)) (map (λ v. f v ∷ []) (htus n)) old
 
 -- the branch of node v in the fit of k characters
-abbrev pub fitted_branch : List ℕ → List ℕ → List (List ℤ) → ℕ → ℕ → ℕ → BranchFit
+abbrev pub fitted_branch : List ℕ → List ℕ → List (List Span) → ℕ → ℕ → ℕ → BranchFit
 fitted_branch weights tree rows n k v =
     record { length = fitted_length (weighing weights).step tree rows n k v; mark = marked (weighing weights).step tree rows n k v }
 
@@ -59,13 +61,13 @@ OnlyHtus n m low low' high high' chosen chosen' = HtusWritten n m low low' × Ht
 pub record Written (lists : MatrixLists) (n m k : ℕ) (tree : List ℕ)
     (low low' high high' chosen chosen' : List ℤ) (branches : List BranchFit) : Type 0 where
   pub is_low : branching_within n tree ≡ true → LentMatrix lists.codes n m → low'
-      ≡ states_written Low tree (rows_of lists.codes m n) n k low
+      ≡ states_written Low tree (spans_of lists m n) n k low
   pub is_high : branching_within n tree ≡ true → LentMatrix lists.codes n m → high'
-      ≡ states_written High tree (rows_of lists.codes m n) n k high
+      ≡ states_written High tree (spans_of lists m n) n k high
   pub is_chosen : branching_within n tree ≡ true → LentMatrix lists.codes n m → chosen'
-      ≡ states_written Chosen tree (rows_of lists.codes m n) n k chosen
+      ≡ states_written Chosen tree (spans_of lists m n) n k chosen
   pub are : branching_within n tree ≡ true → LentMatrix lists.codes n m → LentWeights lists.weights m → (v : ℕ) → 2 ≤ v → v ≤ 2 * n - 2
-      → branch_at branches v ≡ fitted_branch lists.weights tree (rows_of lists.codes m n) n k v
+      → branch_at branches v ≡ fitted_branch lists.weights tree (spans_of lists m n) n k v
   pub no_others : (v : ℕ) → (2 ≤ v → v ≤ 2 * n - 2 → ⊥) → branch_at branches v ≡ no_branch
   pub only : OnlyHtus n m low low' high high' chosen chosen'
 
@@ -83,10 +85,10 @@ pub record TreeFitted (lists : MatrixLists) (n m : ℕ) (tree : List ℕ) (low l
     (fit : Fit) : Type 0 where
   pub fitted : branching_within n tree ≡ true → LentMatrix lists.codes n m → LentWeights lists.weights m
       → length low ≡ matrix_size → length high ≡ matrix_size → length chosen ≡ matrix_size
-      → FitOf (weighing lists.weights).step tree (rows_of lists.codes m n) n m fit
-      × (low' ≡ states_written Low tree (rows_of lists.codes m n) n m low)
-      × (high' ≡ states_written High tree (rows_of lists.codes m n) n m high)
-      × (chosen' ≡ states_written Chosen tree (rows_of lists.codes m n) n m chosen)
+      → FitOf (weighing lists.weights).step tree (spans_of lists m n) n m fit
+      × (low' ≡ states_written Low tree (spans_of lists m n) n m low)
+      × (high' ≡ states_written High tree (spans_of lists m n) n m high)
+      × (chosen' ≡ states_written Chosen tree (spans_of lists m n) n m chosen)
   pub only : OnlyHtus n m low low' high high' chosen chosen'
   pub unshaped : all_shaped lists.codes n m low high chosen ≡ false
       → (low' ≡ low) × (high' ≡ high) × (chosen' ≡ chosen) × (fit ≡ no_fit)
@@ -101,7 +103,7 @@ no_states = record { low = pos 0; high = pos 0; chosen = pos 0 }
 
 -- r are the states of node v in character j of a branching with a lent matrix of n taxa and m characters; where the matrix has not its
 -- shape, or node or character do not exist, they are zeros
-pub record StatesOf (codes : List ℤ) (n m : ℕ) (tree : List ℕ) (v j : ℕ) (r : States) : Type 0 where
-  pub are : branching_within n tree ≡ true → LentMatrix codes n m → 1 ≤ v → v ≤ last_node n → 1 ≤ j → j ≤ m
-      → r ≡ states_in tree (rows_of codes m n) n v j
-  pub unshaped : node_shaped codes n m v j ≡ false → r ≡ no_states
+pub record StatesOf (lists : MatrixLists) (n m : ℕ) (tree : List ℕ) (v j : ℕ) (r : States) : Type 0 where
+  pub are : branching_within n tree ≡ true → LentMatrix lists.codes n m → 1 ≤ v → v ≤ last_node n → 1 ≤ j → j ≤ m
+      → r ≡ states_in tree (spans_of lists m n) n v j
+  pub unshaped : node_shaped lists.codes n m v j ≡ false → r ≡ no_states

@@ -7,7 +7,7 @@ ghost use Rattle.matrix.specs.Lent.{lent_lists};
 
 use branching::tree::Tree;
 use difference::nodes::Nodes;
-use fit_passes::characters::{codes_of, least_cost};
+use fit_passes::characters::{least_cost, own_sets};
 use fit_passes::planning::Plan;
 use matrix::lent::Lent;
 use matrix::weights::weight_at;
@@ -24,11 +24,8 @@ fn cost_of(nodes: &Nodes, plan: &Plan, j: usize) -> u64
     requires { (1 ≤ j) × (j ≤ nodes.now.lent.m) }
     ensures { CostOf (lent_lists nodes.now.lent) plan.now.taxa nodes.now.lent.m plan.now.tree j result }
 {
-    let codes = codes_of(nodes.lent.matrix, plan.taxa(), j);
-    weighed(
-        weight_at(nodes.lent.weights, j - 1),
-        least_cost(&codes, plan),
-    )
+    let own = own_sets(nodes.lent.matrix, plan.taxa(), j);
+    weighed(weight_at(nodes.lent.weights, j - 1), least_cost(&own, plan))
 }
 
 // The sum of the costs of all characters.

@@ -13,7 +13,7 @@ use difference::codes::part;
 use difference::nodes::Nodes;
 use fit_form::characters::States;
 use fit_form::whole::{BranchFit, Fit};
-use fit_passes::characters::{codes_of, fit_character};
+use fit_passes::characters::{fit_character, own_sets};
 use fit_passes::planning::Plan;
 use matrix::MATRIX_SIZE;
 use matrix::codes::index_of_code;
@@ -98,8 +98,8 @@ fn fit_columns(
 {
     let mut branches = [BranchFit::default(); TREE_SIZE];
     for j in 1..nodes.lent.m + 1 {
-        let codes = codes_of(nodes.lent.matrix, plan.taxa(), j);
-        let states = fit_character(&codes, plan);
+        let own = own_sets(nodes.lent.matrix, plan.taxa(), j);
+        let states = fit_character(&own, plan);
         add_lengths(
             &mut branches,
             plan,
@@ -165,7 +165,7 @@ pub fn fit_tree(
 // of another tree, or of codes out of range, is left open: the call has asked for these.
 // Kept: interface, a call that could not fail still cannot: without a matrix of its shape, the node or the character it answers zeros.
 pub fn states_at(lent: &Lent, tree: &Tree, v: usize, j: usize) -> States
-    ensures { StatesOf lent.now.matrix.now lent.now.n lent.now.m (ancestors tree.now) v j result }
+    ensures { StatesOf (lent_lists lent.now) lent.now.n lent.now.m (ancestors tree.now) v j result }
 {
     if !lent.is_shaped() {
         return States::default();
@@ -176,5 +176,5 @@ pub fn states_at(lent: &Lent, tree: &Tree, v: usize, j: usize) -> States
     if !one_to(last_node(lent.n), v) {
         return States::default();
     }
-    fit_character(&codes_of(lent.matrix, lent.n, j), &Plan::of(tree, lent.n))[v]
+    fit_character(&own_sets(lent.matrix, lent.n, j), &Plan::of(tree, lent.n))[v]
 }

@@ -6,7 +6,7 @@ use Prim.Native.Nat.{ℕ}
 use native.Mathlib.Omega.{arith}
 use lib.IntN.{ℤ}
 use Rattle.std.specs.Prelude.{Option}
-use Rattle.matrix_form.specs.NodeRows.{rows_of}
+use Rattle.matrix_form.specs.Spans.{spans_of}
 use Rattle.matrix_form.specs.Questions.{LentMatrix, LentWeights}
 use Rattle.file_form.specs.Job.{Job}
 use Rattle.difference_form.specs.Rows.{Measure, weighing}
@@ -26,6 +26,7 @@ use Rattle.consistency.specs.Steps.{FloorOf}
 use Rattle.consistency.specs.Steps.{IndexOf}
 use Rattle.consistency.proofs.Columns.{floor-most}
 use Rattle.listing_form.specs.Blocks.{lines_of_tree}
+use Rattle.listing_form.specs.Meant.{states_meant}
 use Rattle.listing_form.specs.Listing.{tree_numbers}
 use Rattle.listing_form.proofs.SameLines.{tree_same}
 use Rattle.file_form.specs.Written.{names_in}
@@ -40,7 +41,7 @@ module _ (lists : MatrixLists) (n m : ℕ) (lent : LentMatrix lists.codes n m) (
     (fitted : TreeFitted lists n m tree low low' high high' chosen chosen' fit)
     (least : ℕ) (f : FloorOf lists n m least) (consistency : Option Index) (indexed : IndexOf least fit.total consistency) where
   -- what was found
-  pub fitted_found : FittedOf (weighing lists.weights) (rows_of lists.codes m n) n m tree low' high' chosen'
+  pub fitted_found : FittedOf (weighing lists.weights) (spans_of lists m n) n m tree low' high' chosen'
       (record { fit = fit; index = consistency })
   unfolding states_in
   fitted_found =
@@ -52,24 +53,24 @@ module _ (lists : MatrixLists) (n m : ℕ) (lent : LentMatrix lists.codes n m) (
         states = record {
           low_at = λ v j p q k l.
               ap (λ (list : List ℤ). state_at list v j) found.1
-              ∙ state_written Low tree (rows_of lists.codes m n) n m low v j full.low_full lent.taxa lent.characters p q k l;
+              ∙ state_written Low tree (spans_of lists m n) n m low v j full.low_full lent.taxa lent.characters p q k l;
           high_at = λ v j p q k l.
               ap (λ (list : List ℤ). state_at list v j) found.2
-              ∙ state_written High tree (rows_of lists.codes m n) n m high v j full.high_full lent.taxa lent.characters p q k l;
+              ∙ state_written High tree (spans_of lists m n) n m high v j full.high_full lent.taxa lent.characters p q k l;
           chosen_at = λ v j p q k l.
               ap (λ (list : List ℤ). state_at list v j) found.3
-              ∙ state_written Chosen tree (rows_of lists.codes m n) n m chosen v j full.chosen_full lent.taxa lent.characters p q k l;
+              ∙ state_written Chosen tree (spans_of lists m n) n m chosen v j full.chosen_full lent.taxa lent.characters p q k l;
         };
       }
 
 -- a tree struct, the list of its ancestors, and what was found of it, with the names that lent bytes hold
 module _ (measure : Measure) (job : Job) (given : Tree) (tree : List ℕ) (same : ancestors given ≡ tree)
     (low high chosen : List ℤ) (r : FittedTree)
-    (found : FittedOf measure job.rows job.n job.m (ancestors given) low high chosen r) (lent : List ℕ)
+    (found : FittedOf measure (states_meant job) job.n job.m (ancestors given) low high chosen r) (lent : List ℕ)
     (named : HoldsNames job.n job.names lent) where
   -- the same of the list
-  plain : FittedOf measure job.rows job.n job.m tree low high chosen r
-  plain = subst (λ (list : List ℕ). FittedOf measure job.rows job.n job.m list low high chosen r) same found
+  plain : FittedOf measure (states_meant job) job.n job.m tree low high chosen r
+  plain = subst (λ (list : List ℕ). FittedOf measure (states_meant job) job.n job.m list low high chosen r) same found
 
   -- the lines put for it are those of the numbers printed of the list
   pub tree_put : lines_of_tree job.n (names_in job.n lent) job.m (handed_tree given r low high chosen)

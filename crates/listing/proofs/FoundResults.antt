@@ -19,12 +19,12 @@ use Rattle.wagner.specs.declared.answer.WagnerTree.{WagnerTree}
 use Rattle.wagner_form.specs.Build.{Built, wagner, wagner_length}
 use Rattle.wagner_form.specs.Matrix.{matrix_after, wagner_in}
 use Rattle.wagner.specs.Calls.{BuiltFrom, TreeBuilt}
-use Rattle.wagner.proofs.StillLent.{still_lent, same-taxa}
+use Rattle.wagner.proofs.StillLent.{still_lent, same-states}
 use Rattle.rivals.proofs.Lent.{same-network}
 use Rattle.listing.proofs.Built.{built-whole}
 use Rattle.listing_form.specs.Lines.{joined}
 use Rattle.listing_form.specs.Blocks.{build_lines, lines_of_build}
-use Rattle.listing_form.specs.Meant.{order_meant, links_meant, built_meant}
+use Rattle.listing_form.specs.Meant.{order_meant, links_meant, built_meant, states_meant}
 use Rattle.file_form.specs.Written.{names_in}
 use Rattle.listing.specs.declared.job.FittedTree.{FittedTree}
 use Rattle.listing.specs.declared.job.Results.{Results}
@@ -35,7 +35,8 @@ use Rattle.listing.specs.Found.{FittedOf, ResultsOf, found_lines, result_texts}
 use Rattle.listing_form.proofs.Parts.{built-listing}
 use Rattle.listing.proofs.HandedTexts.{network_text, build_text}
 use Rattle.listing.proofs.FittedTrees.{tree_put}
-use Rattle.matrix_form.specs.Shape.{MatrixLists, matrix_of}
+use Rattle.matrix_form.specs.Shape.{MatrixLists, matrix_of, with_codes}
+use Rattle.matrix_form.specs.Spans.{singles, spans_of}
 
 -- what was found of a matrix, for a job of a `W` file with its rows and the names that lent bytes hold
 module _ (job : Job) (kind : job.kind ≡ Wagner) (codes : List ℤ) (rows : job.rows ≡ rows_of codes job.m job.n) (lent_weights : List ℕ)
@@ -75,13 +76,18 @@ module _ (job : Job) (kind : job.kind ≡ Wagner) (codes : List ℤ) (rows : job
   same-tree : ancestors r.built.tree ≡ (built_meant measure job).tree
   same-tree = found.tree ∙ ap (λ (built : Built). built.tree) same-build
 
+  -- its taxa have the states that the job says
+  same-said : spans_of (matrix_of codes lent_weights) m n ≡ states_meant job
+  unfolding spans_of
+  same-said = sym (ap singles rows)
+
   -- the whole text is the listing of the job
   pub results_listed : result_texts n (names_in n lent) m r low high chosen ≡ joined (listing measure job)
   unfolding result_texts
   results_listed =
       ap joined
       (ap₂ ◌++◌ lines_put
-      (tree_put measure job r.built.tree (built_meant measure job).tree same-tree low high chosen r.fitted (rw rows found.fitted) lent named)
+      (tree_put measure job r.built.tree (built_meant measure job).tree same-tree low high chosen r.fitted (rw same-said at found.fitted) lent named)
       ∙ sym (built-listing measure job kind))
 
 -- n and m of a lent matrix are within their limits
@@ -120,13 +126,13 @@ module _ (order : Order) (lists : MatrixLists) (after : List ℤ) (n m : ℕ) (l
   pub found_lent : LentMatrix after n m
   found_lent = rw found_matrix (still_lent order lists n m lent)
 
-  -- the taxa have the same rows in it
-  found_rows : rows_of after m n ≡ rows_of lists.codes m n
-  found_rows = ap (λ (all : List ℤ). rows_of all m n) found_matrix ∙ same-taxa order lists n m lent
+  -- the taxa have the same states in it
+  found_states : spans_of (with_codes lists after) m n ≡ spans_of lists m n
+  found_states = ap (λ (all : List ℤ). spans_of (with_codes lists all) m n) found_matrix ∙ same-states order lists n m lent
 
   -- what was found
   pub results_found : (low high chosen : List ℤ) (fitted : FittedTree)
-      → FittedOf (weighing lists.weights) (rows_of after m n) n m (ancestors built.tree) low high chosen fitted
+      → FittedOf (weighing lists.weights) (spans_of (with_codes lists after) m n) n m (ancestors built.tree) low high chosen fitted
       → ResultsOf order lists n m low high chosen (record { network = links; built = built; fitted = fitted })
   unfolding wagner_in
   results_found low high chosen fitted of = record {
@@ -135,5 +141,5 @@ module _ (order : Order) (lists : MatrixLists) (after : List ℤ) (n m : ℕ) (l
     tree = found_tree;
     placements = found_placements;
     whole = found_length;
-    fitted = rw found_rows at of;
+    fitted = rw found_states at of;
   }

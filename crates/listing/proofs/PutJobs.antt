@@ -2,7 +2,8 @@
 use mathlib.Core.Path.{◌≡◌, refl, sym, ap, ◌∙◌}
 use mathlib.Core.List.{List}
 use lib.IntN.{ℤ}
-use Rattle.matrix_form.specs.NodeRows.{rows_of}
+use Rattle.matrix_form.specs.Spans.{spans_of}
+use Rattle.matrix_form.specs.Shape.{matrix_of}
 use Rattle.file_form.specs.declared.header.Header.{Header}
 use Rattle.file_form.specs.declared.header.Kind.TheVariants.{Wagner, Own}
 use Rattle.file_form.specs.Written.{LentLists}
@@ -46,11 +47,11 @@ built_put header kind lists low high chosen r given put =
 -- the listing of an `F` file: what was found of its own branching
 pub own_put : (header : Header) → header.kind ≡ Own → (lists : LentLists) (records : List Branch) → records ≡ records_in lists.branches
     → (tree : Tree) → ancestors tree ≡ ancestors_of header.n records → (low high chosen : List ℤ) (r : FittedTree)
-    → FittedOf (weighing lists.weights) (rows_of lists.matrix header.m header.n) header.n header.m (ancestors tree) low high chosen r
+    → FittedOf (weighing lists.weights) (spans_of (matrix_of lists.matrix lists.weights) header.m header.n) header.n header.m (ancestors tree) low high chosen r
     → {old new : Listing}
     → Puts (tree_texts header.n (names_in header.n lists.names) header.m tree r low high chosen) old new
     → ListsJob header lists old new
-unfolding tree_texts
+unfolding tree_texts spans_of
 own_put header kind lists records given tree read low high chosen r found put =
     record {
       is = λ names weights above held.

@@ -2,6 +2,8 @@
 use Rattle.std.specs.Prelude.{◌≡◌, true, List, ◌++◌, ℕ, ℤ, length, take}
 use Rattle.matrix_form.specs.Shape.{matrix_size, row, MatrixLists}
 use Rattle.matrix_form.specs.NodeRows.{rows_of}
+use Rattle.matrix_form.specs.Spans.{spans_of}
+use Rattle.matrix_form.specs.declared.spans.Span.{Span}
 use Rattle.file_form.specs.declared.header.Header.{Header}
 use Rattle.file_form.specs.declared.header.Kind.TheVariants.{Own}
 use Rattle.file_form.specs.Job.{Job}
@@ -43,10 +45,10 @@ pub record StateLists (low high chosen : List ℤ) : Type 0 where
   pub high_full : length high ≡ matrix_size
   pub chosen_full : length chosen ≡ matrix_size
 
--- what was found of a tree by rows, as change is measured: its fit, the index of the fit, and its states in three lists
+-- what was found of a tree by the states of its taxa, as change is measured: its fit, the index of the fit, and its states in three lists
 pub record FittedOf
     (measure : Measure)
-    (rows : List (List ℤ))
+    (rows : List (List Span))
     (n m : ℕ)
     (tree : List ℕ)
     (low high chosen : List ℤ)
@@ -62,7 +64,7 @@ pub record ResultsOf (order : Order) (lists : MatrixLists) (n m : ℕ) (low high
   pub tree : ancestors r.built.tree ≡ (wagner_in order lists n m).tree
   pub placements : HoldsPlacements (wagner_in order lists n m).placements r.built.placements.items r.built.placements.count
   pub whole : r.built.length ≡ wagner_length (difference lists.weights) n (wagner_in order lists n m)
-  pub fitted : FittedOf (weighing lists.weights) (rows_of lists.codes m n) n m (ancestors r.built.tree) low high chosen r.fitted
+  pub fitted : FittedOf (weighing lists.weights) (spans_of lists m n) n m (ancestors r.built.tree) low high chosen r.fitted
 
 -- the numbers handed in of a tree: its ancestors, its fit with the index, and the states in three lists
 abbrev pub handed_tree : Tree → FittedTree → List ℤ → List ℤ → List ℤ → PrintedTree

@@ -11,6 +11,7 @@ use Rattle.tree_form.specs.Placing.{no_placement}
 use Rattle.wagner.specs.Calls.{most_placements}
 use Rattle.branching.specs.Views.{ancestors}
 use Rattle.matrix_form.specs.Shape.{state_at}
+use Rattle.matrix_form.specs.declared.spans.Span.{Span}
 use Rattle.fit_form.specs.Fit.{chosen_state, range}
 use Rattle.fit_form.specs.Calls.{branch_at}
 use Rattle.fit_form.specs.declared.whole.Fit.{Fit}
@@ -38,7 +39,7 @@ pub record HoldsPlacements (placements array : List Placement) (number : ℕ) : 
   pub count : number ≡ length placements
 
 -- lists of the matrix's shape hold the lowest, the highest and the chosen states of the HTUs
-pub record HoldsStates (tree : List ℕ) (rows : List (List ℤ)) (n m : ℕ) (low high chosen : List ℤ) : Type 0 where
+pub record HoldsStates (tree : List ℕ) (rows : List (List Span)) (n m : ℕ) (low high chosen : List ℤ) : Type 0 where
   pub low_at : (v j : ℕ) → n < v → v ≤ 2 * n - 2 → 1 ≤ j → j ≤ m → state_at low v j ≡ (range tree rows n v j).low
   pub high_at : (v j : ℕ) → n < v → v ≤ 2 * n - 2 → 1 ≤ j → j ≤ m → state_at high v j ≡ (range tree rows n v j).high
   pub chosen_at : (v j : ℕ) → n < v → v ≤ 2 * n - 2 → 1 ≤ j → j ≤ m → state_at chosen v j ≡ chosen_state tree rows n v j

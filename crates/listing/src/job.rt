@@ -1,6 +1,6 @@
 // The listing of a job: what is computed from lists, and the blocks of lines put for it in their order.
 ghost use Rattle.std.specs.Prelude.{◌≡◌, true};
-ghost use Rattle.matrix_form.specs.NodeRows.{rows_of};
+ghost use Rattle.matrix_form.specs.Spans.{spans_of};
 ghost use Rattle.matrix_form.specs.Questions.{MatrixLent};
 ghost use Rattle.matrix_form.specs.Shape.{matrix_of};
 ghost use Rattle.matrix.specs.Lent.{lent_lists};
@@ -154,7 +154,7 @@ impl Lists {
 fn fitted_of(lent: &Lent, tree: &Tree, ranges: &mut Ranges) -> FittedTree
     requires lent_matrix { MatrixLent (lent_lists lent.now) lent.now.n lent.now.m }
     requires branching { branching_within lent.now.n (ancestors tree.now) ≡ true }
-    ensures { FittedOf (weighing lent.now.weights.now) (rows_of lent.now.matrix.now lent.now.m lent.now.n) lent.now.n lent.now.m (ancestors tree.now)
+    ensures { FittedOf (weighing lent.now.weights.now) (spans_of (lent_lists lent.now) lent.now.m lent.now.n) lent.now.n lent.now.m (ancestors tree.now)
         ranges.new.low ranges.new.high ranges.new.chosen result }
 {
     let floor = floor_of(lent);

@@ -11,6 +11,7 @@ use Rattle.lists.specs.Numbers as lists-Numbers
 use Rattle.lists.specs.Least as lists-Least
 use Rattle.lists.specs.Pairs as lists-Pairs
 use Rattle.matrix_form.specs.NodeRows as matrix-NodeRows
+use Rattle.matrix_form.specs.Spans as matrix-Spans
 use Rattle.matrix_form.specs.Outcomes as matrix-Outcomes
 use Rattle.matrix_form.specs.Questions as matrix-Questions
 use Rattle.difference_form.specs.Rows as difference-Rows
@@ -90,13 +91,13 @@ unfolding flat_map matrix-Shape.row matrix-Shape.in_range matrix-Shape.last_node
     branching-Placing.link_first branching-Placing.hang branching-Placing.place_on branching-Placing.place
     wagner-Next.by_advancement wagner-Next.hangings wagner-Next.taxon_of wagner-Next.by_closeness wagner-Next.next_by lists-Pairs.pairs
     wagner-Build.added_length wagner-Build.build_on wagner-Build.build wagner-Build.wagner wagner-Build.wagner_length
-    wagner-Build.wagner_branches fitting-Sets.only fitting-Sets.join fitting-Sets.nearest_member fitting-Sets.insert fitting-Sets.in_order
+    wagner-Build.wagner_branches fitting-Sets.join fitting-Sets.nearest_member fitting-Sets.insert fitting-Sets.in_order
     fitting-Sets.middle fitting-Clades.above fitting-Clades.clade_at fitting-Clades.clades_below clades-ByNode.value_at
     clades-Character.up clades-Character.chosen clades-Character.ranges clades-Character.row1_range
-    clades-Character.state_of clades-Character.range_of fitting-Assignments.character
+    clades-Character.state_of clades-Character.range_of fitting-Assignments.character matrix-Spans.only matrix-Spans.singles
     fitting-Assignments.branch_length fitting-Assignments.total fitting-Fit.chosen_state fitting-Fit.range fitting-Fit.fitted_length
     fitting-Fit.fitted_total fitting-Fit.marked consistency-Floor.left_by consistency-Floor.lowest consistency-Floor.highest
-    consistency-Floor.codes_of consistency-Floor.character_floor consistency-Floor.floor consistency-Index.index lines-Lines.line lines-Lines.hyphen lines-Lines.htu_name lines-Lines.node_name
+    consistency-Floor.states_of consistency-Floor.character_floor consistency-Floor.floor consistency-Index.index lines-Lines.line lines-Lines.hyphen lines-Lines.htu_name lines-Lines.node_name
     lines-Kinds.total_line lines-Kinds.index_line lines-Kinds.mark lines-Kinds.prim_line lines-Kinds.wagner_line lines-Kinds.branch_line
     lines-Kinds.state_line lines-Kinds.refusal_line listing-Meant.tree_for listing-Blocks.network_lines listing-Blocks.build_lines
     listing-Blocks.fitted_line listing-Blocks.fitted_lines listing-Blocks.state_line_of listing-Blocks.node_lines listing-Blocks.state_lines listing-Blocks.lines_of_build listing-Blocks.lines_of_tree

@@ -28,7 +28,7 @@ use Rattle.consistency_form.specs.declared.index.Index.{Index}
 use Rattle.consistency_form.proofs.Division.{quotient_most}
 use Rattle.rivals.specs.Demand.{BuildIsLeast}
 use Rattle.listing_form.specs.Lines.{joined}
-use Rattle.listing_form.specs.Meant.{order_meant, measure_meant}
+use Rattle.listing_form.specs.Meant.{order_meant, measure_meant, states_meant}
 use Rattle.listing_form.specs.Blocks.{PrintedTree, lines_of_build, lines_of_tree}
 use Rattle.listing_form.specs.Listing.{output}
 use Rattle.listing_form.specs.InPrint.{TreeLeast, NoRivalInPrint, OwnInPrint}
@@ -67,32 +67,32 @@ module _ (job : Job) (x : PrintedTree) (of : TreeLeast job x) where
   minus_at_zero v first last = minus_zero (x.marks v) (x.lengths v) (plus_above_zero job x of v first last)
 
   -- no choice of states has a lower total than `t`
-  pub none_below_t : (rival : ℕ → ℕ → ℤ) → IsAssignment job.rows job.n job.m rival
+  pub none_below_t : (rival : ℕ → ℕ → ℤ) → IsAssignment (states_meant job) job.n job.m rival
       → x.t ≤ total (measure_meant job).step x.tree job.n job.m rival
   none_below_t = of.no_states_shorter
 
   -- so the chosen states of the `H` lines are an assignment of least length
-  pub chosen_least : IsLeast (measure_meant job).step x.tree job.rows job.n job.m x.chosen
+  pub chosen_least : IsLeast (measure_meant job).step x.tree (states_meant job) job.n job.m x.chosen
   chosen_least =
       record { assigns = of.assigns; least = λ rival is. omega (arith, of.t_length, of.no_states_shorter rival is) }
 
   -- the floor is no higher than any total of any branching of the taxa
-  pub floor_below_all : (tree : List ℕ) → branching job.n tree ≡ true → (states : ℕ → ℕ → ℤ) → IsAssignment job.rows job.n job.m states
-      → floor (measure_meant job).step job.rows job.n job.m ≤ total (measure_meant job).step tree job.n job.m states
+  pub floor_below_all : (tree : List ℕ) → branching job.n tree ≡ true → (states : ℕ → ℕ → ℤ) → IsAssignment (states_meant job) job.n job.m states
+      → floor (measure_meant job).step (states_meant job) job.n job.m ≤ total (measure_meant job).step tree job.n job.m states
   floor_below_all = of.floor_lowest.least
 
   -- so it is no higher than `t`
-  pub floor_below_t : floor (measure_meant job).step job.rows job.n job.m ≤ x.t
+  pub floor_below_t : floor (measure_meant job).step (states_meant job) job.n job.m ≤ x.t
   floor_below_t = omega (arith, of.t_length, floor_below_all x.tree of.whole x.chosen of.assigns)
 
   -- a line `c` with two numbers: 1000 times the floor is the first times `t` plus the second, which is below `t`; the first is at most 1000
   pub c_divides : (quotient remainder : ℕ) → x.c ≡ Some (record { quotient = quotient; remainder = remainder })
-      → (thousand * floor (measure_meant job).step job.rows job.n job.m ≡ quotient * x.t + remainder)
+      → (thousand * floor (measure_meant job).step (states_meant job) job.n job.m ≡ quotient * x.t + remainder)
       × (remainder < x.t) × (quotient ≤ thousand)
   c_divides quotient remainder said =
-      let is = subst (IsIndex (floor (measure_meant job).step job.rows job.n job.m) x.t) said of.c_index in
-      let whole = parts (floor (measure_meant job).step job.rows job.n job.m) x.t quotient remainder is in
-      (whole.0, whole.1, quotient_most (floor (measure_meant job).step job.rows job.n job.m) x.t quotient remainder floor_below_t is)
+      let is = subst (IsIndex (floor (measure_meant job).step (states_meant job) job.n job.m) x.t) said of.c_index in
+      let whole = parts (floor (measure_meant job).step (states_meant job) job.n job.m) x.t quotient remainder is in
+      (whole.0, whole.1, quotient_most (floor (measure_meant job).step (states_meant job) job.n job.m) x.t quotient remainder floor_below_t is)
     where
       parts : (lowest total quotient remainder : ℕ) → IsIndex lowest total (Some (record { quotient = quotient; remainder = remainder }))
           → (thousand * lowest ≡ quotient * total + remainder) × (remainder < total)
@@ -100,7 +100,7 @@ module _ (job : Job) (x : PrintedTree) (of : TreeLeast job x) where
 
   -- a line `c` with two hyphens: exactly if `t` is 0
   pub c_none : (x.c ≡ None) ↔ (x.t ≡ 0)
-  c_none = by (floor (measure_meant job).step job.rows job.n job.m) x.t x.c of.c_index
+  c_none = by (floor (measure_meant job).step (states_meant job) job.n job.m) x.t x.c of.c_index
     where
       by : (lowest total : ℕ) (i : Option Index) → IsIndex lowest total i → (i ≡ None) ↔ (total ≡ 0)
       by lowest total i (divided quotient remainder e below) =
@@ -115,7 +115,7 @@ module _ (job : Job) (x : PrintedTree) (of : TreeLeast job x) where
 
     -- a state lies from the lowest to the highest of an `H` line exactly if the HTU has it in some choice of states of total `t`
     pub h_line_exactly : (s : ℤ) → ((x.low v j ≤ℤ s) × (s ≤ℤ x.high v j))
-        ↔ ((states : ℕ → ℕ → ℤ) × IsAssignment job.rows job.n job.m states
+        ↔ ((states : ℕ → ℕ → ℤ) × IsAssignment (states_meant job) job.n job.m states
         × (total (measure_meant job).step x.tree job.n job.m states ≡ x.t) × (states v j ≡ s))
     h_line_exactly s =
         let exactly = of.range_exactly v j s htu last one most in (
@@ -185,7 +185,7 @@ module _ (file : List ℕ) (job : Job) (x : NoRivalInPrint file job) where
     built_whole = rw (sym (tree_of_build file job kind x)) x.tree_least.whole
 
     -- no choice of states on the tree built has a lower total than `t`
-    pub none_below_t_built : (rival : ℕ → ℕ → ℤ) → IsAssignment job.rows job.n job.m rival
+    pub none_below_t_built : (rival : ℕ → ℕ → ℤ) → IsAssignment (states_meant job) job.n job.m rival
         → x.tree.t ≤ total (measure_meant job).step x.built.built.tree job.n job.m rival
     none_below_t_built = rw (sym (tree_of_build file job kind x)) x.tree_least.no_states_shorter
 
@@ -196,6 +196,6 @@ module _ (file : List ℕ) (job : Job) (x : OwnInPrint file job) where
   own_lines = x.lines
 
   -- no choice of states on the file's own branching has a lower total than `t`
-  pub own_none_below_t : job.kind ≡ Own → (rival : ℕ → ℕ → ℤ) → IsAssignment job.rows job.n job.m rival
+  pub own_none_below_t : job.kind ≡ Own → (rival : ℕ → ℕ → ℤ) → IsAssignment (states_meant job) job.n job.m rival
       → x.tree.t ≤ total (measure_meant job).step (tree_with job.ancestors) job.n job.m rival
   own_none_below_t kind = rw (sym (tree_of_file file job kind x)) x.tree_least.no_states_shorter

@@ -19,7 +19,7 @@ use Rattle.wagner_form.specs.Build.{wagner_length, added_length}
 use Rattle.wagner_form.proofs.Difference.{wagner-length}
 use Rattle.fit_form.specs.Fit.{fitted_length, fitted_total}
 use Rattle.fit_form.proofs.Matrix.Totals.{lengths-total}
-use Rattle.listing_form.specs.Meant.{order_meant, measure_meant, links_meant, built_meant}
+use Rattle.listing_form.specs.Meant.{order_meant, measure_meant, links_meant, built_meant, states_meant}
 
 -- `p` is the sum of the lengths of the `P` lines
 pub prim_total_lem : (measure : Measure) (job : Job)
@@ -29,9 +29,9 @@ prim_total_lem measure job = refl
 
 -- `t` is the sum of the lengths of the `T` lines
 pub tree-total : (measure : Measure) (job : Job) (tree : List ℕ)
-    → fitted_total measure.step tree job.rows job.n job.m
-    ≡ sum_over (fitted_length measure.step tree job.rows job.n job.m) (other_nodes job.n)
-tree-total measure job tree = sym (lengths-total measure.step job.n job.m tree job.rows)
+    → fitted_total measure.step tree (states_meant job) job.n job.m
+    ≡ sum_over (fitted_length measure.step tree (states_meant job) job.n job.m) (other_nodes job.n)
+tree-total measure job tree = sym (lengths-total measure.step job.n job.m tree (states_meant job))
 
 module _ (job : Job) (within : JobWithinLimits job) where
   -- each row has m codes

@@ -18,7 +18,7 @@ use Rattle.consistency_form.specs.Floor.{floor, FloorNeverPasses}
 use Rattle.consistency_form.specs.Index.{IsIndex}
 use Rattle.rivals.specs.Demand.{BuildIsLeast}
 use Rattle.listing_form.specs.Lines.{joined}
-use Rattle.listing_form.specs.Meant.{order_meant, measure_meant, links_meant, built_meant, tree_meant}
+use Rattle.listing_form.specs.Meant.{order_meant, measure_meant, links_meant, built_meant, tree_meant, states_meant}
 use Rattle.listing_form.specs.Blocks.{PrintedBuild, PrintedTree, lines_of_build, lines_of_tree}
 use Rattle.listing_form.specs.Listing.{output}
 
@@ -43,22 +43,22 @@ pub record TreeLeast (job : Job) (printed : PrintedTree) : Type 0 where
   -- the tree is a branching of all taxa; the chosen states are an assignment, of total `t`, whose branches have the lengths of the `T`
   -- lines
   pub whole : branching job.n printed.tree ≡ true
-  pub assigns : IsAssignment job.rows job.n job.m printed.chosen
+  pub assigns : IsAssignment (states_meant job) job.n job.m printed.chosen
   pub t_length : total (measure_meant job).step printed.tree job.n job.m printed.chosen ≡ printed.t
   pub branch_lengths : (v : ℕ) → printed.lengths v ≡ branch_length (measure_meant job).step printed.tree job.m printed.chosen v
   -- the mark of each `T` line says of the chosen states what a mark says
   pub branch_marks : (v : ℕ) → 2 ≤ v → v ≤ 2 * job.n - 2
-      → MarkMeans (measure_meant job).step printed.tree job.rows job.n job.m printed.chosen v (printed.marks v)
+      → MarkMeans (measure_meant job).step printed.tree (states_meant job) job.n job.m printed.chosen v (printed.marks v)
   -- no assignment has a lower total
-  pub no_states_shorter : (rival : ℕ → ℕ → ℤ) → IsAssignment job.rows job.n job.m rival
+  pub no_states_shorter : (rival : ℕ → ℕ → ℤ) → IsAssignment (states_meant job) job.n job.m rival
       → printed.t ≤ total (measure_meant job).step printed.tree job.n job.m rival
   -- the line `c` gives quotient and remainder of 1000 times the floor, divided by `t`; no total of any branching is below the floor
-  pub c_index : IsIndex (floor (measure_meant job).step job.rows job.n job.m) printed.t printed.c
-  pub floor_lowest : FloorNeverPasses (measure_meant job).step job.rows job.n job.m
+  pub c_index : IsIndex (floor (measure_meant job).step (states_meant job) job.n job.m) printed.t printed.c
+  pub floor_lowest : FloorNeverPasses (measure_meant job).step (states_meant job) job.n job.m
   -- a state lies from the lowest to the highest of an `H` line exactly if the HTU has it in some assignment of least length
   pub range_exactly : (v j : ℕ) (s : ℤ) → job.n < v → v ≤ 2 * job.n - 2 → 1 ≤ j → j ≤ job.m
       → ((printed.low v j ≤ℤ s) × (s ≤ℤ printed.high v j))
-      ↔ Occurs (measure_meant job).step printed.tree job.rows job.n job.m v j s
+      ↔ Occurs (measure_meant job).step printed.tree (states_meant job) job.n job.m v j s
 
 -- the listing of a `W` file that says a job prints the numbers of the network, the build and the tree that are meant, and nothing else
 pub record NoRivalInPrint (file : List ℕ) (job : Job) : Type 0 where

@@ -14,7 +14,7 @@ use Rattle.consistency_form.specs.Floor.{floor}
 use Rattle.consistency_form.specs.Index.{index}
 use Rattle.listing_form.specs.Lines.{joined}
 use Rattle.listing_form.specs.Kinds.{refusal_line}
-use Rattle.listing_form.specs.Meant.{measure_meant, links_meant, built_meant, tree_meant}
+use Rattle.listing_form.specs.Meant.{measure_meant, links_meant, built_meant, tree_meant, states_meant}
 use Rattle.listing_form.specs.Blocks.{PrintedBuild, PrintedTree, lines_of_build, lines_of_tree}
 
 -- the numbers printed of a job's network and build, as change is measured
@@ -34,13 +34,13 @@ abbrev pub tree_numbers : Measure → Job → List ℕ → PrintedTree
 tree_numbers measure job tree =
     record {
       tree = tree;
-      lengths = fitted_length measure.step tree job.rows job.n job.m;
-      marks = marked measure.step tree job.rows job.n job.m;
-      t = fitted_total measure.step tree job.rows job.n job.m;
-      c = index (floor measure.step job.rows job.n job.m) (fitted_total measure.step tree job.rows job.n job.m);
-      low = λ v j. (range tree job.rows job.n v j).low;
-      high = λ v j. (range tree job.rows job.n v j).high;
-      chosen = chosen_state tree job.rows job.n;
+      lengths = fitted_length measure.step tree (states_meant job) job.n job.m;
+      marks = marked measure.step tree (states_meant job) job.n job.m;
+      t = fitted_total measure.step tree (states_meant job) job.n job.m;
+      c = index (floor measure.step (states_meant job) job.n job.m) (fitted_total measure.step tree (states_meant job) job.n job.m);
+      low = λ v j. (range tree (states_meant job) job.n v j).low;
+      high = λ v j. (range tree (states_meant job) job.n v j).high;
+      chosen = chosen_state tree (states_meant job) job.n;
     }
 
 -- the lines before those of the tree, by the kind of file: in a `W` file those of the Prim Network and of the build, in an `F` file none

@@ -3,6 +3,8 @@
 use Rattle.std.specs.Prelude.{Option, None, Some, ℕ}
 use mathlib.Core.List.{List}
 use Rattle.matrix_form.specs.NodeRows.{row_of}
+use Rattle.matrix_form.specs.Spans.{singles}
+use Rattle.matrix_form.specs.declared.spans.Span.{Span}
 use Rattle.tree_form.specs.declared.order.Order.{Order}
 use Rattle.tree_form.specs.Ancestors.{tree_with}
 use Rattle.file_form.specs.Job.{Job}
@@ -20,6 +22,10 @@ order_meant (Some order) = order
 -- the measure of a job: by its weights, which are all 1 where no `V` line says them
 abbrev pub measure_meant : Job → Measure
 measure_meant job = weighing job.weights
+
+-- the states that a job says its taxa may have: their codes
+abbrev pub states_meant : Job → List (List Span)
+states_meant job = singles job.rows
 
 -- the links that a job's `P` lines are of, as change is measured: those of its Prim Network
 abbrev pub links_meant : Measure → Job → List Link

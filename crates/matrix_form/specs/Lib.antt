@@ -8,3 +8,4 @@ pub mod Refusals
 pub mod Outcomes
 pub mod Questions
 pub mod NodeRows
+pub mod Spans

@@ -21,6 +21,8 @@ use Rattle.tree_form.specs.Branches.{named_in_order, lent_branching, ancestors_o
 use Rattle.wagner_form.specs.Build.{wagner}
 use Rattle.wagner_form.proofs.Whole.{wagner-branching}
 use Rattle.tree_form.proofs.Test.{branching_iff}
+use Rattle.matrix_form.specs.Spans.{singles}
+use Rattle.fit_form.proofs.Matrix.Proper.{singles_proper}
 use Rattle.fit_form.specs.Rival.{FitIsLeast}
 use Rattle.fit_form.proofs.Matrix.ThirdRival.{third_rival}
 use Rattle.rivals.specs.Accepted.{Accepted}
@@ -41,8 +43,9 @@ network_shortest weights rows n =
 
 -- the fit
 fit-least : (weights : List ℕ) (n m : ℕ) (tree : List ℕ) (rows : List (List ℤ)) → 1 ≤ n → are_weights weights m ≡ true
-    → branching n tree ≡ true → FitIsLeast (weighing weights).step tree rows n m
-fit-least weights n m tree rows taxa known b = third_rival weights n m tree rows taxa known ((branching_iff tree n taxa).0 b)
+    → branching n tree ≡ true → FitIsLeast (weighing weights).step tree (singles rows) n m
+fit-least weights n m tree rows taxa known b =
+    third_rival weights n m tree (singles rows) taxa known (singles_proper rows n m) ((branching_iff tree n taxa).0 b)
 
 -- for n rows of m codes within the limits, by m weights
 rows_no_rival : (n m : ℕ) (weights : List ℕ) (rows : List (List ℤ)) → MatrixRows n m weights rows

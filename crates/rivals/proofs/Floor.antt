@@ -6,6 +6,8 @@ use Prim.Native.Nat.{ℕ, ◌≤◌}
 use lib.IntN.{ℤ}
 use Rattle.std.specs.Prelude.{Some, Ok}
 use Rattle.matrix_form.specs.NodeRows.{rows_of}
+use Rattle.matrix_form.specs.Spans.{singles, spans_of}
+use Rattle.fit_form.proofs.Matrix.Proper.{singles_proper}
 use Rattle.matrix_form.specs.Outcomes.{value}
 use Rattle.matrix_form.specs.Questions.{ask_matrix}
 use Rattle.file_form.specs.Job.{Job}
@@ -24,29 +26,30 @@ use Rattle.matrix_form.specs.Shape.{MatrixLists}
 
 module _ (n m : ℕ) (weights : List ℕ) (rows : List (List ℤ)) (matrix : Accepted n m weights rows) where
   -- no total of any branching of the taxa and any assignment is below the floor
-  pub floor_lowest : FloorNeverPasses (weighing weights).step rows n m
-  floor_lowest = floor_never_passes weights n m rows (taxa-limits n m (accepted_rows matrix).limits).0
+  pub floor_lowest : FloorNeverPasses (weighing weights).step (singles rows) n m
+  floor_lowest = floor_never_passes weights n m (singles rows) (taxa-limits n m (accepted_rows matrix).limits).0
 
   -- so no fitted total is
   pub floor_below_fit : (tree : List ℕ) → branching n tree ≡ true
-      → floor (weighing weights).step rows n m ≤ fitted_total (weighing weights).step tree rows n m
+      → floor (weighing weights).step (singles rows) n m ≤ fitted_total (weighing weights).step tree (singles rows) n m
   floor_below_fit tree b =
-      floor-fitted weights n m tree rows (taxa-limits n m (accepted_rows matrix).limits).0 (accepted_rows matrix).weighed b
+      floor-fitted weights n m tree (singles rows) (taxa-limits n m (accepted_rows matrix).limits).0 (singles_proper rows n m) (accepted_rows matrix).weighed b
 
   -- so the quotient of an index is at most 1000
   pub quotient_bounded : (tree : List ℕ) → branching n tree ≡ true → (quotient remainder : ℕ)
-      → IsIndex (floor (weighing weights).step rows n m) (fitted_total (weighing weights).step tree rows n m) (Some (record { quotient = quotient; remainder = remainder }))
+      → IsIndex (floor (weighing weights).step (singles rows) n m) (fitted_total (weighing weights).step tree (singles rows) n m) (Some (record { quotient = quotient; remainder = remainder }))
       → quotient ≤ thousand
   quotient_bounded tree b quotient remainder is =
-      quotient_most (floor (weighing weights).step rows n m) (fitted_total (weighing weights).step tree rows n m) quotient remainder
+      quotient_most (floor (weighing weights).step (singles rows) n m) (fitted_total (weighing weights).step tree (singles rows) n m) quotient remainder
       (floor_below_fit tree b) is
 
 -- for every file that a read accepts
 pub floor_of_every_file : (file : List ℕ) (job : Job) → read_answer file ≡ value job
-    → FloorNeverPasses (weighing job.weights).step job.rows job.n job.m
+    → FloorNeverPasses (weighing job.weights).step (singles job.rows) job.n job.m
 floor_of_every_file file job e = floor_lowest job.n job.m job.weights job.rows (file_read file job e)
 
 -- for every lent matrix that passes 12, 4, 16 and the taxa's 10
 pub floor_of_every_lent_matrix : (lists : MatrixLists) (n m : ℕ) → ask_matrix lists n m ≡ Ok tt
-    → FloorNeverPasses (weighing lists.weights).step (rows_of lists.codes m n) n m
+    → FloorNeverPasses (weighing lists.weights).step (spans_of lists m n) n m
+unfolding spans_of
 floor_of_every_lent_matrix lists n m e = floor_lowest n m lists.weights (rows_of lists.codes m n) (matrix_lent lists n m e)

@@ -1,13 +1,13 @@
 -- The claim about the three rivals, part by part, in document 01's words. Each theorem uses the claim, so that a weaker claim would not
 -- prove it. `matrix` is an accepted matrix: one that a read accepts, or a lent one that passes its questions.
-use mathlib.Core.Path.{◌≡◌, refl, sym, ◌∙◌}
+use mathlib.Core.Path.{◌≡◌, refl, sym, ap, subst, ◌∙◌}
 use mathlib.Core.Logic.{◌↔◌}
 use mathlib.Core.Bool.{true}
 use mathlib.Core.List.{List, ◌∷◌, ◌++◌}
 use Prim.Native.Nat.{ℕ, ◌+◌, ◌-◌, ◌*◌, ◌≤◌, ◌<◌}
 use native.Mathlib.Omega.{arith}
-use lib.IntN.{ℤ}
-use lib.ListN.{length}
+use lib.IntN.{ℤ, pos}
+use lib.ListN.{length, get_or}
 use Rattle.std.specs.Prelude.{Ok}
 use Rattle.matrix_form.specs.Shape.{last_node, MatrixLists}
 use Rattle.matrix_form.specs.NodeRows.{row_of, rows_of}
@@ -33,12 +33,16 @@ use Rattle.tree_form.specs.declared.order.Order.TheVariants.{Closest}
 use Rattle.wagner_form.specs.Build.{wagner}
 use Rattle.consistency_form.specs.Floor.{floor}
 use Rattle.fit_form.specs.Sets.{In}
-use Rattle.fit_form.specs.Assignments.{character, IsAssignment, IsLeast, Occurs, total}
+use Rattle.matrix_form.specs.Spans.{only, singles}
+use Rattle.fit_form.proofs.Sets.Single.{only_code}
+use Rattle.fit_form.proofs.Matrix.Proper.{code_of, character-single, singles_proper}
+use Rattle.fit_form.specs.Assignments.{IsAssignment, IsLeast, Occurs, total}
 use Rattle.fit_form.specs.Fit.{chosen_state, range, fitted_length, fitted_total, marked}
 use Rattle.fit_form.proofs.Matrix.Alike.{alike_total}
 use Rattle.rivals.specs.Accepted.{Accepted, file_read, matrix_lent, HandedIn}
 use Rattle.rivals.specs.Demand.{NoRivalDoesBetter, EachIsLeast, more, BuildIsLeast}
-use Rattle.rivals.proofs.Demand.{no_rival}
+use Rattle.rivals.proofs.Rows.{accepted_rows}
+use Rattle.rivals.proofs.Demand.{taxa-limits, no_rival}
 use Rattle.rivals.proofs.Steps.{first_link, later_placements}
 use Rattle.rivals.proofs.Floor.{floor_lowest}
 
@@ -117,51 +121,62 @@ module _ (n m : ℕ) (weights : List ℕ) (rows : List (List ℤ)) (matrix : Acc
 
   -- on a branching that is lent as branch records no choice of whole-number inner states has a lower total than our chosen states
   pub no_states_shorter_lent : (records : List Branch) → lent_branching n records ≡ true
-      → (states : ℕ → ℕ → ℤ) → IsAssignment rows n m states
-      → fitted_total (weighing weights).step (ancestors_of n records) rows n m
+      → (states : ℕ → ℕ → ℤ) → IsAssignment (singles rows) n m states
+      → fitted_total (weighing weights).step (ancestors_of n records) (singles rows) n m
       ≤ total (weighing weights).step (ancestors_of n records) n m states
   no_states_shorter_lent records lent = (claim.lent_fit records lent).least
 
   module _ (tree : List ℕ) (whole : branching n tree ≡ true) where
     -- our chosen states are an assignment of least length, of total `t`
-    pub our_states_least : IsLeast (weighing weights).step tree rows n m (chosen_state tree rows n)
+    pub our_states_least : IsLeast (weighing weights).step tree (singles rows) n m (chosen_state tree (singles rows) n)
     unfolding fitted_total
     our_states_least = record { assigns = (claim.fit tree whole).assigns; least = (claim.fit tree whole).least }
 
     -- no choice of whole-number inner states has a lower total
-    pub no_states_shorter : (states : ℕ → ℕ → ℤ) → IsAssignment rows n m states
-        → fitted_total (weighing weights).step tree rows n m ≤ total (weighing weights).step tree n m states
+    pub no_states_shorter : (states : ℕ → ℕ → ℤ) → IsAssignment (singles rows) n m states
+        → fitted_total (weighing weights).step tree (singles rows) n m ≤ total (weighing weights).step tree n m states
     no_states_shorter = (claim.fit tree whole).least
 
     -- where all rows are equal, the total is 0
-    pub alike_rows : ((v : ℕ) → 1 ≤ v → v ≤ n → row_of rows v ≡ row_of rows 1) → fitted_total (weighing weights).step tree rows n m ≡ 0
-    alike_rows = alike_total weights n m tree rows (claim.fit tree whole)
+    pub alike_rows : ((v : ℕ) → 1 ≤ v → v ≤ n → row_of rows v ≡ row_of rows 1) → fitted_total (weighing weights).step tree (singles rows) n m ≡ 0
+    alike_rows same =
+        alike_total weights n m tree (singles rows) (taxa-limits n m (accepted_rows matrix).limits).0 (singles_proper rows n m) (claim.fit tree whole) (λ v j p q r l.
+        character-single rows j v
+        ∙ ap (λ (codes : List ℤ). only (get_or codes (j - 1) (pos 0))) (same v p q)
+        ∙ sym (character-single rows j 1))
 
     -- a state lies in our range of a node, taxon or HTU, exactly if some least-length choice has it there
     pub range_exactly : (v j : ℕ) (s : ℤ) → 1 ≤ v → v ≤ last_node n → 1 ≤ j → j ≤ m
-        → In s (range tree rows n v j) ↔ Occurs (weighing weights).step tree rows n m v j s
+        → In s (range tree (singles rows) n v j) ↔ Occurs (weighing weights).step tree (singles rows) n m v j s
     range_exactly = (claim.fit tree whole).ranges
 
     -- the floor never passes the total of any assignment, ours or another
-    pub floor_below_every_total : (states : ℕ → ℕ → ℤ) → IsAssignment rows n m states
-        → floor (weighing weights).step rows n m ≤ total (weighing weights).step tree n m states
+    pub floor_below_every_total : (states : ℕ → ℕ → ℤ) → IsAssignment (singles rows) n m states
+        → floor (weighing weights).step (singles rows) n m ≤ total (weighing weights).step tree n m states
     floor_below_every_total = (floor_lowest n m weights rows matrix).least tree whole
 
+    -- an assignment gives a taxon its code
+    code_kept : (states : ℕ → ℕ → ℤ) → IsAssignment (singles rows) n m states
+        → (v j : ℕ) → 1 ≤ v → v ≤ n → 1 ≤ j → j ≤ m → states v j ≡ code_of rows j v
+    code_kept states h v j p q r l =
+        only_code (states v j) (code_of rows j v) (subst (In (states v j)) (character-single rows j v) (h.keeps v j p q r l))
+
     -- so a taxon's range is its code alone
-    pub taxon_range_code : (v j : ℕ) (s : ℤ) → 1 ≤ v → v ≤ n → 1 ≤ j → j ≤ m → In s (range tree rows n v j) ↔ (s ≡ character rows j v)
+    pub taxon_range_code : (v j : ℕ) (s : ℤ) → 1 ≤ v → v ≤ n → 1 ≤ j → j ≤ m
+        → In s (range tree (singles rows) n v j) ↔ (s ≡ code_of rows j v)
     unfolding last_node
     taxon_range_code v j s p q r l =
         let occurs = range_exactly v j s p (omega arith) r l in (
-          λ i. let o = occurs.0 i in sym o.here ∙ o.is_least.assigns.keeps v j p q r l,
+          λ i. let o = occurs.0 i in sym o.here ∙ code_kept o.states o.is_least.assigns v j p q r l,
           λ e. occurs.1 (record {
-            states = chosen_state tree rows n;
+            states = chosen_state tree (singles rows) n;
             is_least = our_states_least;
-            here = our_states_least.assigns.keeps v j p q r l ∙ sym e;
+            here = code_kept (chosen_state tree (singles rows) n) our_states_least.assigns v j p q r l ∙ sym e;
           }),
         )
 
     -- the branch of a node has the mark `+` exactly if its length under our chosen states is above 0
     pub mark_above_zero : (v : ℕ) → 2 ≤ v → v ≤ 2 * n - 2
-        → (marked (weighing weights).step tree rows n m v ≡ true) ↔ (0 < fitted_length (weighing weights).step tree rows n m v)
+        → (marked (weighing weights).step tree (singles rows) n m v ≡ true) ↔ (0 < fitted_length (weighing weights).step tree (singles rows) n m v)
     unfolding fitted_length
     mark_above_zero v first last = ((claim.fit tree whole).marks v first last).plus

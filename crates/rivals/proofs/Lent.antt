@@ -11,6 +11,7 @@ use lib.ListN.{length, get_or}
 use Rattle.tree_form.proofs.Test.{growing-fact}
 use Rattle.tree_form.proofs.InMatrix.{by_list}
 use Rattle.std.specs.Prelude.{Ok}
+use Rattle.matrix_form.specs.Spans.{spans_of}
 use Rattle.fit_form.specs.Rival.{FitIsLeast}
 use Rattle.matrix_form.specs.NodeRows.{rows_of, row_of}
 use Rattle.lists.specs.Numbers.{numbers}
@@ -110,8 +111,8 @@ module _ (lists : MatrixLists) (n m : ℕ) (tree : List ℕ) (b : ℕ) (asked : 
 
 -- a lent branching that no question refuses: the fit on it is least
 pub fit-lent : (lists : MatrixLists) (n m : ℕ) (records : List Branch) → ask_branching lists n m records ≡ Ok tt
-    → FitIsLeast (weighing lists.weights).step (ancestors_of n records) (rows_of lists.codes m n) n m
-unfolding ask_branching
+    → FitIsLeast (weighing lists.weights).step (ancestors_of n records) (spans_of lists m n) n m
+unfolding spans_of ask_branching
 fit-lent lists n m records e =
     let size = ask_passed (eqb (length records) branches_size) ListSize _ e in
     let matrix = and_then_passed (ask_matrix lists n m) _ size.1 in

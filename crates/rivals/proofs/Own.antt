@@ -23,6 +23,7 @@ use Rattle.tree_form.specs.Growing.{branching}
 use Rattle.tree_form.specs.Branches.{ancestors_of, lent_branching}
 use Rattle.tree_form.specs.LentNumbers.{lent_numbers, records_in, records_written}
 use Rattle.tree_form.proofs.LentNumbers.{written_ancestors, written_branching}
+use Rattle.matrix_form.specs.Spans.{singles}
 use Rattle.fit_form.specs.Rival.{FitIsLeast}
 use Rattle.rivals.specs.Accepted.{file_read}
 use Rattle.rivals.proofs.Demand.{no_rival, taxa-limits}
@@ -50,7 +51,7 @@ module _ (job : Job) (within : JobWithinLimits job) (own : job.kind ≡ Own) whe
 -- for every `F` file that a read accepts: on its own branching our chosen states have the least total, and a range has exactly the states
 -- of assignments of least length
 pub own-least : (file : List ℕ) (job : Job) → read_answer file ≡ value job → job.kind ≡ Own
-    → FitIsLeast (weighing job.weights).step (tree_with job.ancestors) job.rows job.n job.m
+    → FitIsLeast (weighing job.weights).step (tree_with job.ancestors) (singles job.rows) job.n job.m
 own-least file job e own =
     (no_rival job.n job.m job.weights job.rows (file_read file job e)).fit (tree_with job.ancestors)
     (own-branching job ((accepted_exactly file job).0 e).0 own)

@@ -16,6 +16,7 @@ use Rattle.tree_form.specs.declared.order.Order.{Order}
 use Rattle.tree_form.specs.declared.order.Order.TheVariants.{Closest}
 use Rattle.wagner_form.specs.Build.{Built, wagner}
 use Rattle.tree_form.specs.Rival.{hung_length, PlacementIsLeast}
+use Rattle.matrix_form.specs.Spans.{singles}
 use Rattle.fit_form.specs.Rival.{FitIsLeast}
 use Rattle.rivals.specs.Accepted.{HandedIn}
 
@@ -63,6 +64,6 @@ pub record NoRivalDoesBetter (measure : Measure) (n m : ℕ) (rows : List (List 
   pub whole : (order : Order) → branching n (wagner measure.rows order n rows).tree ≡ true
   -- on any branching our chosen states have the least total, a range has exactly the states of assignments of least length, and a mark
   -- means what a mark says
-  pub fit : (tree : List ℕ) → branching n tree ≡ true → FitIsLeast measure.step tree rows n m
+  pub fit : (tree : List ℕ) → branching n tree ≡ true → FitIsLeast measure.step tree (singles rows) n m
   -- a branching may be lent as branch records
-  pub lent_fit : (records : List Branch) → lent_branching n records ≡ true → FitIsLeast measure.step (ancestors_of n records) rows n m
+  pub lent_fit : (records : List Branch) → lent_branching n records ≡ true → FitIsLeast measure.step (ancestors_of n records) (singles rows) n m

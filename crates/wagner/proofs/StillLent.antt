@@ -6,7 +6,8 @@ use native.Mathlib.Omega.{arith}
 use lib.IntN.{ℤ}
 use lib.Seq.{ext_get_or}
 use Rattle.matrix_form.specs.NodeRows.{rows_of}
-use Rattle.matrix_form.specs.Shape.{row, MatrixLists}
+use Rattle.matrix_form.specs.Shape.{row, MatrixLists, with_codes}
+use Rattle.matrix_form.specs.Spans.{singles, spans_of}
 use Rattle.matrix_form.specs.Questions.{LentMatrix, all_in_range}
 use Rattle.matrix_form.proofs.NodeRows.{length-rows_of, get_or-rows_of}
 use Rattle.difference_form.specs.Rows.{difference}
@@ -46,3 +47,8 @@ module _ (order : Order) (lists : MatrixLists) (n m : ℕ) (lent : LentMatrix li
       (λ i h.
       let below : i < n = omega (arith, length-rows_of after m n) in
       get_or-rows_of after m n i below ∙ taxon-same (suc i) (omega arith) (omega arith) ∙ sym (get_or-rows_of lists.codes m n i below))
+
+  -- so the taxa have the same states
+  pub same-states : spans_of (with_codes lists after) m n ≡ spans_of lists m n
+  unfolding spans_of
+  same-states = ap singles same-taxa

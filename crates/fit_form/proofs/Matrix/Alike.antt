@@ -1,11 +1,11 @@
--- Where states are alike nothing changes: a branch whose ends have the same states has length 0 and the mark `-`, and where all rows are
--- equal the fitted total is 0.
-use Rattle.std.proofs.Common.{◌≡◌, ℕ, ◌-◌, ◌≤◌, Bool, false, List, get_or, ℤ, pos, refl, sym, ap, ◌∙◌, arith}
+-- Where states are alike nothing changes: a branch whose ends have the same states has length 0 and the mark `-`, and where all taxa
+-- have the same states the fitted total is 0.
+use Rattle.std.proofs.Common.{◌≡◌, ℕ, ◌≤◌, Bool, false, List, ℤ, refl, sym, ap, ◌∙◌, subst, arith}
 use Rattle.lists.specs.Numbers.{numbers}
 use Rattle.lists.proofs.Numbers.{numbers-within}
 use Rattle.lists.proofs.Sums.{sum_none}
 use Rattle.matrix_form.specs.Shape.{weight_of}
-use Rattle.matrix_form.specs.NodeRows.{row_of}
+use lib.Signed.{≤ℤ_refl}
 use Rattle.difference_form.specs.Rows.{part, weighing}
 use Rattle.difference_form.proofs.Laws.Weights.{part_distance}
 use Rattle.tree_form.specs.Ancestors.{ancestor}
@@ -14,7 +14,10 @@ use Rattle.fit_form.specs.Assignments.{character, branch_length, total, IsAssign
 use Rattle.fit_form.specs.Fit.{fitted_total}
 use Rattle.fit_form.specs.Marks.{MarkMeans}
 use Rattle.fit_form.specs.Rival.{FitIsLeast}
+use Rattle.fit_form.specs.Sets.{In}
+use Rattle.fit_form.proofs.Matrix.Proper.{RowsProper}
 use Rattle.fit_form.proofs.Marks.{minus_of_none}
+use Rattle.matrix_form.specs.declared.spans.Span.{Span}
 
 module _ (weights : List ℕ) (tree : List ℕ) (m : ℕ) (states : ℕ → ℕ → ℤ) where
   -- a node with the states of its immediate ancestor has a branch of length 0
@@ -29,7 +32,7 @@ module _ (weights : List ℕ) (tree : List ℕ) (m : ℕ) (states : ℕ → ℕ 
       ∙ (part_distance (weight_of weights j)).self (states (ancestor tree v) j)
 
   -- and so the mark `-`
-  pub equal-unmarked : (rows : List (List ℤ)) (n v : ℕ) (mark : Bool) → MarkMeans (weighing weights).step tree rows n m states v mark
+  pub equal-unmarked : (rows : List (List Span)) (n v : ℕ) (mark : Bool) → MarkMeans (weighing weights).step tree rows n m states v mark
       → ((j : ℕ) → 1 ≤ j → j ≤ m → states v j ≡ states (ancestor tree v) j) → mark ≡ false
   equal-unmarked rows n v mark means same =
       minus_of_none (weighing weights).step tree rows n m v states mark means (equal-branch v same)
@@ -41,13 +44,17 @@ module _ (weights : List ℕ) (tree : List ℕ) (m : ℕ) (states : ℕ → ℕ 
       sum_none (branch_length (weighing weights).step tree m states) (other_nodes n) λ v i.
       equal-branch v (λ j first last. same v (ancestor tree v) j)
 
--- where all rows are equal to row 1, a fit of least length has the total 0
-pub alike_total : (weights : List ℕ) (n m : ℕ) (tree : List ℕ) (rows : List (List ℤ)) → FitIsLeast (weighing weights).step tree rows n m
-    → ((v : ℕ) → 1 ≤ v → v ≤ n → row_of rows v ≡ row_of rows 1) → fitted_total (weighing weights).step tree rows n m ≡ 0
-unfolding character row_of
-alike_total weights n m tree rows fit same =
-    let states : ℕ → ℕ → ℤ = λ v j. character rows j 1 in
-    let assigns : IsAssignment rows n m states =
-    record { keeps = λ v j p q r l. ap (λ (codes : List ℤ). get_or codes (j - 1) (pos 0)) (sym (same v p q)) } in
+-- where all taxa have the states of row 1, a fit of least length has the total 0
+pub alike_total : (weights : List ℕ) (n m : ℕ) (tree : List ℕ) (rows : List (List Span)) → 1 ≤ n → RowsProper rows n m
+    → FitIsLeast (weighing weights).step tree rows n m
+    → ((v j : ℕ) → 1 ≤ v → v ≤ n → 1 ≤ j → j ≤ m → character rows j v ≡ character rows j 1)
+    → fitted_total (weighing weights).step tree rows n m ≡ 0
+alike_total weights n m tree rows taxa each fit same =
+    let states : ℕ → ℕ → ℤ = λ v j. (character rows j 1).low in
+    let assigns : IsAssignment rows n m states = record {
+      keeps = λ v j p q r l.
+          subst (In (character rows j 1).low) (sym (same v j p q r l))
+          (record { from_low = ≤ℤ_refl _; to_high = (each.proper 1 j (omega arith) taxa r l).ordered });
+    } in
     let none = equal-total weights tree m states n (λ u v j. refl) in
     omega (arith, none, fit.least states assigns)

@@ -16,20 +16,22 @@ use Rattle.fit_form.specs.Fit.{chosen_state, fitted_total}
 use Rattle.fit_form.specs.Rival.{FitIsLeast}
 use Rattle.fit_form.proofs.Marks.{marked_means}
 use Rattle.fit_form.proofs.Matrix.Totals.{lengths-total}
+use Rattle.fit_form.proofs.Matrix.Proper.{RowsProper}
 use Rattle.fit_form.proofs.Matrix.ThirdRival.{third_rival}
+use Rattle.matrix_form.specs.declared.spans.Span.{Span}
 
 -- a node has a state in some assignment of least length by one set of weights exactly if it has it by another
-pub weights_move_nothing : (weights others : List ℕ) (n m : ℕ) (tree : List ℕ) (rows : List (List ℤ)) → 1 ≤ n
+pub weights_move_nothing : (weights others : List ℕ) (n m : ℕ) (tree : List ℕ) (rows : List (List Span)) → 1 ≤ n → RowsProper rows n m
     → are_weights weights m ≡ true → are_weights others m ≡ true → Branching n tree
     → (v j : ℕ) (s : ℤ) → 1 ≤ v → v ≤ last_node n → 1 ≤ j → j ≤ m
     → Occurs (weighing weights).step tree rows n m v j s ↔ Occurs (weighing others).step tree rows n m v j s
-weights_move_nothing weights others n m tree rows taxa known others-known branching v j s first last one end =
-    let ours = (third_rival weights n m tree rows taxa known branching).ranges v j s first last one end in
-    let theirs = (third_rival others n m tree rows taxa others-known branching).ranges v j s first last one end in
+weights_move_nothing weights others n m tree rows taxa proper known others-known branching v j s first last one end =
+    let ours = (third_rival weights n m tree rows taxa known proper branching).ranges v j s first last one end in
+    let theirs = (third_rival others n m tree rows taxa others-known proper branching).ranges v j s first last one end in
     (λ o. theirs.0 (ours.1 o), λ o. ours.0 (theirs.1 o))
 
 -- two costs of a step by which every assignment has the same total have the same assignments of least length
-module _ (one other : ℕ → ℤ → ℤ → ℕ) (tree : List ℕ) (rows : List (List ℤ)) (n m : ℕ)
+module _ (one other : ℕ → ℤ → ℤ → ℕ) (tree : List ℕ) (rows : List (List Span)) (n m : ℕ)
     (same : (states : ℕ → ℕ → ℤ) → total one tree n m states ≡ total other tree n m states) where
   -- an assignment of least length by one is of least length by the other
   is_least-same : (states : ℕ → ℕ → ℤ) → IsLeast one tree rows n m states → IsLeast other tree rows n m states
@@ -43,7 +45,7 @@ module _ (one other : ℕ → ℤ → ℤ → ℕ) (tree : List ℕ) (rows : Lis
   occurs_same v j s o = record { states = o.states; is_least = is_least-same o.states o.is_least; here = o.here }
 
 -- then the claim about the third rival by one is that by the other
-pub least-same : (one other : ℕ → ℤ → ℤ → ℕ) (tree : List ℕ) (rows : List (List ℤ)) (n m : ℕ)
+pub least-same : (one other : ℕ → ℤ → ℤ → ℕ) (tree : List ℕ) (rows : List (List Span)) (n m : ℕ)
     → ((states : ℕ → ℕ → ℤ) → total one tree n m states ≡ total other tree n m states)
     → FitIsLeast one tree rows n m → FitIsLeast other tree rows n m
 unfolding fitted_total
@@ -59,7 +61,7 @@ least-same one other tree rows n m same claim = record {
   marks = λ v first last. marked_means other tree rows n m v;
 }
 
-module _ (weights : List ℕ) (n m : ℕ) (tree : List ℕ) (rows : List (List ℤ))
+module _ (weights : List ℕ) (n m : ℕ) (tree : List ℕ) (rows : List (List Span))
     (alike : (j : ℕ) → 1 ≤ j → j ≤ m → weight_of weights j ≡ 1) where
   -- where every character weighs 1 the total of any assignment is that by document 01's measure
   pub total-alike : (states : ℕ → ℕ → ℤ) → total (weighing weights).step tree n m states ≡ total plain.step tree n m states

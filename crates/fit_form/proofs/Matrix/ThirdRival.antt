@@ -1,4 +1,4 @@
--- Demand 3 about the third rival, and M-107's marks, for every matrix of single codes, all weights and every branching of its taxa.
+-- Demand 3 about the third rival, and M-107's marks, for every matrix in which each taxon has a state, all weights and every branching of its taxa.
 use Rattle.std.proofs.Common.{◌≡◌, ℕ, ◌-◌, ◌*◌, ◌≤◌, Bool, true, ltb, ◌↔◌, List, ℤ}
 use Rattle.lists.specs.Numbers.{numbers}
 use Rattle.lists.specs.Sums.{sum_over}
@@ -8,19 +8,18 @@ use Rattle.difference_form.specs.Rows.{part, weighing}
 use Rattle.difference_form.proofs.Laws.Weights.{weight_of-within}
 use Rattle.tree_form.specs.Ancestors.{ancestor}
 use Rattle.tree_form.specs.Facts.{Branching}
-use Rattle.fit_form.specs.Sets.{In, own_sets, gap, ordered}
+use Rattle.fit_form.specs.Sets.{In, gap, ordered}
 use Rattle.matrix_form.specs.declared.spans.Span.{Span}
 use Rattle.fit_form.specs.Assignments.{character, branch_length, IsAssignment, IsLeast}
 use Rattle.fit_form.specs.Fit.{chosen_state, range, fitted_total}
 use Rattle.fit_form.specs.Rival.{FitIsLeast}
 use Rattle.fit_form.proofs.Marks.{marked_means}
-use Rattle.fit_form.proofs.Sets.Distance.{only_nonempty}
-use Rattle.fit_form.proofs.Sets.Single.{only_code, code-only}
 use Rattle.fit_form.proofs.Sets.IsKind.{ordered_laws}
+use Rattle.fit_form.proofs.Matrix.Proper.{RowsProper}
 use Rattle.fit_form.proofs.Matrix.Totals.{lengths-total}
 use Rattle.fit_form.proofs.Matrix.Mixed.{Assignment, Shortest, Claim, mixed_claim, ranges_apart, mark_of}
 
-module _ (tree : List ℕ) (rows : List (List ℤ)) (n m : ℕ) where
+module _ (tree : List ℕ) (rows : List (List Span)) (n m : ℕ) where
   -- how far the ranges of a node and of its ancestor lie from each other, in all characters together
   unfoldable pub ranges_between : ℕ → ℕ
   ranges_between v = sum_over (λ j. gap (range tree rows n v j) (range tree rows n (ancestor tree v) j)) (numbers 1 m)
@@ -29,43 +28,43 @@ module _ (tree : List ℕ) (rows : List (List ℤ)) (n m : ℕ) where
   unfoldable pub forced : ℕ → Bool
   forced v = ltb 0 (ranges_between v)
 
-module _ (weights : List ℕ) (n m : ℕ) (tree : List ℕ) (rows : List (List ℤ)) (taxa : 1 ≤ n) (weighed : are_weights weights m ≡ true)
-    (branching : Branching n tree) where
+module _ (weights : List ℕ) (n m : ℕ) (tree : List ℕ) (rows : List (List Span)) (taxa : 1 ≤ n) (weighed : are_weights weights m ≡ true)
+    (each : RowsProper rows n m) (branching : Branching n tree) where
   -- what a change costs
   abbrev step : ℕ → ℤ → ℤ → ℕ
   step = (weighing weights).step
 
-  -- the taxa's own sets: their codes
+  -- the taxa's own sets
   abbrev own : ℕ → ℕ → Span
-  own j = own_sets (character rows j)
+  own j = character rows j
 
-  -- a taxon may have its code alone
+  -- the states that a taxon may have
   abbrev Own : ℕ → ℕ → ℤ → Type 0
   Own j v s = In s (own j v)
 
-  -- the claim for ordered characters with single codes
+  -- the claim for ordered characters
   claim : Claim (λ j. ordered) (weight_of weights) own tree n m
   claim = mixed_claim (λ j. ordered) (weight_of weights) own tree n m taxa branching (record {
     laws = λ j r l. ordered_laws;
     weighed = λ j r l. (weight_of-within weights m weighed j r l).0;
-    proper = λ v j p q r l. only_nonempty (character rows j v);
+    proper = each.proper;
   })
 
-  -- an assignment that keeps the codes takes members of the own sets
+  -- an assignment takes members of the own sets
   members : (states : ℕ → ℕ → ℤ) → IsAssignment rows n m states → Assignment Own step tree n m states
-  members states h = record { keeps = λ v j p q r l. code-only (states v j) (character rows j v) (h.keeps v j p q r l) }
+  members states h = record { keeps = h.keeps }
 
   -- and the other way
-  codes : (states : ℕ → ℕ → ℤ) → Assignment Own step tree n m states → IsAssignment rows n m states
-  codes states h = record { keeps = λ v j p q r l. only_code (states v j) (character rows j v) (h.keeps v j p q r l) }
+  assigned : (states : ℕ → ℕ → ℤ) → Assignment Own step tree n m states → IsAssignment rows n m states
+  assigned states h = record { keeps = h.keeps }
 
   -- an assignment of least length is so among those that take members of the own sets
   shortest : (states : ℕ → ℕ → ℤ) → IsLeast step tree rows n m states → Shortest Own step tree n m states
-  shortest states h = record { assigns = members states h.assigns; least = λ others k. h.least others (codes others k) }
+  shortest states h = record { assigns = members states h.assigns; least = λ others k. h.least others (assigned others k) }
 
   -- and the other way
   least : (states : ℕ → ℕ → ℤ) → Shortest Own step tree n m states → IsLeast step tree rows n m states
-  least states h = record { assigns = codes states h.assigns; least = λ others k. h.least others (members others k) }
+  least states h = record { assigns = assigned states h.assigns; least = λ others k. h.least others (members others k) }
 
   -- by any weights from 1 to 9 the chosen states have least length and the ranges are those of all assignments of least length
   pub third_rival : FitIsLeast step tree rows n m

@@ -9,9 +9,10 @@ use Rattle.clades.proofs.OneCharacter.CharacterFit.{length_in}
 use Rattle.fit_form.specs.Assignments.{branch_length, total}
 use Rattle.fit_form.specs.Fit.{fitted_length, fitted_total}
 use Rattle.fit_form.proofs.Clades.Built.{CladeOf, cost_sum_clade}
+use Rattle.matrix_form.specs.declared.spans.Span.{Span}
 
 -- the fitted lengths of the branches add up to the fitted total
-pub lengths-total : (step : ℕ → ℤ → ℤ → ℕ) (n m : ℕ) (tree : List ℕ) (rows : List (List ℤ)) →
+pub lengths-total : (step : ℕ → ℤ → ℤ → ℕ) (n m : ℕ) (tree : List ℕ) (rows : List (List Span)) →
     sum_over (fitted_length step tree rows n m) (other_nodes n) ≡ fitted_total step tree rows n m
 unfolding fitted_total fitted_length total
 lengths-total step n m tree rows = refl

@@ -4,17 +4,14 @@ use lib.Signed.{≤ℤ_refl}
 use Rattle.difference_form.specs.Rows.{apart}
 use Rattle.difference_form.proofs.Laws.Points.{point, apart-point, lower-point, higher-point, le_point, point_le, everywhere}
 use Rattle.clades.specs.Kinds.{offset as offset_in}
-use Rattle.fit_form.specs.Sets.{Nonempty, In, only, join, gap, nearest_member, ordered}
+use Rattle.fit_form.specs.Sets.{Nonempty, In, join, gap, nearest_member, ordered}
+use Rattle.matrix_form.specs.Spans.{span, only}
 use Rattle.matrix_form.specs.declared.spans.Span.{Span}
 use Rattle.fit_form.proofs.Sets.Ends.{either_side, join_apart, in_join}
 
 -- how far a state lies from a set: its difference from the nearest member
 abbrev pub offset : ℤ → Span → ℕ
 offset s a = offset_in ordered s a
-
--- the set from one state to another
-abbrev pub span : ℤ → ℤ → Span
-span l h = record { low = l; high = h }
 
 module _ (K : ℕ) where
   -- the set between two points

@@ -6,7 +6,8 @@ use Rattle.difference_form.proofs.Laws.Codes.{apart_distance, apart-zero}
 use Rattle.clades.specs.Kinds.{among}
 use Rattle.clades.proofs.Sets.Laws.{Metric, Laws}
 use Rattle.clades.proofs.Sets.Among.{among-nearest, among_proper}
-use Rattle.fit_form.specs.Sets.{Nonempty, only, in_order, six_ends, ordered}
+use Rattle.fit_form.specs.Sets.{Nonempty, in_order, six_ends, ordered}
+use Rattle.matrix_form.specs.Spans.{only}
 use Rattle.matrix_form.specs.declared.spans.Span.{Span}
 use Rattle.fit_form.proofs.Sets.Distance.{only_nonempty, nearest_member_in, join_nonempty, offset-join, offset_in_join}
 use Rattle.fit_form.proofs.Sets.Order.{third}

@@ -5,7 +5,8 @@ use Rattle.difference_form.proofs.Laws.Points.{point, everywhere}
 use Rattle.fit_form.specs.Sets.{Nonempty, In, join, nearest_member}
 use Rattle.matrix_form.specs.declared.spans.Span.{Span}
 use Rattle.fit_form.proofs.Cases.{either}
-use Rattle.fit_form.proofs.Sets.Distance.{span, join-points, nearest_member-points, nonempty_points, in_points, points_in}
+use Rattle.matrix_form.specs.Spans.{span}
+use Rattle.fit_form.proofs.Sets.Distance.{join-points, nearest_member-points, nonempty_points, in_points, points_in}
 use Rattle.fit_form.proofs.Sets.Distance.{nearest_member_in}
 
 -- two sets touch if they have a state in common

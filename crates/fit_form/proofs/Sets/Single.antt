@@ -5,9 +5,11 @@ use Rattle.difference_form.specs.Rows.{apart}
 use Rattle.difference_form.proofs.Laws.Codes.{≤ℤ-antisym}
 use Rattle.difference_form.proofs.Laws.Points.{point, apart-point, everywhere}
 use Rattle.clades.specs.Kinds.{offset as offset_in}
-use Rattle.fit_form.specs.Sets.{Nonempty, In, only, nearest_member}
+use Rattle.fit_form.specs.Sets.{Nonempty, In, nearest_member}
+use Rattle.matrix_form.specs.Spans.{only}
 use Rattle.matrix_form.specs.declared.spans.Span.{Span}
-use Rattle.fit_form.proofs.Sets.Distance.{offset, span, nearest_member-points, points_in}
+use Rattle.matrix_form.specs.Spans.{span}
+use Rattle.fit_form.proofs.Sets.Distance.{offset, nearest_member-points, points_in}
 
 -- a member of a set is no nearer than the nearest one
 pub nearest_least : (s : ℤ) (a : Span) → Nonempty a → (x : ℤ) → In x a → offset s a ≤ apart s x

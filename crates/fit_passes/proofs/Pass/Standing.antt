@@ -1,7 +1,7 @@
 -- A branching of two taxa or more and its plan: which descendants are kept of a node, and where they stand in the walk.
-use Rattle.std.proofs.Common.{◌≡◌, ℕ, ◌-◌, ◌*◌, ◌<◌, ◌≤◌, Bool, true, false, cond, eqb, leb, ◌≢◌, List, [], ◌∷◌, ℤ, sym, refl, ap, ◌∙◌, arith, eq-eqb, eqb-true, leb-true}
+use Rattle.std.proofs.Common.{◌≡◌, ℕ, ◌-◌, ◌*◌, ◌<◌, ◌≤◌, Bool, true, false, cond, eqb, leb, ◌≢◌, List, [], ◌∷◌, sym, refl, ap, ◌∙◌, ap₂, arith, eq-eqb, eqb-true, leb-true}
 use mathlib.Core.Logic.{by_cases}
-use mathlib.Core.List.{flat_map, Memᴰ}
+use mathlib.Core.List.{Memᴰ}
 use mathlib.Core.Bool.{and-eq-true_iff}
 use native.Mathlib.Decide.{dec_le}
 use Rattle.lists.specs.Numbers.{numbers}
@@ -19,17 +19,17 @@ use Rattle.tree_form.proofs.Descendants.{mem-descendants}
 use Rattle.tree_form.proofs.Test.{branching_iff}
 use Rattle.tree_form.proofs.Whole.{branching-grown}
 use Rattle.fit_passes.specs.Plans.{sister_in}
-use Rattle.fit_form.specs.Sets.{only}
-use Rattle.fit_form.specs.Clades.{clades_below}
-use Rattle.clades.specs.ByNode.{value_at}
+use Rattle.matrix_form.specs.declared.spans.Span.{Span}
+use Rattle.fit_form.specs.Clades.{above, clade_at}
 use Rattle.fit_form.specs.Assignments.{character}
-use Rattle.fit_form.specs.Fit.{chosen_state, range}
+use Rattle.fit_passes.specs.Steps.{part_for, tip_part, set_of, cost_of}
 use Rattle.tree_walk.specs.declared.walk.Below.{Below}
 use Rattle.clades.proofs.Clades.Sides.{Side, left, right, on, other}
 use Rattle.fit_form.proofs.Clades.Built.{Htu, htu_descends}
 use Rattle.fit_form.proofs.Clades.Hanging.{clade_of}
-use Rattle.clades.specs.Character.{state_of, range_of, row1_range}
-use Rattle.fit_passes.proofs.Matrix.ByNode.{state-taxon, range-taxon}
+use Rattle.clades.specs.Character.{up}
+use Rattle.clades.specs.Passes.{least_cost}
+use Rattle.fit_passes.proofs.Matrix.ByNode.{set-taxon, cost-taxon}
 
 module _ (n : ℕ) (tree : List ℕ) (branches : branching_within n tree ≡ true) where
   -- what passes the test is a branching of at most 64 taxa
@@ -74,31 +74,29 @@ descendant_behind n tree nodes grown walk side u a b i htu h at =
     let other : node_at nodes place.0 ≢ 1 = λ e. omega (arith, d.second) in
     (place.0, walk_later _ _ tree nodes walk.down i place.0 h place.1 other (ap (ancestor tree) here ∙ d.from ∙ sym at), place.1, here)
 
--- a taxon keeps its code under the chosen states, and its range is its code alone
-module _ (n : ℕ) (tree : List ℕ) (branches : branching_within n tree ≡ true) (rows : List (List ℤ)) (j v : ℕ) (first : 1 ≤ v)
-    (l : v ≤ n) where
-  -- of one taxon there is no HTU
-  one-taxon : {A : Type 0} (P : ℕ → ℕ → A) (f : ℕ → A) → P 1 1 ≡ f 1 → (2 ≤ n → ⊥) → P n v ≡ f v
-  one-taxon P f e one =
-      let is : n ≡ 1 = omega arith in
-      let same : v ≡ 1 = omega arith in
-      rw (is, same) e
+-- of one taxon no descendant of row 1 is kept
+pub none_kept : (n : ℕ) (tree : List ℕ) (below : List Below) → Belows n tree below → n ≡ 1 → (below_at below 1).first ≡ 0
+unfolding first_two other_nodes numbers descendants keep
+none_kept n tree below belows one = rw one at (ap (λ (b : Below). b.first) (belows.are 1 (omega arith) (omega arith)))
 
-  -- its chosen state
-  pub taxon-state : chosen_state tree rows n v j ≡ character rows j v
-  taxon-state =
-      by_cases (dec_le 2 n)
-      (λ two. state-taxon n tree (grown_of n tree branches two) rows j v first l)
-      (one-taxon (λ k u. chosen_state tree rows k u j) (character rows j)
-      (unfold chosen_state state_of row1_range clades_below other_nodes numbers descendants keep flat_map value_at only in refl))
+-- of the only taxon its own set is found from the tips up, and no cost
+alone-part : (tree : List ℕ) (own : ℕ → Span) → part_for tree 1 own 1 ≡ tip_part (own 1)
+unfolding set_of cost_of up least_cost clade_at above other_nodes numbers descendants keep
+alone-part tree own = refl
 
-  -- its range
-  pub taxon-range : range tree rows n v j ≡ only (character rows j v)
-  taxon-range =
-      by_cases (dec_le 2 n)
-      (λ two. range-taxon n tree (grown_of n tree branches two) rows j v first l)
-      (one-taxon (λ k u. range tree rows k u j) (λ u. only (character rows j u))
-      (unfold range range_of row1_range clades_below other_nodes numbers descendants keep flat_map value_at in refl))
+-- of a taxon its own set is found from the tips up, and no cost
+pub taxon-part : (n : ℕ) (tree : List ℕ) (branches : branching_within n tree ≡ true) (rows : List (List Span)) (j v : ℕ) → 1 ≤ v → v ≤ n
+    → part_for tree n (character rows j) v ≡ tip_part (character rows j v)
+taxon-part n tree branches rows j v first l =
+    by_cases (dec_le 2 n)
+    (λ two.
+    let grown = grown_of n tree branches two in
+    ap₂ (λ (s : Span) (k : ℕ). record { set = s; cost = k }) (set-taxon n tree grown rows j v first l)
+    (cost-taxon n tree grown rows j v first l))
+    (λ few.
+    let one : n ≡ 1 = omega arith in
+    let row1 : v ≡ 1 = omega arith in
+    rw (one, row1) (alone-part tree (character rows j)))
 
 -- the other one of two descendants
 pub sister_on : (side : Side) (a b : ℕ) → sister_in (record { first = a; second = b }) (on side a b) ≡ on (other side) a b

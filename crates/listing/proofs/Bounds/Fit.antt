@@ -22,10 +22,14 @@ use Rattle.tree_form.proofs.Test.{branching_iff}
 use Rattle.tree_form.proofs.Whole.{branching_nodes, branching-grown, growing_ancestor_le}
 use Rattle.fit_form.specs.Assignments.{character, branch_length}
 use Rattle.fit_form.specs.Fit.{chosen_state, range, fitted_length, fitted_total}
-use Rattle.fit_passes.proofs.Matrix.OnlyCodes.{Each, chosen_state-each, range-each}
+use Rattle.matrix_form.specs.NodeRows.{row_of}
+use Rattle.matrix_form.specs.Spans.{only}
+use Rattle.fit_form.proofs.Matrix.Proper.{character-single, singles_proper}
+use Rattle.fit_passes.specs.Steps.{Each}
+use Rattle.fit_passes.proofs.Matrix.OnlyCodes.{chosen_state-each, range-each}
 use Rattle.consistency_form.specs.Floor.{floor}
 use Rattle.consistency_form.proofs.NeverPasses.{floor-fitted}
-use Rattle.listing_form.specs.Meant.{measure_meant}
+use Rattle.listing_form.specs.Meant.{measure_meant, states_meant}
 use Rattle.listing_form.proofs.Totals.{Limits, limits}
 use Rattle.listing_form.proofs.Bounds.Rows.{near_job, first-known, weight_known}
 
@@ -49,27 +53,29 @@ module _ (job : Job) (within : JobWithinLimits job) (tree : List ℕ) (whole : B
   grown : Grown job.n job.n tree
   grown = branching-grown job.n tree two whole
 
-  -- the codes of the taxa are in range
-  codes_near : (j u : ℕ) → IsNear (character job.rows j u)
-  unfolding character
-  codes_near j u = code_near (get_or job.rows (u - 1) []) (near_job job within (u - 1)).known (j - 1)
+  -- the states of the taxa are in range
+  states_near : (j u : ℕ) → Each IsNear (character (states_meant job) j u)
+  unfolding only row_of
+  states_near j u =
+      let near = code_near (get_or job.rows (u - 1) []) (near_job job within (u - 1)).known (j - 1) in
+      rw (character-single job.rows j u) (record { at_low = near; at_high = near })
 
   -- so are the chosen states
-  pub state_near : (v j : ℕ) → 1 ≤ v → v ≤ 2 * job.n - 2 → IsNear (chosen_state tree job.rows job.n v j)
+  pub state_near : (v j : ℕ) → 1 ≤ v → v ≤ 2 * job.n - 2 → IsNear (chosen_state tree (states_meant job) job.n v j)
   state_near v j first last =
-      chosen_state-each IsNear job.n tree grown job.rows j (λ u p q. codes_near j u) v first last
+      chosen_state-each IsNear job.n tree grown (states_meant job) j (λ u p q. states_near j u) v first last
 
   -- and the ends of the ranges
-  pub range_near : (v j : ℕ) → 1 ≤ v → v ≤ 2 * job.n - 2 → Each IsNear (range tree job.rows job.n v j)
-  range_near v j first last = range-each IsNear job.n tree grown job.rows j (λ u p q. codes_near j u) v first last
+  pub range_near : (v j : ℕ) → 1 ≤ v → v ≤ 2 * job.n - 2 → Each IsNear (range tree (states_meant job) job.n v j)
+  range_near v j first last = range-each IsNear job.n tree grown (states_meant job) j (λ u p q. states_near j u) v first last
 
   -- a fitted length
-  pub fitted-apart : (v : ℕ) → 2 ≤ v → v ≤ 2 * job.n - 2 → fitted_length (measure_meant job).step tree job.rows job.n job.m v ≤ most_difference
+  pub fitted-apart : (v : ℕ) → 2 ≤ v → v ≤ 2 * job.n - 2 → fitted_length (measure_meant job).step tree (states_meant job) job.n job.m v ≤ most_difference
   unfolding fitted_length branch_length
   fitted-apart v first last =
       let some : 1 ≤ ancestor tree v = branching_nodes job.n tree whole v first last in
       let above : ancestor tree v ≤ 2 * job.n - 2 = growing_ancestor_le job.n tree whole v in
-      let own = chosen_state tree job.rows job.n in
+      let own = chosen_state tree (states_meant job) job.n in
       let sum = sum_most (λ j. part (weight_of job.weights j) (own v j) (own (ancestor tree v) j)) most_part (numbers 1 job.m) (λ j m.
       part-in_range (weight_of job.weights j) (own v j) (own (ancestor tree v) j) (weight_known job.weights within.weights_known j)
       (state_near v j (omega arith) last) (state_near (ancestor tree v) j some above)) in
@@ -77,9 +83,9 @@ module _ (job : Job) (within : JobWithinLimits job) (tree : List ℕ) (whole : B
 
 -- the floor of a job is no higher than the fitted total of any branching of its taxa
 pub floor-below : (job : Job) → JobWithinLimits job → (tree : List ℕ) → Branching job.n tree
-    → floor (measure_meant job).step job.rows job.n job.m ≤ fitted_total (measure_meant job).step tree job.rows job.n job.m
+    → floor (measure_meant job).step (states_meant job) job.n job.m ≤ fitted_total (measure_meant job).step tree (states_meant job) job.n job.m
 floor-below job within tree whole =
     let inside = limits job.n job.m within.limits in
-    floor-fitted job.weights job.n job.m tree job.rows inside.taxon
+    floor-fitted job.weights job.n job.m tree (states_meant job) inside.taxon (singles_proper job.rows job.n job.m)
     (first-known job.weights within.weights_known job.m)
     ((branching_iff tree job.n inside.taxon).1 whole)

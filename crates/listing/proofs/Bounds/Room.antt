@@ -30,7 +30,7 @@ use Rattle.wagner_form.proofs.Whole.{wagner-branching}
 use Rattle.fit_form.specs.Fit.{fitted_length, fitted_total}
 use Rattle.listing_form.specs.Lines.{joined}
 use Rattle.listing_form.specs.Kinds.{total_line, index_line, prim_line, wagner_line}
-use Rattle.listing_form.specs.Meant.{order_meant, measure_meant, links_meant, built_meant}
+use Rattle.listing_form.specs.Meant.{order_meant, measure_meant, links_meant, built_meant, states_meant}
 use Rattle.listing_form.specs.Blocks.{
   PrintedTree,
   fitted_line,
@@ -152,13 +152,13 @@ module _ (job : Job) (within : JobWithinLimits job) where
 
     -- the fitted total
     abbrev total : ℕ
-    total = fitted_total (measure_meant job).step tree job.rows job.n job.m
+    total = fitted_total (measure_meant job).step tree (states_meant job) job.n job.m
 
     -- is small
     tree_total_small : total < 1000000000
     unfolding other_nodes
     tree_total_small =
-        let most = sum_most (fitted_length (measure_meant job).step tree job.rows job.n job.m) most_difference (numbers 2 (2 * job.n - 3)) (λ v m.
+        let most = sum_most (fitted_length (measure_meant job).step tree (states_meant job) job.n job.m) most_difference (numbers 2 (2 * job.n - 3)) (λ v m.
         let at = numbers-within 2 (2 * job.n - 3) v m in
         fitted-apart job within tree whole (omega arith) v (omega arith) (omega arith)) in
         omega (arith, tree-total (measure_meant job) job tree, most, length-numbers 2 (2 * job.n - 3), known.taxa)

@@ -6,7 +6,7 @@ use Rattle.difference_form.specs.Rows.{lower, higher}
 use Rattle.matrix_form.specs.declared.spans.Span.{Span}
 use Rattle.fit_form.specs.Sets.{join}
 use Rattle.fit_form.proofs.Bits.{of_bits}
-use Rattle.fit_form.proofs.Sets.Distance.{span}
+use Rattle.matrix_form.specs.Spans.{span}
 use Rattle.fit_sets.proofs.spans.join.Goals as goal
 
 -- the join from its parts

@@ -3,7 +3,7 @@ use Rattle.std.proofs.Common.{ℤ, ◌∙◌, ap₂, subst, SFits, to_z-of_z, w3
 use borrow.Author.Rules.{sfits_of}
 use Rattle.filled.specs.declared.Filled.{Filled}
 use Rattle.fit_sets.specs.Steps.{Carried}
-use Rattle.fit_form.proofs.Sets.Distance.{span}
+use Rattle.matrix_form.specs.Spans.{span}
 use Rattle.fit_sets.proofs.Carrying.{middle-carried}
 use Rattle.fit_sets.proofs.spans.middle.Goals as goal
 

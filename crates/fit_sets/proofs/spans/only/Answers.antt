@@ -1,6 +1,6 @@
 -- `fit_sets::spans::only` meets its contract: both ends are the state. Assumes nothing.
 use Rattle.std.proofs.Common.{to_z-of_z}
-use Rattle.fit_form.specs.Sets.{only}
+use Rattle.matrix_form.specs.Spans.{only}
 use Rattle.fit_sets.proofs.spans.only.Goals as goal
 
 pub returns : goal.returns

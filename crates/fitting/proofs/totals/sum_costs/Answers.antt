@@ -5,7 +5,7 @@ use Rattle.std.proofs.lemmas.Iterator.Consumers.{fold_from_yields_List}
 use Rattle.lists.specs.Numbers.{numbers}
 use Rattle.lists.proofs.Sums.{sum_map}
 use Rattle.matrix_form.specs.Shape.{weight_of}
-use Rattle.matrix_form.specs.NodeRows.{rows_of}
+use Rattle.matrix_form.specs.Spans.{spans_of}
 use Rattle.tree_form.proofs.Ranges.{range-numbers}
 use Rattle.fit_passes.specs.Steps.{character_length}
 use Rattle.fitting.specs.Costs.{CostOf}
@@ -22,9 +22,9 @@ returns c =
     let m = nodes.lent.m in
     record {
       is = λ branches lent weighed.
-          let cost : ℕ → ℕ = λ j. weight_of nodes.lent.weights.now j * character_length plan.tree (rows_of nodes.lent.matrix.now m plan.taxa) plan.taxa j in
+          let cost : ℕ → ℕ = λ j. weight_of nodes.lent.weights.now j * character_length plan.tree (spans_of (lent_lists nodes.lent) m plan.taxa) plan.taxa j in
           let many = lent.characters in
-          let most = characters-most nodes.lent.matrix.now plan.taxa m lent plan.tree branches nodes.lent.weights.now weighed.known m (omega arith) in
+          let most = characters-most (lent_lists nodes.lent) plan.taxa m lent plan.tree branches nodes.lent.weights.now weighed.known m (omega arith) in
           fold_from_yields_List _ (λ (a x : ℕ). (a + x) % (2 ^ 64)) 0 c.fold.result c.fold.ensures.ran
           (YieldsList-from_map _ cost (YieldsList-from_range 1 (m + 1) m c.map.ensures.source (omega arith)) c.map.ensures.closure
           (λ x r q k.
@@ -33,5 +33,5 @@ returns c =
           (λ a x b q k. search (rules, tests))
           ∙ ap (λ (xs : List ℕ). fold (λ (a x : ℕ). (a + x) % (2 ^ 64)) 0 (map cost xs)) (range-numbers 1 m)
           ∙ added_up (λ (x : ℕ). x) (map cost (numbers 1 m)) 0 (omega (arith, most, sum_map (λ (x : ℕ). x) cost (numbers 1 m)))
-          ∙ omega (arith, sum_map (λ (x : ℕ). x) cost (numbers 1 m), total-characters nodes.lent.weights.now plan.tree (rows_of nodes.lent.matrix.now m plan.taxa) plan.taxa m);
+          ∙ omega (arith, sum_map (λ (x : ℕ). x) cost (numbers 1 m), total-characters nodes.lent.weights.now plan.tree (spans_of (lent_lists nodes.lent) m plan.taxa) plan.taxa m);
     }

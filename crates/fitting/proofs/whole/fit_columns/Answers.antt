@@ -32,7 +32,7 @@ loop-j-preserved c =
       ap length high ∙ length-column n j _ loop.high ∙ inv.1,
       ap length chosen ∙ length-column n j _ loop.chosen ∙ inv.2,
       written_more (lent_lists c.args.nodes.now.lent) n c.args.nodes.now.lent.m j first taken c.args.nodes.now.narrow c.args.plan.now.tree _
-          (rw c.taxa.ensures at c.codes_of-codes.ensures)
+          (rw c.taxa.ensures at c.own_sets-own.ensures)
           _ c.fit_character-states.ensures _ _ _ _ _ _ _ _ _ _ _
           inv.3 low high chosen longer,
     )

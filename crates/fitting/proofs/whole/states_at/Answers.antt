@@ -2,7 +2,7 @@
 use Rattle.std.proofs.Common.{sym, refl, ◌∙◌, true≢false, arith, rules}
 use Rattle.matrix_form.proofs.Passing.{one_to-true}
 use Rattle.fitting.specs.Lists.{node_shaped}
-use Rattle.fitting.proofs.Columns.{column-codes}
+use Rattle.fitting.proofs.Columns.{column-own}
 use Rattle.fitting.proofs.LastNode.{last_told, last_number}
 use Rattle.matrix_form.proofs.Limits.{shaped-limits}
 use Rattle.fitting.proofs.Shapes.{not_found}
@@ -44,6 +44,6 @@ returns c =
     let last = last_told _ _ (shaped-limits _ _ _ right).taxa c.last_node.ensures in
     let node = rw last at (sym c.one_to-2.ensures ∙ c.if-not-one_to-2.false) in
     record {
-      are = λ branches lent p q l h. fits.are _ _ (column-codes _ _ _ lent _ l h _ c.codes_of.ensures) branches _ p q;
+      are = λ branches lent p q l h. fits.are _ _ (column-own _ _ _ lent _ l h _ c.own_sets.ensures) branches _ p q;
       unshaped = λ f. absurd (true≢false (sym (rw (right, sym c.one_to.ensures ∙ c.if-not-one_to.false, node) refl) ∙ f));
     }

@@ -5,7 +5,7 @@ use borrow.Author.Rules.{sfits_of}
 use lib.Signed.{nat_abs-le}
 use mir.Syntax.{w32}
 use mir.Val.{SFits}
-use Rattle.difference_form.specs.Rows.{part}
+use Rattle.difference_form.specs.Rows.{lower, part}
 use Rattle.difference_form.proofs.Laws.Weights.{part-most}
 use Rattle.fit_form.proofs.Bits.{of_bits}
 use Rattle.matrix_form.specs.declared.spans.Span.{Span}
@@ -20,10 +20,12 @@ returns c =
     let told = c.struct_told-1.given in
     let high : SFits w32 ends.high = sfits_of told.1.0.1 in
     let low : SFits w32 ends.low = sfits_of told.0.1 in
-    let found = of_bits (part weight) ends.high ends.low _ high low c.part.ensures.is in
-    let most = part-most weight ends.high ends.low (omega (arith, c.ranges.weight.fits)) (nat_abs-le ends.high high.sfits)
-    (nat_abs-le ends.low low.sfits) in
+    let least : SFits w32 c.lower.result = sfits_of c.lower.type_inv in
+    let end = of_bits lower ends.low ends.high _ low high c.lower.ensures in
+    let found = of_bits (part weight) ends.low c.lower.result _ low least c.part.ensures.is in
+    let most = part-most weight ends.low c.lower.result (omega (arith, c.ranges.weight.fits)) (nat_abs-le ends.low low.sfits)
+    (nat_abs-le c.lower.result least.sfits) in
     record {
-      is = found ∙ ap (λ (e : Span). part weight e.high e.low) c.ends-ends.ensures.are;
+      is = found ∙ ap (part weight ends.low) end ∙ ap (λ (e : Span). part weight e.low (lower e.low e.high)) c.ends-ends.ensures.are;
       most = rw found most;
     }

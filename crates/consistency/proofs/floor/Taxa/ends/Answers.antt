@@ -4,12 +4,12 @@ use borrow.Author.Rules.{sfits_of}
 use Rattle.std.specs.List.{range_with_len}
 use Rattle.std.proofs.lemmas.Iterator.{YieldsList-from_range}
 use Rattle.std.proofs.lemmas.Iterator.Consumers.{fold_from_yields_List}
-use Rattle.fit_form.specs.Sets.{only}
+use Rattle.matrix_form.specs.Spans.{only}
 use Rattle.matrix_form.specs.Shape.{state_at}
 use Rattle.matrix_form.specs.declared.spans.Span.{Span}
 use Rattle.fit_form.proofs.Bits.{of_bit}
-use Rattle.consistency.specs.Steps.{column, widened, ends_of}
-use Rattle.consistency.proofs.Columns.{widened_by, ends_folded}
+use Rattle.consistency.specs.Steps.{column, narrowed, ends_of}
+use Rattle.consistency.proofs.Columns.{narrowed_by, ends_folded}
 use Rattle.consistency.proofs.floor.Taxa.ends.Goals as goal
 
 pub returns : goal.returns
@@ -23,9 +23,9 @@ returns c =
     let last : c.only-last.result ≡ only (state_at matrix n j) =
     of_bit only _ _ (sfits_of c.code_at.type_inv) c.only-last.ensures ∙ ap only c.code_at.ensures in
     record {
-      are = fold_from_yields_List _ (λ (e : Span) v. widened (state_at matrix v j) e) c.only-last.result c.fold.result c.fold.ensures.ran
+      are = fold_from_yields_List _ (λ (e : Span) v. narrowed (only (state_at matrix v j)) e) c.only-last.result c.fold.result c.fold.ensures.ran
           (YieldsList-from_range 1 n (n - 1) refl refl) (λ a x b q k. search (rules, tests))
-          ∙ ap (λ (e : Span). widened_by matrix j e (range_with_len 1 (n - 1))) (last ∙ ap (λ u. only (state_at matrix u j)) row)
+          ∙ ap (λ (e : Span). narrowed_by matrix j e (range_with_len 1 (n - 1))) (last ∙ ap (λ u. only (state_at matrix u j)) row)
           ∙ ends_folded matrix j (n - 1) 1
           ∙ ap (λ count. ends_of (column matrix j 1 count)) all;
     }

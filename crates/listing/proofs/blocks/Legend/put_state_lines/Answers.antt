@@ -1,6 +1,5 @@
 -- What the check leaves of `listing::blocks::Legend::put_state_lines`.
 use mathlib.Core.Path.{sym}
-use Prim.Native.Nat.{◌-◌}
 use Rattle.matrix_form.specs.Shape.{state_at}
 use Rattle.listing_form.specs.Blocks.{node_lines, state_lines}
 use Rattle.listing_form.proofs.Joined.{joined-each}
