@@ -46,16 +46,21 @@ fn weights_of(numbers: &[i32]) -> [u8; COLUMNS] {
 // Writes what a step says of the matrix: `row`, a node and codes; `fill`, a seed and eight codes; `weights`, those of the first characters;
 // `generated`, the seed of weights.
 fn change(held: &mut Held, word: &str, numbers: &[i32]) {
-    match (word, numbers) {
-        ("row", [v, codes @ ..]) => write_row(&mut held.codes, count(*v), codes),
-        ("fill", [seed, a, b, c, d, e, f, g, h]) => fill(
-            &mut held.codes,
-            [*a, *b, *c, *d, *e, *f, *g, *h],
-            count(*seed) as u64,
-        ),
-        ("weights", first) => held.weights = weights_of(first),
-        ("generated", [seed]) => held.weights = weights::generated(count(*seed) as u64),
-        _ => {}
+    if word == "row" {
+        if let [v, codes @ ..] = numbers {
+            write_row(&mut held.codes, count(*v), codes);
+        }
+    } else if word == "fill" {
+        if let [seed, a, b, c, d, e, f, g, h] = numbers {
+            let codes = [*a, *b, *c, *d, *e, *f, *g, *h];
+            fill(&mut held.codes, codes, count(*seed) as u64);
+        }
+    } else if word == "weights" {
+        held.weights = weights_of(numbers);
+    } else if word == "generated" {
+        if let [seed] = numbers {
+            held.weights = weights::generated(count(*seed) as u64);
+        }
     }
 }
 

@@ -92,13 +92,18 @@ impl Steps for Differences {
         let held = &self.held;
         let [n, m, a, b, c, shown, size]: [usize; 7] = counts_of(numbers);
         let lent = held.lent(n, m);
-        match word {
-            "difference" => print_length(rt, calls::difference(&lent, a, b)),
-            "lent" => show_lent(rt, &held.codes[..c.min(MATRIX_SIZE)], shown, [n, m, a, b]),
-            "interval" => print_length(rt, calls::interval_difference(&lent, a, b, c)),
-            "medians" => show_medians(rt, &lent, [a, b, c], size, shown),
-            "codes" => show_codes(rt, numbers),
-            _ => Ok(()),
+        if word == "difference" {
+            print_length(rt, calls::difference(&lent, a, b))
+        } else if word == "lent" {
+            show_lent(rt, &held.codes[..c.min(MATRIX_SIZE)], shown, [n, m, a, b])
+        } else if word == "interval" {
+            print_length(rt, calls::interval_difference(&lent, a, b, c))
+        } else if word == "medians" {
+            show_medians(rt, &lent, [a, b, c], size, shown)
+        } else if word == "codes" {
+            show_codes(rt, numbers)
+        } else {
+            Ok(())
         }
     }
 }

@@ -142,25 +142,32 @@ impl Steps for Work {
     }
 
     fn write(&mut self, word: &str, numbers: &[i32]) {
-        match word {
-            "ancestors" => self.records = records_of(numbers),
-            "record" => write_record(&mut self.records, counts_of(numbers)),
-            _ => {}
+        if word == "ancestors" {
+            self.records = records_of(numbers);
+        } else if word == "record" {
+            write_record(&mut self.records, counts_of(numbers));
         }
     }
 
     fn show(&mut self, rt: &impl Print, word: &str, numbers: &[i32]) -> io::Result<()> {
         let counts: [usize; 7] = counts_of(numbers);
         let [n, m, v, j, ..] = counts;
-        match word {
-            "fit" => self.show_fit(rt, n, m),
-            "states" => self.show_all(rt, n, m),
-            "node" => show_node(rt, &self.held.lent(n, m), &self.records, v, j),
-            "own" => self.show_own(rt, n, m),
-            "ends" => self.show_ends(rt),
-            "fit_of_sizes" => self.show_fit_of(rt, counts),
-            "others_of_sizes" => self.show_others_of(rt, counts),
-            _ => Ok(()),
+        if word == "fit" {
+            self.show_fit(rt, n, m)
+        } else if word == "states" {
+            self.show_all(rt, n, m)
+        } else if word == "node" {
+            show_node(rt, &self.held.lent(n, m), &self.records, v, j)
+        } else if word == "own" {
+            self.show_own(rt, n, m)
+        } else if word == "ends" {
+            self.show_ends(rt)
+        } else if word == "fit_of_sizes" {
+            self.show_fit_of(rt, counts)
+        } else if word == "others_of_sizes" {
+            self.show_others_of(rt, counts)
+        } else {
+            Ok(())
         }
     }
 }

@@ -69,10 +69,12 @@ impl Steps for Networks {
     fn show(&mut self, rt: &impl Print, word: &str, numbers: &[i32]) -> io::Result<()> {
         let held = &self.held;
         let [n, m, codes, weights]: [usize; 4] = counts_of(numbers);
-        match word {
-            "show" => print_answer(rt, network(&held.lent(n, m))),
-            "lent" => show_lent(rt, &held.codes[..codes.min(MATRIX_SIZE)], weights, n, m),
-            _ => Ok(()),
+        if word == "show" {
+            print_answer(rt, network(&held.lent(n, m)))
+        } else if word == "lent" {
+            show_lent(rt, &held.codes[..codes.min(MATRIX_SIZE)], weights, n, m)
+        } else {
+            Ok(())
         }
     }
 }

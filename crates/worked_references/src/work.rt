@@ -111,24 +111,30 @@ impl Steps for Work {
     }
 
     fn write(&mut self, word: &str, numbers: &[i32]) {
-        match word {
-            "begin" => *self = Work::new(),
-            "sizes" => self.sizes = counts_of(numbers),
-            _ => {}
+        if word == "begin" {
+            *self = Work::new();
+        } else if word == "sizes" {
+            self.sizes = counts_of(numbers);
         }
     }
 
     fn show(&mut self, rt: &impl Print, word: &str, numbers: &[i32]) -> io::Result<()> {
         let [n, m, b]: [usize; 3] = counts_of(numbers);
         let records = self.records;
-        match word {
-            "place" => self.place(rt, n, m, b),
-            "write" => self.write_tree(rt, n, m, self.tree),
-            "write_alone" => self.write_tree(rt, n, m, Tree::alone()),
-            "fit" => self.fit(rt, n, m, &records),
-            "fit_others" => self.fit(rt, n, m, &OTHERS),
-            "node" => print_node(rt, &self.ranges, n, 4),
-            _ => Ok(()),
+        if word == "place" {
+            self.place(rt, n, m, b)
+        } else if word == "write" {
+            self.write_tree(rt, n, m, self.tree)
+        } else if word == "write_alone" {
+            self.write_tree(rt, n, m, Tree::alone())
+        } else if word == "fit" {
+            self.fit(rt, n, m, &records)
+        } else if word == "fit_others" {
+            self.fit(rt, n, m, &OTHERS)
+        } else if word == "node" {
+            print_node(rt, &self.ranges, n, 4)
+        } else {
+            Ok(())
         }
     }
 }

@@ -97,24 +97,30 @@ impl Steps for Trees {
     // taxon hung on an interval through a node.
     fn write(&mut self, word: &str, numbers: &[i32]) {
         let [b, c, y]: [usize; 3] = counts_of(numbers);
-        match word {
-            "advance" => self.order = Order::Advance,
-            "closest" => self.order = Order::Closest,
-            "alone" => self.tree = Tree::alone(),
-            "link" => self.tree = self.tree.link(b),
-            "hang" => self.tree = self.tree.hang(b, c, y),
-            _ => {}
+        if word == "advance" {
+            self.order = Order::Advance;
+        } else if word == "closest" {
+            self.order = Order::Closest;
+        } else if word == "alone" {
+            self.tree = Tree::alone();
+        } else if word == "link" {
+            self.tree = self.tree.link(b);
+        } else if word == "hang" {
+            self.tree = self.tree.hang(b, c, y);
         }
     }
 
     // `show` shows a build of n taxa and m characters, `place` a placement of a taxon on the tree, `sizes` what lists of these sizes bring.
     fn show(&mut self, rt: &impl Print, word: &str, numbers: &[i32]) -> io::Result<()> {
         let [n, m, b]: [usize; 3] = counts_of(numbers);
-        match word {
-            "show" => self.show_build(rt, n, m),
-            "place" => self.place(rt, n, m, b),
-            "sizes" => print_sizes(rt, n, m, self.order),
-            _ => Ok(()),
+        if word == "show" {
+            self.show_build(rt, n, m)
+        } else if word == "place" {
+            self.place(rt, n, m, b)
+        } else if word == "sizes" {
+            print_sizes(rt, n, m, self.order)
+        } else {
+            Ok(())
         }
     }
 }
