@@ -5,11 +5,14 @@ use Prim.Native.Nat.{ℕ, ◌≤◌, ◌<◌, ◌+◌, ◌-◌, ◌*◌, ◌/◌
 use native.Mathlib.Nat.{mul-div_cancel_left}
 use native.Mathlib.Omega.{arith}
 use lib.IntN.{ℤ}
+use lib.ListN.{length}
 use Rattle.std.proofs.Common.{Iter, Option, fold}
 use denote.Param.Members.{Mut}
 use Rattle.std.specs.Fn.{Called}
 use Rattle.std.specs.Iterator.Runs.{WholeRun}
-use Rattle.std.proofs.lemmas.Iterator.Adapters.{YieldsAtMost, fits_from_length}
+use Rattle.std.proofs.lemmas.Iterator.Adapters.{YieldsAtMost, fits_from_length, at_most_from_yields_List}
+use Rattle.std.proofs.lemmas.Iterator.Consumers.{YieldsList-at}
+use Rattle.std.proofs.lemmas.Slice.Zip.{length-zip}
 use Rattle.std.proofs.iter.Yields.{fronts}
 use Rattle.std.proofs.lemmas.Iterator.{YieldsList, zips, YieldsList-from_slice, YieldsList-from_zip}
 use Rattle.std.specs.List.{zip}
@@ -18,17 +21,20 @@ use Rattle.std.specs.Iterator.Adapters.{map_source, map_callee, map_steps, zip_f
 use Rattle.std.specs.declared.iter.Zip.{Zip}
 use Rattle.std.specs.declared.iter.Map.{Map}
 
--- what a chain over two rows yields: the pairs of their codes
-pub pairs_yielded : (s : Zip (Iter ℤ) (Iter ℤ)) (xs ys : List ℤ) → iter_rest (zip_first s) ≡ xs → iter_rest (zip_second s) ≡ ys
-    → YieldsList (zips fronts fronts) (λ p. (p.0.now, p.1.now)) s (zip xs ys)
-pairs_yielded s xs ys first second = YieldsList-from_zip (YieldsList-from_slice xs first) (YieldsList-from_slice ys second)
-
--- and what a chain over two rows and their weights yields: each pair with its weight
-pub triples_yielded : (s : Zip (Zip (Iter ℤ) (Iter ℤ)) (Iter ℕ)) (xs ys : List ℤ) (weights : List ℕ)
-    → iter_rest (zip_first (zip_first s)) ≡ xs → iter_rest (zip_second (zip_first s)) ≡ ys → iter_rest (zip_second s) ≡ weights
+-- what goes through two rows and their weights yields the pairs of their codes, each with its weight
+pub pairs_yielded : {s t : Zip (Zip (Iter ℤ) (Iter ℤ)) (Iter ℕ)} → s ≡ t → (xs ys : List ℤ) (weights : List ℕ)
+    → iter_rest (zip_first (zip_first t)) ≡ xs → iter_rest (zip_second (zip_first t)) ≡ ys → iter_rest (zip_second t) ≡ weights
     → YieldsList (zips (zips fronts fronts) fronts) (λ p. ((p.0.0.now, p.0.1.now), p.1.now)) s (zip (zip xs ys) weights)
-triples_yielded s xs ys weights first second third =
-    YieldsList-from_zip (pairs_yielded (zip_first s) xs ys first second) (YieldsList-from_slice weights third)
+pairs_yielded e xs ys weights first second third =
+    YieldsList-at e
+    (YieldsList-from_zip (YieldsList-from_zip (YieldsList-from_slice xs first) (YieldsList-from_slice ys second)) (YieldsList-from_slice weights third))
+
+-- and as many at most as the first row has codes
+pub pairs_few : {s t : Zip (Zip (Iter ℤ) (Iter ℤ)) (Iter ℕ)} → s ≡ t → (xs ys : List ℤ) (weights : List ℕ)
+    → iter_rest (zip_first (zip_first t)) ≡ xs → iter_rest (zip_second (zip_first t)) ≡ ys → iter_rest (zip_second t) ≡ weights
+    → (n : ℕ) → length xs ≤ n → YieldsAtMost (zips (zips fronts fronts) fronts) s n
+pairs_few e xs ys weights first second third n few =
+    at_most_from_yields_List (pairs_yielded e xs ys weights first second third) (omega (arith, few, length-zip (zip xs ys) weights, length-zip xs ys))
 
 -- a sum over mapped items, of which there are at most n and none is mapped to more than a bound
 pub sum_bounded : {S A F : Type 0} {steps : S → Option A → S → Type 0} {g : Mut F (A × Unit {0}) ℕ} (s : Map S F) (f : F) (n bound r : ℕ)

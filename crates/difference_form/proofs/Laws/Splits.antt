@@ -1,17 +1,18 @@
--- The difference of two rows in parts: of their fronts and of what stands behind them; where weights are missing, document 01's.
-use mathlib.Core.Path.{◌≡◌, refl, sym, ap, ap₂, ◌∙◌}
+-- The difference of two rows in parts: of their fronts and of what stands behind them, by weights of 1 where weights are missing.
+use mathlib.Core.Path.{◌≡◌, refl, sym, ap, ◌∙◌}
 use mathlib.Core.List.{List, [], ◌∷◌}
 use Prim.Native.Nat.{ℕ, zero, suc, ◌+◌, ◌*◌, ◌≤◌, ◌<◌, min}
 use native.Mathlib.Nat.{add_assoc, zero-add}
 use native.Mathlib.Numerals.{one-add}
 use native.Mathlib.Omega.{arith}
 use lib.IntN.{ℤ}
-use lib.ListN.{length, take, drop, length-take, length-drop}
+use lib.ListN.{length, take, drop, replicate, length-take}
 use lib.Seq.{drop-drop, get_or-drop}
-use Rattle.std.proofs.lemmas.List.{get_or_past, get_or-take, take-take}
+use Rattle.std.proofs.lemmas.List.{get_or_past, get_or-take, take-take, take-replicate, drop-take}
+use Rattle.lists.proofs.Filled.{get_d_replicate}
 use Rattle.matrix_form.specs.Shape.{weight_at}
-use Rattle.difference_form.specs.Rows.{part, difference, unweighted}
-use Rattle.difference_form.proofs.Laws.Weights.{difference-weights, difference-alike}
+use Rattle.difference_form.specs.Rows.{part, difference}
+use Rattle.difference_form.proofs.Laws.Weights.{difference-weights}
 
 -- a row differs by nothing from one without characters
 pub difference-nil : (weights : List ℕ) (xs : List ℤ) → difference weights xs [] ≡ 0
@@ -56,32 +57,40 @@ difference-front k weights xs ys = difference-weights (take k weights) weights (
     same : (i : ℕ) → i < length (take k xs) → weight_at (take k weights) i ≡ weight_at weights i
     same i below = get_or-take k weights i 1 (omega (arith, below, length-take k xs))
 
--- behind all weights, or behind all characters, the difference is document 01's
-pub difference-behind : (k : ℕ) (weights : List ℕ) (xs ys : List ℤ) → min (length weights) (length xs) ≤ k
-    → difference (drop k weights) (drop k xs) ys ≡ unweighted (drop k xs) ys
+-- behind all weights each character weighs 1
+difference-behind : (k n : ℕ) (weights : List ℕ) (xs ys : List ℤ) → (0 < length xs → length weights ≤ k)
+    → difference (replicate n 1) xs ys ≡ difference (drop k weights) xs ys
 unfolding weight_at
-difference-behind k weights xs ys h = difference-alike (drop k weights) (drop k xs) ys missing
+difference-behind k n weights xs ys h = difference-weights (replicate n 1) (drop k weights) xs ys same
   where
-    missing : (i : ℕ) → i < length (drop k xs) → weight_at (drop k weights) i ≡ 1
-    missing i below = get_or-drop k weights i 1 ∙ get_or_past weights (k + i) 1 (omega (arith, below, length-drop k xs))
+    same : (i : ℕ) → i < length xs → weight_at (replicate n 1) i ≡ weight_at (drop k weights) i
+    same i below =
+        let past : length weights ≤ k + i = omega (arith, h (omega arith)) in
+        get_d_replicate 1 n i ∙ sym (get_or-drop k weights i 1 ∙ get_or_past weights (k + i) 1 past)
 
--- two rows cut to one length, parted where the weights end: the difference of the fronts and document 01's of the rest
-pub difference-parted : (k count known : ℕ) (weights : List ℕ) (xs ys : List ℤ)
-    → count ≡ min (min (length xs) (length ys)) k → known ≡ min (length weights) count
-    → difference (take known weights) (take known xs) (take known ys) + unweighted (drop known (take count xs)) (drop known (take count ys))
+-- two rows cut to one length, parted where the weights end: the difference of the fronts, and that of the rest by weights of 1
+pub difference-parted : (k known more : ℕ) (weights : List ℕ) (xs ys : List ℤ)
+    → known + more ≡ min (min (length xs) (length ys)) k → known ≡ min (length weights) (known + more)
+    → difference (take known weights) (take known xs) (take known ys)
+    + difference (take more (replicate k 1)) (take more (drop known xs)) (take more (drop known ys))
     ≡ difference weights (take k xs) (take k ys)
-difference-parted k count known weights xs ys cut parted =
-    let front : difference (take known weights) (take known xs) (take known ys) ≡ difference weights (take known xs) (take known ys) =
-    difference-front known weights xs ys in
-    let shorter : take known (take count xs) ≡ take known xs = take-take known count xs (omega arith) in
-    let shorter_too : take known (take count ys) ≡ take known ys = take-take known count ys (omega arith) in
-    let behind : difference (drop known weights) (drop known (take count xs)) (drop known (take count ys))
-    ≡ unweighted (drop known (take count xs)) (drop known (take count ys)) =
-    difference-behind known weights (take count xs) (drop known (take count ys)) (omega (arith, length-take count xs)) in
-    ap₂ ◌+◌ (front ∙ ap₂ (difference weights) (sym shorter) (sym shorter_too)) (sym behind)
-    ∙ sym (difference-split known weights (take count xs) (take count ys))
-    ∙ ap₂ (difference weights) (sym (take-take count k xs (omega arith))) (sym (take-take count k ys (omega arith)))
-    ∙ sym (difference-ended count weights (take k xs) (take k ys) (omega (arith, length-take k xs, length-take k ys)))
+difference-parted k known more weights xs ys cut parted =
+    let behind : 0 < length (take more (drop known xs)) → length weights ≤ known =
+    λ some. omega (arith, some, length-take more (drop known xs)) in
+    rw (
+      take-replicate {X = ℕ} more k 1 (omega arith),
+      difference-front known weights xs ys,
+      difference-behind known more weights (take more (drop known xs)) (take more (drop known ys)) behind,
+      difference-ended (known + more) weights (take k xs) (take k ys) (omega (arith, length-take k xs, length-take k ys)),
+      take-take (known + more) k xs (omega arith),
+      take-take (known + more) k ys (omega arith),
+      difference-split known weights (take (known + more) xs) (take (known + more) ys),
+      take-take known (known + more) xs (omega arith),
+      take-take known (known + more) ys (omega arith),
+      drop-take known more xs,
+      drop-take known more ys,
+    )
+    refl
 
 -- a number that a row decides, 0 for a row without characters, is at most so much a character if it is where there is one
 pub bounded_by_length : (f : List ℤ → ℕ) (xs : List ℤ) (r bound : ℕ) → f [] ≡ 0 → r ≡ f xs

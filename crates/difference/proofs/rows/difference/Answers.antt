@@ -1,37 +1,32 @@
 -- `difference::rows::difference` meets its contract: the two sums make the difference, each of at most 2 ^ 40 a character.
-use mathlib.Core.Path.{◌≡◌, sym, ap, ap₂, ◌∙◌}
-use Prim.Native.Nat.{ℕ, ◌+◌, ◌-◌, ◌*◌, ◌≤◌}
+use mathlib.Core.Path.{◌≡◌, ap₂, ◌∙◌}
+use Prim.Native.Nat.{◌+◌, ◌-◌, ◌*◌, ◌≤◌, min}
 use native.Mathlib.Omega.{arith}
-use lib.ListN.{length, take, drop, length-take, length-drop}
-use Rattle.std.proofs.lemmas.List.{drop-take}
-use Rattle.difference_form.specs.Rows.{difference, unweighted}
+use lib.ListN.{length, take, drop, length-take}
+use Rattle.difference_form.specs.Rows.{difference}
 use Rattle.difference_form.proofs.Laws.Splits.{difference-parted}
 use Rattle.difference.proofs.rows.difference.Goals as goal
 
 -- the two sums make the difference
-is : (c : goal.After-alike)
-    → c.weighed.result + c.alike.result ≡ difference c.args.weights.now (take 128 c.args.xs.now) (take 128 c.args.ys.now)
+is : (c : goal.After-weighed-2)
+    → c.weighed.result + c.weighed-2.result ≡ difference c.args.weights.now (take 128 c.args.xs.now) (take 128 c.args.ys.now)
 is c =
     let count = c.min-count.result in
     let known = c.min-known.result in
-    let xs = c.args.xs.now in
-    let ys = c.args.ys.now in
-    let rest : known + (count - known) ≡ count = omega (arith, c.min-known.ensures) in
-    ap₂ ◌+◌ c.weighed.ensures.is
-    (c.alike.ensures.is
-    ∙ ap₂ unweighted (sym (drop-take known (count - known) xs)) (sym (drop-take known (count - known) ys))
-    ∙ ap (λ (k : ℕ). unweighted (drop known (take k xs)) (drop known (take k ys))) rest)
-    ∙ difference-parted 128 count known c.args.weights.now xs ys (omega (arith, c.min.ensures, c.min-count.ensures)) c.min-known.ensures
+    let whole : known + (count - known) ≡ min (min (length c.args.xs.now) (length c.args.ys.now)) 128 =
+    omega (arith, c.min.ensures, c.min-count.ensures, c.min-known.ensures) in
+    ap₂ ◌+◌ c.weighed.ensures.is c.weighed-2.ensures.is
+    ∙ difference-parted 128 known (count - known) c.args.weights.now c.args.xs.now c.args.ys.now whole (omega (arith, c.min-known.ensures))
 
 -- each is at most 2 ^ 40 a character
-most : (c : goal.After-alike) → c.weighed.result + c.alike.result ≤ 128 * 1099511627776
+most : (c : goal.After-weighed-2) → c.weighed.result + c.weighed-2.result ≤ 128 * 1099511627776
 most c =
     let count = c.min-count.result in
     let known = c.min-known.result in
     omega (
       arith,
       c.weighed.ensures.most,
-      c.alike.ensures.most,
+      c.weighed-2.ensures.most,
       length-take known c.args.xs.now,
       length-take (count - known) (drop known c.args.xs.now),
     )

@@ -4,11 +4,10 @@ use lib.ListN.{length}
 use native.Mathlib.Omega.{arith}
 use Rattle.std.proofs.Common.{rules, tests}
 use Rattle.std.proofs.lemmas.Iterator.{YieldsList-from_map}
-use Rattle.std.proofs.lemmas.Iterator.Consumers.{YieldsList-at, sum_by_from_yields_List}
-use Rattle.std.proofs.lemmas.Iterator.Adapters.{fits_from_length, at_most_from_yields_List}
-use Rattle.std.proofs.lemmas.Slice.Zip.{length-zip}
+use Rattle.std.proofs.lemmas.Iterator.Consumers.{sum_by_from_yields_List}
+use Rattle.std.proofs.lemmas.Iterator.Adapters.{fits_from_length}
 use Rattle.std.specs.List.{zip}
-use Rattle.difference_form.proofs.Pairs.{triples_yielded, sum_bounded}
+use Rattle.difference_form.proofs.Pairs.{pairs_yielded, pairs_few, sum_bounded}
 use Rattle.difference_form.proofs.Laws.Sums.{weighed_part, parts-difference}
 use Rattle.difference_form.specs.Rows.{difference}
 use Rattle.difference_form.proofs.Laws.Splits.{bounded_by_length}
@@ -18,9 +17,7 @@ pub sum-requires-clause-fits : goal.sum-requires-clause-fits
 sum-requires-clause-fits c =
     let given = c.args in
     fits_from_length {s = c.map.result} _ _ 128 18446744073709551616
-    (at_most_from_yields_List
-    (YieldsList-at c.map.ensures.source (triples_yielded c.zip-2.result given.xs.now given.ys.now given.weights.now (cc) (cc) (cc)))
-    (omega (arith, length-zip (zip given.xs.now given.ys.now) given.weights.now, length-zip given.xs.now given.ys.now)))
+    (pairs_few c.map.ensures.source given.xs.now given.ys.now given.weights.now (cc) (cc) (cc) 128 (omega arith))
     c.map.ensures.closure
     (omega arith)
     (λ x r q k. search rules)
@@ -30,7 +27,7 @@ is : (c : goal.After-sum) → c.sum.result ≡ difference c.args.weights.now c.a
 is c =
     let given = c.args in
     sum_by_from_yields_List weighed_part (zip (zip given.xs.now given.ys.now) given.weights.now) c.map.result _ c.sum.ensures.ran
-    (YieldsList-from_map _ weighed_part (YieldsList-at c.map.ensures.source (triples_yielded c.zip-2.result given.xs.now given.ys.now given.weights.now (cc) (cc) (cc))) c.map.ensures.closure (λ x r q k. search (rules, tests)))
+    (YieldsList-from_map _ weighed_part (pairs_yielded c.map.ensures.source given.xs.now given.ys.now given.weights.now (cc) (cc) (cc)) c.map.ensures.closure (λ x r q k. search (rules, tests)))
     ∙ parts-difference given.weights.now given.xs.now given.ys.now c.requires.1
 
 pub returns-clause-is : goal.returns-clause-is
@@ -41,6 +38,6 @@ unfolding difference
 returns-clause-most c =
     let given = c.args in
     bounded_by_length (λ row. difference given.weights.now row given.ys.now) given.xs.now c.sum.result 1099511627776 refl (is c)
-    (λ some. sum_bounded c.map.result _ (length given.xs.now) 1099511627776 c.sum.result (c.sum.ensures.runs tt)
-    (at_most_from_yields_List (YieldsList-at c.map.ensures.source (triples_yielded c.zip-2.result given.xs.now given.ys.now given.weights.now (cc) (cc) (cc))) (omega (arith, length-zip (zip given.xs.now given.ys.now) given.weights.now, length-zip given.xs.now given.ys.now)))
-    c.map.ensures.closure (λ x r q k. search rules) some)
+    (sum_bounded c.map.result _ (length given.xs.now) 1099511627776 c.sum.result (c.sum.ensures.runs tt)
+    (pairs_few c.map.ensures.source given.xs.now given.ys.now given.weights.now (cc) (cc) (cc) (length given.xs.now) (omega arith))
+    c.map.ensures.closure (λ x r q k. search rules))
