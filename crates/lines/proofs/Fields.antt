@@ -25,6 +25,7 @@ use Rattle.file_form.specs.Job.{name_size}
 use Rattle.listing_form.specs.Lines.{line, hyphen, htu_name, node_name}
 use Rattle.listing_form.specs.Kinds.{index_line}
 use Rattle.lines.specs.Fields.{or_hyphen}
+use Rattle.lines.proofs.Puts.{put_line, put_next, put_end}
 use Rattle.file_form.specs.Written.{name_bytes, names_in}
 
 -- a code below zero
@@ -90,8 +91,11 @@ node_lent n lent v some h =
 
 -- the line `c` by its two fields, each of them a hyphen where there is no index
 pub index_fields : (index : Option Index)
-    → line (bytes "c" ∷ or_hyphen digits_of (option_map (λ (found : Index). found.quotient) index) ∷ or_hyphen digits_of (option_map (λ (found : Index). found.remainder) index) ∷ [])
-    ≡ index_line index
+    → index_line index
+    ≡ line (bytes "c" ∷ or_hyphen digits_of (option_map (λ (found : Index). found.quotient) index) ∷ or_hyphen digits_of (option_map (λ (found : Index). found.remainder) index) ∷ [])
 unfolding or_hyphen index_line
 index_fields (Some index) = refl
 index_fields None = refl
+
+-- the steps by which the check puts a line together from its fields
+pub ruleset line_steps = (put_line, put_next, put_end, same_code, index_fields)

@@ -5,7 +5,9 @@ use Prim.Native.Nat.{ℕ, ◌+◌, ◌≤◌, ◌<◌}
 use native.Mathlib.Numerals.{add-one}
 use borrow.Author.Tests.{lt-ltb, le-ltb}
 use lib.ListN.{length, set}
-use Rattle.text_form.specs.Bytes.{tab}
+use Rattle.text_form.specs.Bytes.{tab, line_feed}
+use Rattle.listing_form.specs.Lines.{line}
+use Rattle.listing_form.proofs.LineFields.{behind, line_fields}
 use Rattle.lines.specs.declared.put.Listing.{Listing}
 use Rattle.lines.specs.Put.{put_byte, put_text, Put}
 use Rattle.lines.specs.Puts.{Puts}
@@ -48,9 +50,21 @@ pub put_more : {A : Type 0} (f : A → ℕ) (xs : List A) (x : A) {old mid new :
     → Puts (map f (xs ++ (x ∷ []))) old new
 put_more f xs x p q = put_same (sym (map-append f xs (x ∷ []))) (put_then p q)
 
--- a field behind a tab, said in other words
-pub put_said : {field said : List ℕ} {old new : Listing} → field ≡ said → Puts (tab ∷ field) old new → Puts (tab ∷ said) old new
-put_said e p = put_same (ap (λ text. tab ∷ text) e) p
+-- a line is put by its first field and what stands behind it
+pub put_line : (field : List ℕ) (fields : List (List ℕ)) (state : List ℕ × ℕ)
+    → put_text (line (field ∷ fields)) state ≡ put_text (behind fields) (put_text field state)
+put_line field fields state = ap (λ text. put_text text state) (line_fields field fields) ∙ put_append field (behind fields) state
+
+-- what stands behind it, field by field
+pub put_next : (field : List ℕ) (fields : List (List ℕ)) (state : List ℕ × ℕ)
+    → put_text (behind (field ∷ fields)) state ≡ put_text (behind fields) (put_text (tab ∷ field) state)
+unfolding behind
+put_next field fields state = put_append (tab ∷ field) (behind fields) state
+
+-- and at last the line feed
+pub put_end : (state : List ℕ × ℕ) → put_text (behind []) state ≡ put_text (line_feed ∷ []) state
+unfolding behind
+put_end state = refl
 
 -- what is still to be put so that in all `whole` is put
 pub record Left (whole : List ℕ) (old : Listing) (rest : List ℕ) (now : Listing) : Type 0 where

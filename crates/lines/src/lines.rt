@@ -20,6 +20,7 @@ use tree_form::placement::Placement;
 impl<'a> Listing<'a> {
     // Puts the line of a block's total, with the byte of its letter.
     // Kept: no plainer, the letter is a byte that is printed, and no number for a kind; an enum would be turned into it here.
+    #[tactic(auto, using(crate::proofs::Fields::line_steps), unfolding(crate::specs::Fields::total_text))]
     pub fn put_total_line(&mut self, letter: u8, total: u64)
         ensures { Puts (total_text letter total) self.old self.new }
     {
@@ -29,6 +30,7 @@ impl<'a> Listing<'a> {
     }
 
     // Puts the line `c` of an index.
+    #[tactic(auto, using(crate::proofs::Fields::line_steps), unfolding(text_form::specs::Text::bytes))]
     pub fn put_index_line(&mut self, index: Option<Index>)
         ensures { Puts (index_line index) self.old self.new }
     {
@@ -39,6 +41,7 @@ impl<'a> Listing<'a> {
     }
 
     // Puts the line of a refusal: its number, and the line of the file.
+    #[tactic(auto, using(crate::proofs::Fields::line_steps), unfolding(listing_form::specs::Kinds::refusal_line, text_form::specs::Text::bytes))]
     pub fn put_refusal_line(&mut self, refusal: Refusal, line: usize)
         ensures { Puts (refusal_line (refusal_number refusal) line) self.old self.new }
     {
@@ -49,6 +52,7 @@ impl<'a> Listing<'a> {
     }
 
     // Puts the `P` line of a link: the taxon, the taxon it joins, their difference.
+    #[tactic(auto, using(crate::proofs::Fields::line_steps), unfolding(listing_form::specs::Kinds::prim_line, text_form::specs::Text::bytes))]
     pub fn put_prim_line(&mut self, names: Names, link: Link)
         ensures { Puts (prim_line names.entry.n (names_of names.entry) link) self.old self.new }
     {
@@ -60,6 +64,7 @@ impl<'a> Listing<'a> {
     }
 
     // Puts the `W` line of a placement: the taxon, both ends of its interval, the HTU, the length added.
+    #[tactic(auto, using(crate::proofs::Fields::line_steps), unfolding(listing_form::specs::Kinds::wagner_line, text_form::specs::Text::bytes))]
     pub fn put_wagner_line(&mut self, names: Names, placement: Placement)
         ensures { Puts (wagner_line names.entry.n (names_of names.entry) placement) self.old self.new }
     {
@@ -73,6 +78,7 @@ impl<'a> Listing<'a> {
     }
 
     // Puts the `T` line of node v: its immediate ancestor, its length, its mark.
+    #[tactic(auto, using(crate::proofs::Fields::line_steps), unfolding(listing_form::specs::Kinds::branch_line, text_form::specs::Text::bytes))]
     pub fn put_branch_line(&mut self, names: Names, v: usize, above: usize, branch: BranchFit)
         ensures { Puts (branch_line names.entry.n (names_of names.entry) v above branch.length branch.mark) self.old self.new }
     {
@@ -85,6 +91,7 @@ impl<'a> Listing<'a> {
     }
 
     // Puts the `H` line of node v and character j: the lowest and highest state, the chosen state.
+    #[tactic(auto, using(crate::proofs::Fields::line_steps), unfolding(listing_form::specs::Kinds::state_line, text_form::specs::Text::bytes))]
     pub fn put_state_line(&mut self, names: Names, v: usize, j: usize, states: States)
         ensures { Puts (state_line names.entry.n (names_of names.entry) v j states.low states.high states.chosen) self.old self.new }
     {
