@@ -1,2 +1,3 @@
 -- Laws of six ends that are put in order.
 pub mod Carrying
+pub mod Codes

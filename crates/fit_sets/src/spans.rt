@@ -13,6 +13,7 @@ use matrix_form::spans::Span;
 const ENDS: usize = 6;
 
 // The set of one state alone.
+#[tactic(auto, using(crate::proofs::Codes::by_bits), unfolding(matrix_form::specs::Spans::only))]
 pub fn only(state: i32) -> Span
     ensures { result ≡ only state }
 {
@@ -23,6 +24,7 @@ pub fn only(state: i32) -> Span
 }
 
 // The join of two sets: their intersection, or, if that is empty, the smallest interval that touches both.
+#[tactic(auto, using(crate::proofs::Codes::by_bits), unfolding(fit_form::specs::Sets::join))]
 pub fn join(a: Span, b: Span) -> Span
     ensures { result ≡ join a b }
 {
@@ -35,6 +37,7 @@ pub fn join(a: Span, b: Span) -> Span
 }
 
 // The member of a set nearest to a state.
+#[tactic(auto, using(crate::proofs::Codes::by_bits), unfolding(fit_form::specs::Sets::nearest_member))]
 pub fn nearest_member(state: i32, a: Span) -> i32
     ensures { result ≡ nearest_member state a }
 {
@@ -52,6 +55,7 @@ pub fn nearest_members(other: Span, a: Span) -> Span
 }
 
 // How far two sets lie from each other; 0 if they meet.
+#[tactic(auto, using(crate::proofs::Codes::by_bits), unfolding(fit_form::specs::Sets::gap))]
 pub fn gap(a: Span, b: Span) -> u64
     ensures { GapOf a b result }
 {
