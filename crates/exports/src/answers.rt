@@ -38,7 +38,7 @@ fn order_read(kind: Kind, word: Option<Order>) -> u64
 }
 
 // How many bytes were written, or the refusal.
-// Kept: no plainer, as a `Measured` each caller would cast the count before it cuts its list.
+// Kept: no plainer, as a `Measured` each caller would cast the count before it cuts its list; one body for this and `measured` would hand back a pair, with a definition of its own.
 pub(crate) fn listed(answer: Result<usize, Refusal>) -> Listed
     ensures { result ≡ listed (listed_says answer) }
 {

@@ -2,30 +2,28 @@
 use mathlib.Core.Path.{◌≡◌, refl, sym, ap, ◌∙◌}
 use mathlib.Core.Bool.{true, false, true≢false}
 use mathlib.Core.List.{List, [], ◌∷◌}
-use Prim.Native.Nat.{ℕ, zero, suc, ◌+◌, ◌-◌, ◌*◌, ◌≤◌, ◌<◌}
+use Prim.Native.Nat.{ℕ, zero, suc, ◌+◌, ◌-◌, ◌≤◌, ◌<◌}
 use native.Mathlib.Omega.{arith}
 use mir.Facts.{to_z-of_z}
 use mir.Syntax.{w32}
 use mir.Val.{SFits, of_z, to_z}
-use borrow.Author.Tests.{ne_eqb, le-leb, lt-leb, ltb-true}
+use borrow.Author.Tests.{le-leb, lt-leb, ltb-true}
 use lib.IntN.{ℤ, pos, negsuc}
-use lib.ListN.{length, get_or, take, drop, drop_of_length-le}
+use lib.ListN.{get_or}
 use lib.Signed.{lt_z}
-use Rattle.std.specs.Borrow.{Bor}
-use Rattle.std.specs.Prelude.{Option, Some, None, MatchOption}
-use Rattle.std.specs.Option.{option_map, unwrap_or}
+use Rattle.std.specs.Prelude.{Option, Some, None}
+use Rattle.std.specs.Option.{option_map}
 use Rattle.consistency_form.specs.declared.index.Index.{Index}
 use Rattle.lists.proofs.Numbers.{map-numbers}
 use Rattle.difference_form.specs.Rows.{apart}
 use Rattle.difference_form.proofs.Laws.Codes.{apart_from_zero}
-use Rattle.text_form.specs.Bytes.{minus, piece_length, first_piece}
+use Rattle.text_form.specs.Bytes.{minus, first_piece}
 use Rattle.text_form.specs.Decimal.{digits_of, decimal}
 use Rattle.text_form.specs.Text.{bytes}
-use Rattle.file_form.specs.Job.{name_size}
 use Rattle.listing_form.specs.Lines.{line, hyphen, htu_name, node_name}
 use Rattle.listing_form.specs.Kinds.{index_line}
 use Rattle.lines.specs.Fields.{or_hyphen}
-use Rattle.lines.proofs.Puts.{put_line, put_next, put_end}
+use Rattle.lines.proofs.Puts.{put_head, put_line, put_next, put_end}
 use Rattle.file_form.specs.Written.{name_bytes, names_in}
 
 -- a code below zero
@@ -43,19 +41,6 @@ code-above (negsuc n) h = absurd (true≢false h)
 -- a code handed on is the code
 pub same_code : {z : ℤ} → SFits w32 z → decimal (to_z w32 (of_z w32 z)) ≡ decimal z
 same_code f = rw (to_z-of_z f)
-
--- a byte that is no separator belongs to the first part
-pub part_goes_on : (s b : ℕ) (bs : List ℕ) → (b ≡ s → ⊥) → first_piece s (b ∷ bs) ≡ b ∷ first_piece s bs
-unfolding first_piece piece_length
-part_goes_on s b bs e = rw (ne_eqb b s e)
-
--- the bytes of a name: those of its part of the lent list, and none beyond its end
-pub name_got : (lent : List ℕ) (k : ℕ) (got : Option (Bor (List ℕ))) (none r : Bor (List ℕ)) → none.now ≡ []
-    → MatchOption got (length lent ≤ k * name_size) (λ x. x.now ≡ take name_size (drop (k * name_size) lent)) → r ≡ unwrap_or got none
-    → r.now ≡ name_bytes lent k
-unfolding name_bytes
-name_got lent k (Some x) none r empty there is = ap (λ x. x.now) is ∙ there
-name_got lent k None none r empty beyond is = ap (λ x. x.now) is ∙ empty ∙ sym (ap (take name_size) (drop_of_length-le lent beyond))
 
 module _ (n : ℕ) (names : List (List ℕ)) where
   -- an HTU is printed by its number
@@ -99,3 +84,6 @@ index_fields None = refl
 
 -- the steps by which the check puts a line together from its fields
 pub ruleset line_steps = (put_line, put_next, put_end, same_code, index_fields)
+
+-- and those by which it puts one field
+pub ruleset field_steps = (put_head, same_code, code_below, code-above, node_none, node_htu, node_lent)

@@ -1,15 +1,12 @@
 -- Texts put one after another into a listing.
 use mathlib.Core.Path.{◌≡◌, refl, sym, ap, ◌∙◌}
 use mathlib.Core.List.{List, [], ◌∷◌, ◌++◌, map, map-append}
-use Prim.Native.Nat.{ℕ, ◌+◌, ◌≤◌, ◌<◌}
-use native.Mathlib.Numerals.{add-one}
-use borrow.Author.Tests.{lt-ltb, le-ltb}
-use lib.ListN.{length, set}
+use Prim.Native.Nat.{ℕ}
 use Rattle.text_form.specs.Bytes.{tab, line_feed}
 use Rattle.listing_form.specs.Lines.{line}
 use Rattle.listing_form.proofs.LineFields.{behind, line_fields}
 use Rattle.lines.specs.declared.put.Listing.{Listing}
-use Rattle.lines.specs.Put.{put_byte, put_text, Put}
+use Rattle.lines.specs.Put.{put_byte, put_text}
 use Rattle.lines.specs.Puts.{Puts}
 
 -- a text and one behind it
@@ -17,16 +14,6 @@ pub put_append : (xs ys : List ℕ) (state : List ℕ × ℕ) → put_text (xs +
 unfolding put_text
 put_append [] ys state = refl
 put_append (x ∷ xs) ys state = put_append xs ys (put_byte x state)
-
--- a byte where there is room
-pub put_room : (byte : ℕ) (old : List ℕ) (at : ℕ) → at < length old → Put (byte ∷ []) old at (set old at byte) (at + 1)
-unfolding put_text put_byte
-put_room byte old at h = record { is = rw (add-one, lt-ltb at (length old) h, put_byte) }
-
--- and where there is none
-pub put_full : (byte : ℕ) (old : List ℕ) (at : ℕ) → length old ≤ at → Put (byte ∷ []) old at old at
-unfolding put_text put_byte
-put_full byte old at h = record { is = rw (le-ltb at (length old) h, put_byte) }
 
 -- one text, and another behind it
 pub put_then : {xs ys : List ℕ} {old mid new : Listing} → Puts xs old mid → Puts ys mid new → Puts (xs ++ ys) old new
@@ -49,6 +36,11 @@ put_none old = record { put = record { is = refl }; same = refl }
 pub put_more : {A : Type 0} (f : A → ℕ) (xs : List A) (x : A) {old mid new : Listing} → Puts (map f xs) old mid → Puts (f x ∷ []) mid new
     → Puts (map f (xs ++ (x ∷ []))) old new
 put_more f xs x p q = put_same (sym (map-append f xs (x ∷ []))) (put_then p q)
+
+-- a byte, and a text behind it
+pub put_head : (byte : ℕ) (text : List ℕ) (state : List ℕ × ℕ) → put_text (byte ∷ text) state ≡ put_text text (put_text (byte ∷ []) state)
+unfolding put_text
+put_head byte text state = refl
 
 -- a line is put by its first field and what stands behind it
 pub put_line : (field : List ℕ) (fields : List (List ℕ)) (state : List ℕ × ℕ)

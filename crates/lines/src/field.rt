@@ -38,6 +38,7 @@ impl Field for u64 {
 
 // A code in decimal.
 // Kept: no plainer, what `apart` promises of a code and 0 is the size that the definition of decimals takes; of `unsigned_abs` it would be shown.
+#[tactic(auto, using(crate::proofs::Fields::field_steps))]
 impl Field for i32 {
     ghost text = { decimal };
 
@@ -53,6 +54,7 @@ impl Field for i32 {
 }
 
 // The mark of a branch.
+#[tactic(auto, unfolding(listing_form::specs::Kinds::mark, text_form::specs::Text::bytes))]
 impl Field for bool {
     ghost text = { mark };
 
@@ -66,6 +68,7 @@ impl Field for bool {
 }
 
 // A hyphen for no node, a taxon by its name, an HTU by `#` and its number among the HTUs.
+#[tactic(auto, using(crate::proofs::Fields::field_steps), unfolding(crate::specs::Fields::node_text, listing_form::specs::Lines::htu_name, text_form::specs::Text::bytes))]
 impl<'a> Field for Node<'a> {
     ghost text = { node_text };
 
@@ -85,6 +88,7 @@ impl<'a> Field for Node<'a> {
 }
 
 // A hyphen where there is no field.
+#[tactic(auto, unfolding(crate::specs::Fields::or_hyphen, listing_form::specs::Lines::hyphen, text_form::specs::Text::bytes))]
 impl<F: Field> Field for Option<F> {
     ghost text = { or_hyphen F.text };
 
@@ -96,6 +100,7 @@ impl<F: Field> Field for Option<F> {
     }
 }
 
+#[tactic(auto, using(crate::proofs::Puts::put_head))]
 impl<'a> Listing<'a> {
     // Puts a tab and a field.
     pub(crate) fn put_field<F: Field>(&mut self, field: F)

@@ -23,6 +23,7 @@ pub(crate) struct Node<'a> {
 
 impl<'a> Names<'a> {
     // Node v.
+    #[tactic(auto, unfolding(crate::specs::Fields::node_text))]
     pub(crate) fn node(self, v: usize) -> Node<'a>
         ensures { node_text result ≡ node_name self.entry.n (names_of self.entry) v }
     {
@@ -30,6 +31,7 @@ impl<'a> Names<'a> {
     }
 
     // The bytes lent for the name at index k, as far as the lent list goes.
+    #[tactic(auto, unfolding(file_form::specs::Written::name_bytes))]
     pub(crate) fn name_bytes(self, k: usize) -> &'a [u8]
         ensures { result.now ≡ name_bytes self.entry.lent.now k }
     {

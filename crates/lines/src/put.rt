@@ -29,6 +29,7 @@ impl<'a> Listing<'a> {
     ghost use Rattle.lines.specs.Puts.{Puts};
 
     // Puts a byte.
+    #[tactic(auto, unfolding(crate::specs::Put::put_text, crate::specs::Put::put_byte))]
     pub(crate) fn put_byte(&mut self, byte: u8)
         ensures { Puts (byte ∷ []) self.old self.new }
     {
@@ -40,6 +41,7 @@ impl<'a> Listing<'a> {
 
     // Kept: no plainer, the definitions say digits by this recursion; `itoa` would write them into a buffer of its own, to be put here one by one, and be shown to be the same.
     // Puts a number in decimal.
+    #[tactic(auto, using(crate::proofs::Puts::put_append, text_form::proofs::Digits::digits_one, text_form::proofs::Digits::digits_last))]
     pub(crate) fn put_number(&mut self, n: u64)
         ensures { Puts (digits_of n) self.old self.new }
     {

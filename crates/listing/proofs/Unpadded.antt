@@ -8,7 +8,7 @@ use native.Mathlib.Omega.{arith}
 use native.Mathlib.Decide.{dec_le}
 use lib.Dec.{leb, eqb}
 use lib.ListN.{length, get_or, replicate}
-use borrow.Author.Tests.{leb-true, eqb-true}
+use borrow.Author.Tests.{leb-true, eqb-true, ne_eqb}
 use Rattle.lists.specs.Filled.{filled}
 use Rattle.lists.specs.Tests.{every}
 use Rattle.lists.proofs.Both.{and_left, and_right}
@@ -18,7 +18,7 @@ use Rattle.file_form.specs.Job.{name_size, name_form}
 use Rattle.file_form.specs.Written.{padded}
 use Rattle.listing_form.specs.Lines.{node_name}
 use Rattle.file_form.specs.Written.{names_in}
-use Rattle.lines.proofs.Fields.{part_goes_on, node_taxon, node_lent, node_htu}
+use Rattle.lines.proofs.Fields.{node_taxon, node_lent, node_htu}
 use Rattle.listing.specs.Handed.{HoldsNames}
 
 -- what passes one of two tests passes the first or the second
@@ -48,6 +48,11 @@ zeros : (count : ℕ) → first_piece 0 (replicate count 0) ≡ []
 unfolding first_piece piece_length
 zeros zero = refl
 zeros (suc count) = refl
+
+-- a byte that is no separator belongs to the first part
+part_goes_on : (s b : ℕ) (bs : List ℕ) → (b ≡ s → ⊥) → first_piece s (b ∷ bs) ≡ b ∷ first_piece s bs
+unfolding first_piece piece_length
+part_goes_on s b bs e = rw (ne_eqb b s e)
 
 -- bytes of a name, with zeros behind them
 bytes_unpadded : (text : List ℕ) (count : ℕ) → every in_name text ≡ true → first_piece 0 (text ++ replicate count 0) ≡ text
