@@ -2,5 +2,6 @@
 pub mod ReadAs
 pub mod NameBytes
 pub mod FirstLine
+pub mod LinesBehind
 pub mod FieldsSplit
 pub mod Decimal

@@ -2,7 +2,7 @@
 ghost use Rattle.std.specs.Prelude.{◌≡◌, ◌+◌, [], length, get_or, drop};
 ghost use Rattle.text_form.specs.Bytes.{pieces_at, piece_length, first_piece, behind_piece, in_name};
 ghost use Rattle.text_form.specs.Lines.{fields_of};
-ghost use Rattle.file_text.specs.Steps.{FirstLine};
+ghost use Rattle.file_text.specs.Steps.{FirstLine, BehindLines};
 
 use text_form::{LINE_FEED, TAB};
 
@@ -75,6 +75,17 @@ pub fn first_line(text: &[u8]) -> Option<(&[u8], &[u8])>
         return None;
     }
     Some((line, behind))
+}
+
+// What stands behind the first `count` lines of a text: nothing where it has fewer.
+pub fn behind_lines(text: &[u8], count: usize) -> &[u8]
+    ensures { BehindLines text.now count result.now }
+{
+    let mut rest = text;
+    for _line in 0..count {
+        rest = behind_piece(rest, LINE_FEED);
+    }
+    rest
 }
 
 // A field of a line, the first at index 0: nothing where the line has no such field.
