@@ -1,7 +1,7 @@
 -- A text that is read as what it has the form of.
 use mathlib.Core.Path.{◌≡◌, refl, sym, ap, ◌∙◌}
-use mathlib.Core.Bool.{Bool, true, false, not, cond}
-use Rattle.std.specs.Prelude.{Option, None, Some, is_some}
+use mathlib.Core.Bool.{Bool, true, false, cond}
+use Rattle.std.specs.Prelude.{Option, None, Some}
 use Rattle.std.specs.Option.{unwrap_or}
 use Rattle.file_text.specs.Steps.{read_as}
 
@@ -35,22 +35,3 @@ formless_read form says text e = by (form text) refl e
     by : (b : Bool) → form text ≡ b → None ≡ cond b (Some (says text)) None → form text ≡ false
     by true t same = cc
     by false t same = t
-
--- whether a text says something tells whether it has the form
-module _ {T A : Type 0} (form : T → Bool) (says : T → A) (text : T) (r : Option A) (e : r ≡ read_as form says text) (none : Bool)
-    (n : is_some r ≡ not none) where
-  -- it says something exactly if it has the form
-  said : form text ≡ not none
-  said = by (form text) refl
-    where
-      by : (b : Bool) → form text ≡ b → form text ≡ not none
-      by true f = f ∙ sym (ap is_some (e ∙ ap (λ b. cond b (Some (says text)) None) f)) ∙ n
-      by false f = f ∙ sym (ap is_some (e ∙ ap (λ b. cond b (Some (says text)) None) f)) ∙ n
-
-  -- it says nothing
-  pub read_none : none ≡ true → form text ≡ false
-  read_none t = said ∙ ap not t
-
-  -- it says something
-  pub read_some : none ≡ false → form text ≡ true
-  read_some t = said ∙ ap not t
