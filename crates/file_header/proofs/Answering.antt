@@ -28,6 +28,14 @@ module _ {A : Type 0} (line : ℕ) (asked : Asked) (a : A) where
       by (Ok _) h = (refl, cc)
       by (Err refusal) h = cc
 
+-- questions that are refused on a line are so without the value too
+pub refused_alone : {A : Type 0} (line : ℕ) (asked : Asked) (a : A) (e : Refused) → at_line line (with_value asked a) ≡ Err e
+    → at_line line asked ≡ Err e
+refused_alone line (Ok _) a e h = cc
+refused_alone line (Err refusal) a e h =
+    let same : record { refusal = refusal; line = line } ≡ e = cc h in
+    ap Err same
+
 -- an answer without a value is that of its questions
 pub without_value : (asked : Asked) → with_value asked tt ≡ asked
 without_value (Ok _) = refl

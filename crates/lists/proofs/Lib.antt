@@ -4,6 +4,7 @@ pub mod Both
 pub mod Every
 pub mod Keep
 pub mod Maps
+pub mod Rests
 pub mod Sums
 pub mod Numbers
 pub mod Least

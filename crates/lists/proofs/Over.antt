@@ -124,6 +124,14 @@ module _ {A : Type 0} where
   over-snoc (suc place) xs [] x = refl
   over-snoc (suc place) xs (o ∷ old) x = rw (suc-add place (length xs)) (ap (λ rest. o ∷ rest) (over-snoc place xs old x))
 
+  -- an element written before others is the first of them
+  pub over-cons : (place : ℕ) (x : A) (xs old : List A) → over (suc place) xs (over place (x ∷ []) old) ≡ over place (x ∷ xs) old
+  unfolding over
+  over-cons zero x xs [] = refl
+  over-cons zero x xs (o ∷ old) = refl
+  over-cons (suc place) x xs [] = refl
+  over-cons (suc place) x xs (o ∷ old) = ap (λ rest. o ∷ rest) (over-cons place x xs old)
+
   -- the next element of a list that is written one by one
   pub over-more : (none : A) (place : ℕ) (xs old : List A) (i : ℕ) → i < length xs
       → set (over place (take i xs) old) (place + i) (get_or xs i none) ≡ over place (take (i + 1) xs) old

@@ -2,13 +2,14 @@
 use mathlib.Core.Path.{◌≡◌, refl, sym, ap, ◌∙◌}
 use mathlib.Core.List.{List, [], ◌∷◌, ◌++◌, map, map-append}
 use Prim.Native.Nat.{ℕ, zero, suc, ◌+◌, ◌*◌, ◌≤◌, ◌<◌}
+use native.Mathlib.Numerals.{add-one}
 use native.Mathlib.Omega.{arith}
 use lib.ListN.{length, get_or, set, take, drop, length-take, length-drop}
 use lib.Seq.{get_or-take, get_or-drop, ext_get_or}
 use Rattle.lists.specs.Numbers.{numbers}
 use Rattle.lists.specs.Over.{over, stripes}
 use Rattle.lists.proofs.Numbers.{numbers-snoc, length_map_numbers}
-use Rattle.lists.proofs.Over.{length_over, over-inside, over-before, over-behind, over-else, over_nothing, over-snoc}
+use Rattle.lists.proofs.Over.{length_over, over-inside, over-before, over-behind, over-else, over_nothing, over-snoc, over-cons}
 
 -- a place in an item is that in the item before it, a width further
 next_stripe : (width place k i : ℕ) → place + suc k * width + i ≡ place + width + k * width + i
@@ -126,7 +127,7 @@ module _ {A : Type 0} where
             ∙ stripes-inside none place items old narrow k i below (omega arith)
 
 -- one item written alone
-over-one : {A : Type 0} (place : ℕ) (x : A) (old : List A) → over place (x ∷ []) old ≡ set old place x
+pub over-one : {A : Type 0} (place : ℕ) (x : A) (old : List A) → over place (x ∷ []) old ≡ set old place x
 over-one place x old =
     let here : place + 0 ≡ place = omega arith in
     sym (rw (over_nothing place old, here) at (over-snoc place [] old x))
@@ -148,6 +149,16 @@ stripes-set width place [] old a x h = refl
 stripes-set width place (item ∷ items) old a x h =
     stripes-set width (place + width) items (over place item old) a x (omega arith)
     ∙ ap (stripes width (place + width) items) (over-set place item old a x h)
+
+-- single items written side by side are the list of them
+pub side_by_side : {A B : Type 0} (f : B → A) (xs : List B) (place : ℕ) (old : List A)
+    → stripes 1 place (map (λ x. f x ∷ []) xs) old ≡ over place (map f xs) old
+unfolding stripes
+side_by_side f [] place old = sym (over_nothing place old)
+side_by_side f (x ∷ xs) place old =
+    side_by_side f xs (place + 1) (over place (f x ∷ []) old)
+    ∙ ap (λ k. over k (map f xs) (over place (f x ∷ []) old)) (add-one place)
+    ∙ over-cons place (f x) (map f xs) old
 
 -- single items written at a fixed width, for consecutive numbers: a column
 module _ {A : Type 0} (width place : ℕ) (f : ℕ → A) (first : ℕ) (old : List A) where

@@ -1,6 +1,2 @@
--- Laws of the walks through a text, for the proofs of the functions.
-pub mod LinesWalk
-pub mod Rows
-pub mod BranchLines
-pub mod FileWalk
+-- Laws of the lists that are written, for the proofs of the functions.
 pub mod Lists

@@ -1,7 +1,6 @@
--- The lent lists: what a walk over the lines writes.
-pub mod LinesBehind
-pub mod LinesCut
-pub mod SideBySide
+-- The lent lists: what is written into them.
+pub mod RowFormed
+pub mod BranchLine
 pub mod WrittenPieces
 pub mod ReadWalk
 pub mod NameWritten

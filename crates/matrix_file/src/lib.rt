@@ -4,9 +4,6 @@
 use file_form::NAME_SIZE;
 use matrix::MOST_TAXA;
 
-mod behind;
-mod branches;
-mod judging;
 pub mod reading;
 mod writing;
 

@@ -1,8 +1,8 @@
 // Writing what an accepted file says into the lent lists.
-ghost use Rattle.std.specs.Prelude.{List, ℕ, [], ◌∷◌, ◌≡◌, true, ◌||◌, not, map, ◌*◌, ◌≤◌, length, take, drop};
+ghost use Rattle.std.specs.Prelude.{List, ℕ, [], ◌∷◌, ◌≡◌, true, ◌||◌, not, map, ◌*◌, ◌≤◌, length, get_or, take, drop};
 ghost use Rattle.lists.specs.Over.{over, stripes};
 ghost use Rattle.lists.specs.Tests.{every};
-ghost use Rattle.text_form.specs.Decimal.{code_form, code_of};
+ghost use Rattle.text_form.specs.Decimal.{number_form, number_of, code_form, code_of};
 ghost use Rattle.text_form.specs.Bytes.{tab, pieces_at, first_piece};
 ghost use Rattle.file_form.specs.Job.{name_size};
 ghost use Rattle.text_form.specs.Lines.{lines_of, fields_of};
@@ -11,14 +11,18 @@ ghost use Rattle.file_form.specs.Weights.{weight_form, weight_in, weights_form, 
 ghost use Rattle.file_form.specs.Rows.{codes_in};
 ghost use Rattle.matrix_file.specs.Steps.{TakesPieces, WritesPiece};
 ghost use Rattle.file_form.specs.Written.{padded};
+ghost use Rattle.tree_form.specs.LentNumbers.{record_size, record_numbers};
+ghost use Rattle.file_form.specs.Formed.{record_in};
 
 use file_form::NAME_SIZE;
 use file_form::header::Header;
 use file_header::weights::weight;
-use file_text::bytes::{behind_piece, cut_piece, first_piece, separators};
-use file_text::numbers::code;
+use file_lines::branch::{ANCESTOR, NODE};
+use file_text::bytes::{behind_piece, cut_piece, field, first_piece, separators};
+use file_text::numbers::{code, number};
 use matrix::{COLUMNS, LIGHTEST};
 use text_form::{LINE_FEED, TAB};
+use tree_records::numbers::RECORD;
 
 // Writes what each of the first `count` pieces of a text says, `width` items behind what the piece before says, by what writes it for one piece
 // over the front of a list.
@@ -107,4 +111,24 @@ pub(crate) fn write_weights(weights: &mut [u8], text: &[u8], header: Header)
         return;
     }
     write_fields(weights, first_piece(text, LINE_FEED), write_weight);
+}
+
+// The number that a field of a `C` line says.
+fn number_in(line: &[u8], index: usize) -> usize
+    requires { number_form (get_or (fields_of line.now) index []) ≡ true }
+    ensures { result ≡ number_of (get_or (fields_of line.now) index []) }
+{
+    number(field(line, index)).unwrap_or(0)
+}
+
+// Writes the record that a `C` line says, its node, the ancestor and length 0, over the front of a list.
+pub(crate) fn write_record(out: &mut [usize], line: &[u8])
+    requires node { number_form (get_or (fields_of line.now) 1 []) ≡ true }
+    requires above { number_form (get_or (fields_of line.now) 2 []) ≡ true }
+    requires room { record_size ≤ length out.old }
+    ensures { out.new ≡ over 0 (record_in line.now) out.old }
+{
+    let node = number_in(line, NODE);
+    let ancestor = number_in(line, ANCESTOR);
+    out[..RECORD].copy_from_slice(&[node, ancestor, 0]);
 }

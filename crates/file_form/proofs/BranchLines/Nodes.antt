@@ -1,7 +1,8 @@
 -- How many `C` lines there are at most, and the nodes that those of a job within the limits name.
 use mathlib.Core.Path.{◌≡◌}
 use mathlib.Core.Bool.{true}
-use Prim.Native.Nat.{ℕ, ◌-◌, ◌*◌, ◌≤◌}
+use Prim.Native.Nat.{ℕ, ◌-◌, ◌*◌, ◌≤◌, min}
+use native.Mathlib.Nat.{min-eq_left}
 use native.Mathlib.Omega.{arith}
 use lib.ListN.{length, get_or-eq_default}
 use Rattle.matrix_form.specs.Shape.{most_taxa, most_characters}
@@ -19,6 +20,10 @@ use Rattle.file_form.proofs.Rows.Within.{limits-high}
 pub count_most : (kind : Kind) (n : ℕ) → branch_count kind n ≤ 2 * n - 3
 count_most Wagner n = omega arith
 count_most Own n = omega arith
+
+-- of 64 taxa at most there is room for all of them
+pub count_whole : (kind : Kind) (n : ℕ) → n ≤ most_taxa → min (branch_count kind n) 125 ≡ branch_count kind n
+count_whole kind n few = min-eq_left (omega (arith, count_most kind n, few))
 
 -- each ancestor of a job within the limits is a node's number
 pub job_nodes : (job : Job) → JobWithinLimits job → AreNodes job.ancestors

@@ -22,7 +22,7 @@ use Rattle.file_header.proofs.OptionalWalk.{taken_most}
 use Rattle.file_form.specs.Formed.{ask_weights}
 use Rattle.file_form.specs.Rows.{row_sort}
 use Rattle.file_form.specs.Job.{Job}
-use Rattle.matrix_file.specs.Steps.{behind_rows_most}
+use Rattle.file_questions.specs.Steps.{behind_rows_most}
 use Rattle.file_form.specs.Branches.{branch_count, branch_sort, ask_tree}
 use Rattle.file_form.specs.Reading.{job_of, nothing_more, ask_end, ask_after, ask_behind, ask_file, ask_length, read_answer}
 use Rattle.file_form.proofs.BranchLines.Nodes.{count_most}

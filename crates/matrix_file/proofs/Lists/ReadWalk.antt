@@ -3,7 +3,7 @@ use mathlib.Core.Path.{◌≡◌, refl, sym, ap, ap₂, ◌∙◌}
 use mathlib.Core.Logic.Iff
 use mathlib.Core.Bool.{true, false, ◌||◌, not}
 use mathlib.Core.List.{List, map, map-map}
-use Prim.Native.Nat.{ℕ, ◌≤◌, ◌<◌}
+use Prim.Native.Nat.{ℕ, ◌≤◌, ◌<◌, min}
 use native.Mathlib.Omega.{arith}
 use lib.ListN.{length, take, drop}
 use Rattle.lists.proofs.Both.{implies_iff}
@@ -33,7 +33,8 @@ use Rattle.file_form.proofs.File.Outcomes.{then_passed, then_refused}
 use Rattle.file_form.proofs.File.AcceptedRows.{accepted_job, accepted_most, accepted_behind, accepted_header, accepted_weights}
 use Rattle.file_form.proofs.File.AcceptedRows.{accepted_text, accepted_fields, accepted_formed, accepted_codes, accepted_names}
 use Rattle.file_form.proofs.File.AcceptedRows.{accepted_branches, accepted_records}
-use Rattle.file_form.proofs.BranchLines.Nodes.{count_most}
+use Rattle.file_form.proofs.BranchLines.Nodes.{count_whole}
+use Rattle.file_text.specs.Steps.{BehindLines}
 
 -- lent lists
 module _ (file : List ℕ) (lists : LentLists) where
@@ -100,13 +101,13 @@ module _ (file : List ℕ) (header : Header) (a : value header ≡ with_header (
 
   module _ (passed : ℕ) (p : passed ≡ header_lines header) where
     -- lines stand behind the header
-    pub read_behind : passed < length (lines_of file)
+    read_behind : passed < length (lines_of file)
     read_behind = rw (p, sym read) (accepted_behind file found.0 found.1)
 
-    module _ (rows : List ℕ) (r : lines_of rows ≡ drop passed (lines_of file)) where
+    module _ (rows : List ℕ) (r : BehindLines file passed rows) where
       -- the rows stand behind the header
       behind : lines_of rows ≡ behind_header (header_in (lines_of file)) (lines_of file)
-      behind = r ∙ ap (λ k. drop k (lines_of file)) (p ∙ ap header_lines (sym read))
+      behind = r.lines read_behind ∙ ap (λ k. drop k (lines_of file)) (p ∙ ap header_lines (sym read))
 
       -- they are well formed
       pub rows_given : RowsFormed header.n rows
@@ -129,15 +130,16 @@ module _ (file : List ℕ) (header : Header) (a : value header ≡ with_header (
           ∙ map-map padded name_in (take header.n (lines_of rows))
 
       -- and what stands behind them
-      module _ (rest : List ℕ) (d : lines_of rest ≡ drop header.n (lines_of rows)) (count : ℕ)
-          (c : count ≡ branch_count header.kind header.n) where
+      module _ (rest : List ℕ) (d : BehindLines rows header.n rest) (count : ℕ)
+          (c : count ≡ min (branch_count header.kind header.n) 125) where
         -- as many `C` lines as the job has
         job_count : branch_count found.0.kind found.0.n ≡ count
-        job_count = ap (λ read. branch_count read.kind read.n) same ∙ sym c
+        job_count =
+            ap (λ read. branch_count read.kind read.n) same ∙ sym (c ∙ count_whole header.kind header.n taxa-most)
 
         -- they stand behind the job's n rows
         job_rest : lines_of rest ≡ drop found.0.n (lines_of rows)
-        job_rest = d ∙ ap (λ n. drop n (lines_of rows)) (sym taxa)
+        job_rest = d.lines rows_given.count ∙ ap (λ n. drop n (lines_of rows)) (sym taxa)
 
         -- they are well formed
         pub branches_given : BranchesFormed count rest
@@ -145,7 +147,7 @@ module _ (file : List ℕ) (header : Header) (a : value header ≡ with_header (
 
         -- they are at most 125
         pub branches_few : count ≤ 125
-        branches_few = omega (arith, c, count_most header.kind header.n, taxa-most)
+        branches_few = omega (arith, c)
 
         -- the records that they say are those of the job
         pub records_said : records_for (job_in file).ancestors ≡ map record_in (take count (lines_of rest))

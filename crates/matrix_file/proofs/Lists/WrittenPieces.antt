@@ -19,7 +19,8 @@ use Rattle.file_form.specs.Rows.{name_in}
 use Rattle.file_form.specs.Job.{name_size}
 use Rattle.file_form.proofs.Rows.Names.{name_length, name_first}
 use Rattle.text_form.proofs.FirstPart.{Parted, whole, shorter, parted, first_of_pieces, pieces_one, pieces_more}
-use Rattle.matrix_file.proofs.Lists.LinesBehind.{RowFormed, rest-next}
+use Rattle.lists.proofs.Rests.{rest-next}
+use Rattle.matrix_file.proofs.Lists.RowFormed.{RowFormed}
 
 -- a line of the right form has at most 128 codes
 pub codes_few : (line : List ℕ) → RowFormed line → length (drop 1 (fields_of line)) ≤ columns

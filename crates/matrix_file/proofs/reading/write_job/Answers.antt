@@ -12,17 +12,14 @@ use Rattle.file_form.specs.Written.{padded}
 use Rattle.file_form.specs.Formed.{record_in}
 use Rattle.file_form.proofs.Rows.Names.{name_first}
 use Rattle.matrix_file.specs.Steps.{padded_in}
-use Rattle.matrix_file.proofs.BranchLines.Said.{line_told}
-use Rattle.matrix_file.proofs.Lists.LinesBehind.{line-formed}
+use Rattle.matrix_file.proofs.Lists.BranchLine.{line_told}
+use Rattle.matrix_file.proofs.Lists.RowFormed.{line-formed}
 use Rattle.matrix_file.proofs.Lists.WrittenPieces.{codes_few, name_short}
 use Rattle.file_form.proofs.Lists.Sizes.{lists-full}
-use Rattle.matrix_file.proofs.Lists.ReadWalk.{taxa-most, read_behind, rows_given, codes_said, names_said}
+use Rattle.matrix_file.proofs.Lists.ReadWalk.{taxa-most, rows_given, codes_said, names_said}
 use Rattle.matrix_file.proofs.Lists.ReadWalk.{weights_given, weights_said_lem}
 use Rattle.matrix_file.proofs.Lists.ReadWalk.{branches_given, branches_few, records_said}
 use Rattle.matrix_file.proofs.reading.write_job.Goals as goal
-
-pub behind_lines-rows-requires : goal.behind_lines-rows-requires
-behind_lines-rows-requires c = read_behind _ _ c.requires.answered _ c.header_lines.ensures
 
 pub write_pieces-requires : goal.write_pieces-requires
 unfolding lines_of
@@ -51,15 +48,6 @@ write_pieces-requires-2 c =
       enough = omega (arith, rows.count);
       callable = λ out line i room h l. (name_short _ (line-formed _ _ rows _ _ h l), room);
     }
-
-pub behind_lines-behind-requires : goal.behind_lines-behind-requires
-behind_lines-behind-requires c =
-    (rows_given _ _ c.requires.answered _ c.header_lines.ensures _
-    c.behind_lines-rows.ensures).count
-
-pub branch_count-requires : goal.branch_count-requires
-branch_count-requires c =
-    taxa-most _ _ c.requires.answered
 
 pub write_pieces-requires-3 : goal.write_pieces-requires-3
 unfolding lines_of

@@ -6,7 +6,7 @@ use Rattle.lists.proofs.Every.{every_at}
 use Rattle.text_form.specs.Decimal.{code_form, code_of}
 use Rattle.text_form.specs.Lines.{fields_of}
 use Rattle.file_form.specs.Rows.{codes_in}
-use Rattle.matrix_file.proofs.Lists.SideBySide.{side_by_side}
+use Rattle.lists.proofs.Stripes.{side_by_side}
 use Rattle.matrix_file.proofs.writing.write_codes.Goals as goal
 
 pub write_fields-requires-clause-callable : goal.write_fields-requires-clause-callable

@@ -7,7 +7,7 @@ use lib.ListN.{drop, replicate}
 use lib.Seq.{length-take-le}
 use Rattle.text_form.specs.Lines.{fields_of}
 use Rattle.file_form.specs.Weights.{weight_form, weight_in}
-use Rattle.matrix_file.proofs.Lists.SideBySide.{side_by_side}
+use Rattle.lists.proofs.Stripes.{side_by_side}
 use Rattle.matrix_file.proofs.Lists.WeightsWritten.{ones_written, weights_count, weight_given, weights_written}
 use Rattle.matrix_file.proofs.writing.write_weights.Goals as goal
 

@@ -1,6 +1,0 @@
--- `matrix_file::judging::ask_rows` meets its contract. The loop's invariant: the rows that are left decide.
-use Rattle.matrix_file.proofs.Rows.RowsWalk.{RowsLeft}
-use Rattle.matrix_file.proofs.judging.ask_rows.Given as goal
-
-abbrev pub invariant-loop-done : goal.invariant-loop-done
-invariant-loop-done l = RowsLeft l.fn.rows l.header l.fn.first l.names l.rest l.done
