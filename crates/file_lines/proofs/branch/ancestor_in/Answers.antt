@@ -36,7 +36,8 @@ node_tested c =
     c.ne-2.ensures
     ∙ ap not
     (node_told _ _ (omega (arith, fields_count _ _ c.separators.ensures, c.if-separators-ne-ANCESTOR.false))
-    (not-false _ (sym (c.ne.ensures ∙ word_told _ _ c.field.ensures) ∙ c.if-ne.false)) (ap number_form (sym c.field-2.ensures) ∙ third.0) _ _ c.field-3.ensures c.number-2.ensures.said)
+    (not-false _ (sym (c.ne.ensures ∙ word_told _ _ c.field.ensures) ∙ c.if-ne.false)) (ap number_form (sym c.field-2.ensures) ∙ third.0) _ _
+    c.field-3.ensures c.number-2.ensures.said)
 
 pub returns-then-ne-2 : goal.returns-then-ne-2
 returns-then-ne-2 c = other_line _ _ (not-true _ (sym (node_tested (goal.at.returns-then-ne-2 c).After-ne-2) ∙ c.if-ne-2.true))

@@ -1,5 +1,5 @@
--- `file_questions::branches::ask_branches` meets its contract. The loop's invariant: the lines that are left decide, and the tree is that of
--- the lines passed.
+-- `file_questions::branches::ask_branches` meets its contract. The loop's invariant: the lines that are left decide, and the tree is that
+-- of the lines passed.
 use mathlib.Core.Path.{◌≡◌}
 use Rattle.tree_form.specs.Ancestors.{tree_with}
 use Rattle.file_form.specs.Branches.{branch_sort}
