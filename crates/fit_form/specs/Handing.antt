@@ -19,7 +19,6 @@ use Rattle.fit_form.specs.declared.whole.Fit.{Fit}
 use Rattle.fit_form.specs.Fit.{states_in}
 use Rattle.fit_form.specs.Marks.{MarkMeans}
 use Rattle.fit_form.specs.declared.characters.States.{States}
-use Rattle.matrix_form.specs.declared.spans.Span.{Span}
 
 -- the states that a list of the matrix's shape gives the HTUs; the taxa have the low ends of theirs
 unfoldable pub handed_states : List (List Span) → ℕ → List ℤ → ℕ → ℕ → ℤ

@@ -2,7 +2,6 @@
 use Rattle.std.specs.Prelude.{◌≡◌, ℕ, ◌<◌, Bool, true, ◌↔◌, List, ℤ}
 use Rattle.matrix_form.specs.declared.spans.Span.{Span}
 use Rattle.fit_form.specs.Assignments.{branch_length}
-use Rattle.matrix_form.specs.declared.spans.Span.{Span}
 
 -- the mark of the branch from node v to its immediate ancestor, with these states chosen for the nodes: it is `+`, which is `true`, exactly
 -- if the length of the branch under them is above 0. The taxa's rows are handed in for a meaning that asks for other assignments too

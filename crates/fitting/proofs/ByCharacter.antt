@@ -1,5 +1,5 @@
 -- The fitted total is the sum of the lengths of the characters.
-use Rattle.std.proofs.Common.{◌≡◌, ℕ, ◌*◌, List, ℤ, ◌∙◌}
+use Rattle.std.proofs.Common.{◌≡◌, ℕ, ◌*◌, List, ◌∙◌}
 use Rattle.lists.specs.Numbers.{numbers}
 use Rattle.lists.specs.Sums.{sum_over}
 use Rattle.lists.proofs.Sums.{sum_swap, sum_same, sum_times}

@@ -32,7 +32,6 @@ use Rattle.fit_form.proofs.Sets.Single.{only_code}
 use Rattle.fit_form.proofs.Matrix.Proper.{spans_proper}
 use Rattle.fit_form.proofs.Matrix.ThirdRival.{third_rival}
 use Rattle.fitting.proofs.Columns.{character-code}
-use Rattle.fit_form.specs.Assignments.{character}
 use lib.Signed.{≤ℤ_refl}
 use Rattle.fit_passes.proofs.Pass.Standing.{last_several}
 use Rattle.fitting.specs.Lists.{TreeFitted}

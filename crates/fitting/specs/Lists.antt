@@ -4,7 +4,7 @@ use Rattle.std.specs.Prelude.{◌≡◌, ℕ, ◌+◌, ◌-◌, ◌*◌, ◌^◌
 use Rattle.lists.specs.Over.{stripes}
 use Rattle.lists.specs.Sums.{sum_over}
 use Rattle.matrix_form.specs.Shape.{columns, matrix_size, row_start, last_node, MatrixLists}
-use Rattle.matrix_form.specs.NodeRows.{rows_of, HtusWritten}
+use Rattle.matrix_form.specs.NodeRows.{HtusWritten}
 use Rattle.matrix_form.specs.Spans.{spans_of}
 use Rattle.matrix_form.specs.Questions.{LentMatrix, LentWeights, matrix_shaped, one_to}
 use Rattle.difference_form.specs.Rows.{apart, part, weighing}

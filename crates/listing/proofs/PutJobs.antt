@@ -27,7 +27,6 @@ use Rattle.listing.specs.Found.{FittedOf, ResultsOf, tree_texts, result_texts, h
 use Rattle.listing_form.proofs.Parts.{own-listing}
 use Rattle.listing.proofs.FittedTrees.{tree_put}
 use Rattle.listing.proofs.FoundResults.{results_listed}
-use Rattle.matrix_form.specs.Shape.{matrix_of}
 
 -- the listing of a `W` file: what was found of its matrix, in the order that its word means
 pub built_put : (header : Header) → header.kind ≡ Wagner → (lists : LentLists) (low high chosen : List ℤ) (r : Results)

@@ -1,6 +1,6 @@
 -- The definitions of this crate, computed: a slip in one of them gives another list or another number.
 use mathlib.Core.Path.{◌≡◌, refl}
-use mathlib.Core.List.{List, [], ◌∷◌, flat_map}
+use mathlib.Core.List.{[], ◌∷◌, flat_map}
 use Prim.Native.Nat.{ℕ, ◌*◌}
 use lib.Dec.{leb}
 use Rattle.lists.specs.Filled.{filled}

@@ -9,7 +9,7 @@ use lib.Seq.{drop-cons}
 
 -- a list whose rest from j on begins with x: x stands at j, and the others behind it
 module _ {A : Type 0} (xs : List A) (j : ℕ) (x : A) (others : List A) (e : drop j xs ≡ x ∷ others) where
-  -- j is a place of the list
+  -- j is an index of the list
   pub rest_below : j < length xs
   rest_below = omega (arith, ap length e, length-drop j xs)
 

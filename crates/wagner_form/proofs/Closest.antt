@@ -1,9 +1,8 @@
 -- The next taxon by closeness is the unplaced one whose placement adds least, the lower row first among equals; and the pair that names it
 -- names the interval on which it is placed.
 use mathlib.Core.Path.{◌≡◌, refl, sym, ap, ◌∙◌}
-use mathlib.Core.Logic.{◌≢◌}
 use mathlib.Core.List.{List, [], ◌∷◌, ◌++◌, map, flat_map}
-use Prim.Native.Nat.{ℕ, zero, suc}
+use Prim.Native.Nat.{ℕ}
 use native.Mathlib.Omega.{arith}
 use lib.IntN.{ℤ}
 use Rattle.tree_form.proofs.Placing.{added_on}
@@ -14,7 +13,7 @@ use Rattle.lists.specs.Pairs.{pairs}
 use Rattle.lists.proofs.Least.{least_of_congr, first_least_congr, first_least-mem}
 use Rattle.lists.proofs.Pairs.{least_pair, pairs-none}
 use Rattle.tree_form.specs.Nodes.{nodes_in, nodes_out, other_nodes}
-use Rattle.tree_form.specs.Placing.{from_interval, nearest_interval, link_first, hang, place_on, place}
+use Rattle.tree_form.specs.Placing.{from_interval, nearest_interval, link_first, place_on, place}
 use Rattle.tree_form.proofs.Nodes.{node_nodes_in}
 use Rattle.wagner_form.specs.Next.{hangings, taxon_of, advancement, by_advancement, by_closeness}
 
