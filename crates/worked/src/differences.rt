@@ -72,25 +72,13 @@ fn show_codes(rt: &impl Print, codes: &[i32]) -> io::Result<()> {
 // The matrix that is held.
 #[derive(Drop)]
 pub(crate) struct Work {
-    held: Held,
-}
-
-impl Work {
-    // Codes of 0 and weights of 1.
-    pub(crate) fn new() -> Work {
-        Work {
-            held: Held::alike(0),
-        }
-    }
+    pub(crate) held: Held,
 }
 
 impl Steps for Work {
     fn held(&mut self) -> &mut Held {
         &mut self.held
     }
-
-    // Nothing is written beside the matrix.
-    fn write(&mut self, _: &str, _: &[i32]) {}
 
     // `difference` shows the difference of two nodes, `lent` the same where so many codes and weights are lent, `interval` the interval
     // difference of a node from the interval between two others, `medians` the medians of three in a row of sevens of this size, `codes` what

@@ -10,11 +10,14 @@ mod shared;
 mod trees;
 
 use crate::shared::cases::run;
+use crate::shared::held::Held;
 use std::io;
 
 fn main(rt: HostRuntime) -> io::Result<()> {
-    run(&rt, "differences", &mut differences::Work::new())?;
-    run(&rt, "networks", &mut networks::Work::new())?;
+    let held = Held::alike(0);
+    run(&rt, "differences", &mut differences::Work { held })?;
+    let held = Held::alike(0);
+    run(&rt, "networks", &mut networks::Work { held })?;
     run(&rt, "trees", &mut trees::Work::new())?;
     run(&rt, "references", &mut over_references::Work::new())?;
     run(&rt, "fits", &mut fits::Work::new())

@@ -49,25 +49,13 @@ fn show_lent(
 // The matrix that is held.
 #[derive(Drop)]
 pub(crate) struct Work {
-    held: Held,
-}
-
-impl Work {
-    // Codes of 0 and weights of 1.
-    pub(crate) fn new() -> Work {
-        Work {
-            held: Held::alike(0),
-        }
-    }
+    pub(crate) held: Held,
 }
 
 impl Steps for Work {
     fn held(&mut self) -> &mut Held {
         &mut self.held
     }
-
-    // Nothing is written beside the matrix.
-    fn write(&mut self, _: &str, _: &[i32]) {}
 
     // `show` shows the network of n taxa and m characters, `lent` the same where so many codes and weights are lent.
     fn show(&mut self, rt: &impl Print, word: &str, numbers: &[i32]) -> io::Result<()> {

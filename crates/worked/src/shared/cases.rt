@@ -80,8 +80,8 @@ pub(crate) trait Steps {
     // The matrix that it holds.
     fn held(&mut self) -> &mut Held;
 
-    // What a step writes beside this matrix, if it is one that writes something.
-    fn write(&mut self, word: &str, numbers: &[i32]);
+    // What a step writes beside this matrix, if it is one that writes something; nothing where a part holds no more.
+    fn write(&mut self, _: &str, _: &[i32]) {}
 
     // What a step shows, if it is one that shows something.
     fn show(&mut self, rt: &impl Print, word: &str, numbers: &[i32]) -> io::Result<()>;
