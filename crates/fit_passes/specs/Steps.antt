@@ -1,7 +1,7 @@
 -- The passes over a branching in one character, node by node: what each function of a pass promises. No exported contract cites this file.
 -- `own` has the taxa's own sets: in a definition by number, as `character rows j`, in what a function promises as the list that it reads.
 use Rattle.std.specs.Bool.{then_some}
-use Rattle.std.specs.Prelude.{◌≡◌, ℕ, ◌+◌, ◌*◌, ◌^◌, ◌<◌, ◌≤◌, true, nat_le, Option, Some, None, List, ℤ, pos, slice_index_or}
+use Rattle.std.specs.Prelude.{◌≡◌, ℕ, ◌+◌, ◌*◌, ◌^◌, ◌<◌, ◌≤◌, true, nat_le, Option, Some, None, List, ℤ, pos, slice_index_or, cond, ltb}
 use mathlib.Core.List.{flat_map}
 use Rattle.lists.specs.Sums.{sum_over}
 use Rattle.matrix_form.specs.Shape.{in_range, last_node, state_at}
@@ -145,6 +145,10 @@ states_with range state = record { low = range.low; high = range.high; chosen = 
 -- the states of a node, from its own set, if it has one, and from what is kept of its descendants and of itself
 abbrev pub states_from : Option Span → Part → Part → Seen → States
 states_from own a b seen = states_with (range_from own a.set b.set seen.outside) seen.state
+
+-- these, of a node that is none behind the last one; behind it zeros
+abbrev pub states_up_to : ℕ → ℕ → Option Span → Part → Part → Seen → States
+states_up_to last v own a b seen = cond (ltb last v) (record { low = pos 0; high = pos 0; chosen = pos 0 }) (states_from own a b seen)
 
 -- the states of node v
 abbrev pub states_at : List States → ℕ → States

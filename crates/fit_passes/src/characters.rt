@@ -3,13 +3,14 @@
 // Kept: no plainer, the plan serves all characters, and each has sets of its own: a struct of both would be made anew for each, to be taken apart in four passes.
 ghost use Rattle.std.specs.Prelude.{◌≡◌};
 ghost use Rattle.fit_passes.specs.Steps.{taxon_span, Column, PartOf, PartsUp, LeastCost};
-ghost use Rattle.fit_passes.specs.Steps.{row1_seen, outside_from, SeenDown, range_from, states_from, Fits};
+ghost use Rattle.fit_passes.specs.Steps.{row1_seen, outside_from, SeenDown, range_from, states_from, states_up_to, Fits};
 
 use crate::planning::{Plan, sister};
 use branching::tree::tree_index;
 use fit_form::characters::States;
 use fit_sets::spans::{gap, join, middle, nearest_member, nearest_members, only};
 use matrix::codes::code_at;
+use matrix::questions::last_node;
 use matrix_form::spans::Span;
 use std::array;
 use tree_form::tree::TREE_SIZE;
@@ -153,6 +154,16 @@ fn states_of(own: Option<Span>, a: Part, b: Part, seen: Seen) -> States
     }
 }
 
+// The states of node v, if it is none behind the last one: there nothing is sought, so that few taxa take little time.
+fn states_up_to(last: usize, v: usize, own: Option<Span>, a: Part, b: Part, seen: Seen) -> States
+    ensures { result ≡ states_up_to last v own a b seen }
+{
+    if last < v {
+        return States::default();
+    }
+    states_of(own, a, b, seen)
+}
+
 // The fit of one character: the states of each node.
 pub fn fit_character(own: &[Option<Span>; TREE_SIZE], plan: &Plan) -> [States; TREE_SIZE]
     ensures { Fits plan.now.taxa plan.now.tree own.now result }
@@ -160,8 +171,16 @@ pub fn fit_character(own: &[Option<Span>; TREE_SIZE], plan: &Plan) -> [States; T
     let parts = parts_up(own, plan);
     let seen = seen_down(own, plan, &parts);
     let below = &plan.below;
+    let last = last_node(plan.n);
     array::from_fn(|v| {
         let pair = below[v];
-        states_of(own[v], parts[pair.first], parts[pair.second], seen[v])
+        states_up_to(
+            last,
+            v,
+            own[v],
+            parts[pair.first],
+            parts[pair.second],
+            seen[v],
+        )
     })
 }

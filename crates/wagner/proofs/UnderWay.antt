@@ -2,7 +2,7 @@
 use mathlib.Core.Path.{◌≡◌, sym, ap, ◌∙◌}
 use Rattle.lists.specs.Least.{least_of}
 use Rattle.lists.specs.Numbers.{numbers}
-use Rattle.matrix_form.proofs.Passing.{matrix_passes}
+use Rattle.matrix_form.proofs.Passing.{matrix_passes, true-one_to}
 use mathlib.Core.List.{List, [], ◌∷◌, ◌++◌, append_assoc, append-nil}
 use Prim.Native.Nat.{ℕ, suc, ◌+◌, ◌*◌, ◌-◌, ◌^◌, ◌≤◌, ◌<◌}
 use native.Mathlib.Omega.{arith}
@@ -114,12 +114,14 @@ module _ (order : Order) (lists : MatrixLists) (n m : ℕ) (lent : LentMatrix li
       (sym alone_last)
 
   -- by advancement or closeness, the keys before the first link are the advancements
-  alone-keys : (keys : List ℕ) → Advancements lists m keys → KeysRight order lists n m only_row_one keys
+  alone-keys : (keys : List ℕ) → Advancements lists n m keys → KeysRight order lists n m only_row_one keys
   alone-keys keys known = record {
-    each = λ v u. known.each v (omega (arith, u.taxon, lent.taxa)) ∙ alone-key order lists n m v;
+    each = λ v u.
+        known.each v (omega (arith, u.taxon, lent.taxa))
+        ∙ rw (true-one_to n v (omega (arith, u.other)) u.taxon) (alone-key order lists n m v);
   }
 
-  pub begun_under_way : (keys : List ℕ) → Advancements lists m keys → (table : List (List ℕ)) (built : WagnerTree) → RowOne built
+  pub begun_under_way : (keys : List ℕ) → Advancements lists n m keys → (table : List (List ℕ)) (built : WagnerTree) → RowOne built
       → UnderWay order lists lists.codes n m built keys table []
   unfolding added_length sum_over filled
   begun_under_way keys known table built begun =

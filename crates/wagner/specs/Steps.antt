@@ -1,5 +1,5 @@
--- For the proofs of the private functions alone; no public contract cites this file.
--- How a build goes on, placement by placement.
+-- How a build goes on, placement by placement, for the proofs of the private functions; and the length of a branch, which the contract of
+-- `records::branches` cites.
 use Rattle.std.specs.Prelude.{◌≡◌, ◌+◌, ◌^◌, List, ℕ, ◌<◌, length, get_or, take}
 use Rattle.filled.specs.Filling.{Pushed}
 use Rattle.branching.specs.declared.placement.Placed.{Placed}

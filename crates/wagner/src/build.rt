@@ -5,10 +5,12 @@ ghost use Rattle.matrix_form.specs.Shape.{matrix_of};
 use crate::answer::WagnerTree;
 use crate::closeness::Made;
 use crate::keys::Keys;
+use crate::order::{KEYS, advancements};
 use difference::nodes::Nodes;
 use matrix::lent::Lent;
 use matrix_form::refusal::Refusal;
 use tree_form::order::Order;
+use tree_form::tree::TREE_SIZE;
 
 // The Wagner tree of a lent matrix that no question refuses, in an order of placing. The codes of the HTUs are written into their rows of
 // the matrix. Whatever is handed in, nothing else is written, and where the matrix has not its shape nothing is. Which tree it answers of
@@ -34,7 +36,13 @@ pub fn build_tree(
     if !lent.is_shaped() {
         return built;
     }
-    let mut keys = Keys::first(order, &Nodes { lent });
+    // The keys before the first placement: in both orders those of the advancements. Zeros come first, so that the table is filled where it stands.
+    let mut keys = Keys {
+        order,
+        keys: [0; KEYS],
+        table: [[0; TREE_SIZE]; KEYS],
+    };
+    keys.keys = advancements(&Nodes { lent });
     for _turn in 1..n {
         let b = keys.next(n, &built.tree);
         let placed = built.tree.place_unasked(matrix, weights, n, m, b);

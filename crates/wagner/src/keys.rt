@@ -3,9 +3,8 @@ ghost use Rattle.std.specs.Prelude.{◌≤◌};
 ghost use Rattle.matrix_form.specs.Shape.{most_taxa};
 
 use crate::closeness::Made;
-use crate::order::{KEYS, advancements};
+use crate::order::KEYS;
 use branching::tree::Tree;
-use difference::nodes::Nodes;
 use tree_form::order::Order;
 use tree_form::tree::TREE_SIZE;
 
@@ -24,22 +23,9 @@ impl Keys {
     ghost use Rattle.lists.specs.Numbers.{numbers};
     ghost use Rattle.branching.specs.Views.{ancestors};
     ghost use Rattle.tree_form.specs.Nodes.{nodes_out};
-    ghost use Rattle.wagner.specs.Order.{key_of, Advancements};
+    ghost use Rattle.wagner.specs.Order.{key_of};
     ghost use Rattle.wagner.specs.Closeness.{KeysMade};
     ghost use Rattle.tree_form.specs.declared.order.Order.TheVariants.{Closest};
-    ghost use Rattle.matrix.specs.Lent.{lent_lists};
-
-    // The keys before the first placement: in both orders those of the advancements.
-    pub(crate) fn first(order: Order, nodes: &Nodes) -> Keys
-        ensures order { result.order ≡ order }
-        ensures keys { Advancements (lent_lists nodes.now.lent) nodes.now.lent.m result.keys }
-    {
-        Keys {
-            order,
-            keys: advancements(nodes),
-            table: [[0; TREE_SIZE]; KEYS],
-        }
-    }
 
     // The taxon to place next: of those of n taxa that are not placed the first of least key, and 0 if all are placed.
     pub(crate) fn next(&self, n: usize, tree: &Tree) -> usize

@@ -14,8 +14,8 @@ returns-then-not-is_shaped c = record {
   unshaped = λ e. (refl, c.alone-built.ensures);
 }
 
-pub invariant_of-first : goal.invariant_of-first
-invariant_of-first c = record { narrow = (shaped-limits _ _ _ (sym c.is_shaped.ensures ∙ c.if-not-is_shaped.false)).characters }
+pub invariant_of-advancements : goal.invariant_of-advancements
+invariant_of-advancements c = record { narrow = (shaped-limits _ _ _ (sym c.is_shaped.ensures ∙ c.if-not-is_shaped.false)).characters }
 
 pub next-b-requires : goal.next-b-requires
 next-b-requires c = (shaped-limits _ _ _ (sym c.is_shaped.ensures ∙ c.if-not-is_shaped.false)).taxa
@@ -31,7 +31,7 @@ loop-turn-init c = record {
   placed = begun_in _ _ _ _ c.alone-built.ensures.tree;
   size = refl;
   count = omega (arith, c.alone-built.ensures.placements.count);
-  way = λ lent weighted. ([], begun_under_way _ _ _ _ lent weighted _ c.first-keys.ensures.keys _ _ c.alone-built.ensures);
+  way = λ lent weighted. ([], begun_under_way _ _ _ _ lent weighted _ c.advancements-keys.ensures _ _ c.alone-built.ensures);
 }
 
 pub loop-turn-preserved : goal.loop-turn-preserved
@@ -62,8 +62,7 @@ returns c =
     record {
       is = λ lent weighted.
           let way = inv.way lent weighted in
-          rw c.first-keys.ensures.order at
-          (done_under_way _ _ _ _ _ _ _ _ _ lent weighted way.1 (omega (arith, way.1.count, inv.count, c.loop-turn-test.false)));
+          done_under_way _ _ _ _ _ _ _ _ _ lent weighted way.1 (omega (arith, way.1.count, inv.count, c.loop-turn-test.false));
       only = inv.placed.only;
       unshaped = λ e. absurd (true≢false (sym (sym c.is_shaped.ensures ∙ c.if-not-is_shaped.false) ∙ e));
     }
