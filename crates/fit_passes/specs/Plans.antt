@@ -14,7 +14,8 @@ pub record Planned (plan : Inside) : Type 0 where
   pub walking : Walking plan.n (ancestors plan.tree) plan.walk
   pub below : Belows plan.n (ancestors plan.tree) plan.below
 
--- the number of taxa of a tree, and its immediate ancestors by node number
+-- the number of taxa of a tree, and its immediate ancestors by node number; the plan has both and what it holds besides
 pub record TaxaTree : Type 0 where
   pub taxa : ℕ
   pub tree : List ℕ
+  pub plan : Inside

@@ -11,7 +11,7 @@ use tree_walk::descent::descent_over;
 use tree_walk::walk::{Below, Descent, Walk};
 
 // A tree of n taxa, its walk, and the descendants of each node by node number. Contracts see the number of taxa and the tree.
-#[derive(Drop)]
+#[derive(Clone, Copy)]
 pub struct Plan {
     pub(crate) n: usize,
     pub(crate) tree: Tree,
@@ -27,7 +27,9 @@ impl Model for Plan {
     ghost use Rattle.branching.specs.Views.{ancestors};
     ghost use Rattle.fit_passes.specs.Plans.{Planned};
 
-    ghost view = { λ p. record { taxa = p.n; tree = ancestors p.tree } };
+    ghost view = { λ p. record { taxa = p.n; tree = ancestors p.tree; plan = p } };
+
+    ghost inverse = { λ value. value.plan };
 
     ghost invariant = { Planned };
 }
@@ -35,7 +37,8 @@ impl Model for Plan {
 impl Plan {
     // The plan of a tree of n taxa.
     pub fn of(tree: &Tree, n: usize) -> Plan
-        ensures { result ≡ record { taxa = n; tree = ancestors tree.now } }
+        ensures taxa { result.taxa ≡ n }
+        ensures tree { result.tree ≡ ancestors tree.now }
     {
         let Descent { walk, below } = descent_over(tree, n);
         let tree = *tree;

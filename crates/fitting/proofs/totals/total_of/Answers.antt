@@ -17,6 +17,6 @@ invariant_of-sum_costs c = record { narrow = (shaped-limits _ _ _ (sym c.is_shap
 
 pub returns : goal.returns
 returns c = record {
-  costs = rw c.of.ensures at c.sum_costs.ensures;
+  costs = rw (c.of.ensures.taxa, c.of.ensures.tree) at c.sum_costs.ensures;
   unshaped = λ e. absurd (true≢false (sym (sym c.is_shaped.ensures ∙ c.if-not-is_shaped.false) ∙ e));
 }

@@ -18,19 +18,19 @@ pub fit_columns-branches-requires : goal.fit_columns-branches-requires
 fit_columns-branches-requires c = record {
   some =
       let shape = shaped-limits _ _ _ (sym c.is_shaped.ensures ∙ c.if-not-is_shaped.false) in
-      rw c.of-plan.ensures (shape.taxon, shape.taxa);
+      rw c.of-plan.ensures.taxa (shape.taxon, shape.taxa);
   state_lists = sizes _ _ _ (sym c.lists_full.ensures ∙ c.if-not-lists_full.false);
 }
 
 pub sum_lengths-requires : goal.sum_lengths-requires
-sum_lengths-requires c = rw c.of-plan.ensures (shaped-limits _ _ _ (sym c.is_shaped.ensures ∙ c.if-not-is_shaped.false)).taxa
+sum_lengths-requires c = rw c.of-plan.ensures.taxa (shaped-limits _ _ _ (sym c.is_shaped.ensures ∙ c.if-not-is_shaped.false)).taxa
 
 pub returns : goal.returns
 returns c =
-    let written = rw c.of-plan.ensures at c.fit_columns-branches.ensures in
+    let written = rw (c.of-plan.ensures.taxa, c.of-plan.ensures.tree) at c.fit_columns-branches.ensures in
     tree-fitted _ _ _ _ _ _ _ _ _ _ _ _
     (both-shaped _ _ _ _ _ _ (sym c.is_shaped.ensures ∙ c.if-not-is_shaped.false) (sym c.lists_full.ensures ∙ c.if-not-lists_full.false))
-    written (rw c.of-plan.ensures at c.sum_lengths.ensures)
+    written (rw c.of-plan.ensures.taxa at c.sum_lengths.ensures)
 
 pub invariant_of-nodes : goal.invariant_of-nodes
 invariant_of-nodes c = record { narrow = (shaped-limits _ _ _ (sym c.is_shaped.ensures ∙ c.if-not-is_shaped.false)).characters }

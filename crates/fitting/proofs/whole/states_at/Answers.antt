@@ -39,7 +39,7 @@ offset_bounds-fit_character-v c = omega (arith, bounds-fit_character-v c)
 pub returns : goal.returns
 unfolding node_shaped
 returns c =
-    let fits = rw c.of.ensures at c.fit_character.ensures in
+    let fits = rw (c.of.ensures.taxa, c.of.ensures.tree) at c.fit_character.ensures in
     let right = sym c.is_shaped.ensures ∙ c.if-not-is_shaped.false in
     let last = last_told _ _ (shaped-limits _ _ _ right).taxa c.last_node.ensures in
     let node = rw last at (sym c.one_to-2.ensures ∙ c.if-not-one_to-2.false) in
