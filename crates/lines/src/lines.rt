@@ -1,6 +1,5 @@
 // The lines of the listing, one method for each kind: fields with a tab before each but the first, and a line feed.
 // Kept: no plainer, the names are no part of the bytes that are put: one listing serves a job with names and a refusal without.
-ghost use Rattle.matrix_form.specs.Refusals.{refusal_number};
 ghost use Rattle.listing_form.specs.Kinds.{index_line, prim_line, wagner_line, branch_line, state_line, refusal_line};
 ghost use Rattle.lines.specs.Fields.{total_text};
 ghost use Rattle.lines.specs.Puts.{Puts};
@@ -11,8 +10,6 @@ use crate::put::Listing;
 use consistency_form::index::Index;
 use fit_form::characters::States;
 use fit_form::whole::BranchFit;
-use matrix::refusal::number;
-use matrix_form::refusal::Refusal;
 use prim_form::answer::Link;
 use text_form::LINE_FEED;
 use tree_form::placement::Placement;
@@ -40,13 +37,13 @@ impl<'a> Listing<'a> {
         self.put_byte(LINE_FEED);
     }
 
-    // Puts the line of a refusal: its number, and the line of the file.
+    // Puts the line of a refusal, of any number: the number, and the line of the file.
     #[tactic(auto, using(crate::proofs::Fields::line_steps), unfolding(listing_form::specs::Kinds::refusal_line, text_form::specs::Text::bytes))]
-    pub fn put_refusal_line(&mut self, refusal: Refusal, line: usize)
-        ensures { Puts (refusal_line (refusal_number refusal) line) self.old self.new }
+    pub fn put_refusal_line(&mut self, number: u64, line: usize)
+        ensures { Puts (refusal_line number line) self.old self.new }
     {
         self.put_byte(b'R');
-        self.put_field(number(refusal));
+        self.put_field(number);
         self.put_field(line as u64);
         self.put_byte(LINE_FEED);
     }

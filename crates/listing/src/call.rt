@@ -8,6 +8,7 @@ ghost use Rattle.listing_form.specs.Calls.{ListDone};
 use crate::job::{Lists, Room, put_job};
 use fitting::ranges::Ranges;
 use lines::put::Listing;
+use matrix::refusal::number;
 use matrix::{COLUMNS, LIGHTEST, MATRIX_SIZE};
 use matrix_file::NAMES_SIZE;
 use matrix_file::reading::read;
@@ -31,7 +32,7 @@ fn put_file(listing: &mut Listing, file: &[u8], room: &mut Room)
         &mut lists.branches,
     ) {
         Ok(header) => put_job(listing, header, room),
-        Err(refused) => listing.put_refusal_line(refused.refusal, refused.line),
+        Err(refused) => listing.put_refusal_line(number(refused.refusal), refused.line),
     }
 }
 

@@ -28,7 +28,8 @@ put_job-requires c =
 pub returns-in-Err : goal.returns-in-Err
 returns-in-Err c =
     let full = sizes (goal.at.returns-in-Err c).After-read in
-    put_same (refused-printed _ _ _ _ c.read.ensures full.0 c.requires full.1 full.2 _ c.in-Err.is) c.put_refusal_line.ensures
+    put_same (refused-printed _ _ _ _ c.read.ensures full.0 c.requires full.1 full.2 _ c.in-Err.is)
+    (rw c.number.ensures at c.put_refusal_line.ensures)
 
 pub returns-in-Ok : goal.returns-in-Ok
 returns-in-Ok c =
