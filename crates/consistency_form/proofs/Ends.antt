@@ -16,6 +16,7 @@ use Rattle.difference_form.specs.Rows.{apart, part, lower, higher, weighing}
 use Rattle.difference_form.proofs.Laws.Order.{lower-keeps, higher-keeps}
 use Rattle.difference_form.proofs.Laws.Codes.{≤ℤ-trans, lower_second, lower-least, higher-most, between_ends, sub-first}
 use Rattle.difference_form.proofs.Laws.Points.{everywhere, point_le, apart-point, lower-point}
+use Rattle.lists.proofs.Keep.{mem-length}
 use Rattle.lists.proofs.Numbers.{length_map_numbers}
 use Rattle.lists.proofs.Sums.{sum_same}
 use Rattle.matrix_form.specs.Spans.{only, singles}
@@ -109,12 +110,16 @@ floor-single step codes some =
     ∙ ap (step (highest codes)) (lower_second (highest codes) (lowest codes) (lowest-least codes (highest codes) (highest-mem codes some)))
 
 -- the step from the highest to the lowest code is the greatest between two taxa
-pub widest : (w : ℕ) (codes : List ℤ) (a b : ℤ) → Memᴰ a codes → Memᴰ b codes → part w a b ≤ part w (highest codes) (lowest codes)
+pub widest_step : (w : ℕ) (codes : List ℤ) (a b : ℤ) → Memᴰ a codes → Memᴰ b codes → part w a b ≤ part w (highest codes) (lowest codes)
 unfolding part
-widest w codes a b i j =
+widest_step w codes a b i j =
     mul-le-mul_left w
     (between_ends (lowest codes) (highest codes) a b (lowest-least codes a i) (highest-most codes a i) (lowest-least codes b j)
     (highest-most codes b j))
+
+-- where each taxon has its code alone, the floor of a character is the greatest part between two of its taxa
+pub widest : (w : ℕ) (codes : List ℤ) (a b : ℤ) → Memᴰ a codes → Memᴰ b codes → part w a b ≤ character_floor (part w) (map only codes)
+widest w codes a b i j = rw (floor-single (part w) codes (mem-length i)) (widest_step w codes a b i j)
 
 -- how far highest and lowest lie apart is the highest less the lowest
 pub highest_less_lowest : (codes : List ℤ) → 1 ≤ length codes → highest codes -ℤ lowest codes ≡ pos (apart (highest codes) (lowest codes))
