@@ -1,7 +1,7 @@
 -- From contract to claim: what the claim about rivals says of the tree and the matrix that a placement or a build handed back.
-use mathlib.Core.Path.{◌≡◌, ap, ap₂, ◌∙◌}
+use mathlib.Core.Path.{◌≡◌, sym, ap, ap₂, ◌∙◌}
 use mathlib.Core.Bool.{true, false}
-use mathlib.Core.List.{List}
+use mathlib.Core.List.{List, ◌++◌}
 use Prim.Native.Nat.{ℕ, ◌+◌, ◌-◌}
 use lib.IntN.{ℤ}
 use lib.ListN.{length, take, drop}
@@ -64,6 +64,19 @@ module _ (lists : MatrixLists) (new : List ℤ) (n m : ℕ) (tree : List ℕ) (b
       let last = last_row n tree in
       let behind = drop_at (rows_of lists.codes m last) (place_in lists n m tree b).made last (length-rows_of lists.codes m last) in
       rw (grown, what, held, rows, behind)
+
+  -- in the matrix that came back the rows of the nodes that were there are as they were, and behind them stands what was made
+  pub handed-rows : rows_of new m (last_row n (ancestors r.tree))
+      ≡ rows_of lists.codes m (last_row n tree) ++ (handed_back new n m tree r).made
+  unfolding placement_says
+  handed-rows =
+      let asked = placement_asked lists n m tree b pass in
+      let stands = asked_standing lists n m tree b asked sized in
+      let grown : ancestors r.tree ≡ (place_in lists n m tree b).tree = rw pass at done.tree in
+      let held : new ≡ matrix_placed lists n m tree b = rw pass at done.matrix in
+      ap₂ (λ (all : List ℤ) (grown : List ℕ). rows_of all m (last_row n grown)) held grown
+      ∙ placed-rows lists n m (taxa_placed n tree) tree stands b asked.unplaced
+      ∙ ap (λ (after : AfterPlacing). rows_of lists.codes m (last_row n tree) ++ after.made) (sym handed-placement)
 
   -- no hanging of the taxon, on any interval and through an HTU with any codes, adds less
   pub handed-least : row_one_alone tree ≡ false
