@@ -4,6 +4,7 @@ pub mod InTurn
 pub mod OptionalLine
 pub mod WeightFields
 pub mod HeaderRead
+pub mod FileLength
 pub mod FileOfRead
 pub mod ReadOfFile
 pub mod Accepted

@@ -82,11 +82,11 @@ file_of job = ended (first_text job ∷ weight_line job ++ (row_texts job ++ bra
 abbrev pub most_bytes : ℕ
 most_bytes = 45000
 
--- a job within the limits: n is 1 to 64 and m is 1 to 128; line 1 has no more fields than its kind allows, so that an `F` file has no word
+-- a job that is formed: n is 1 to 64 and m is 1 to 128; line 1 has no more fields than its kind allows, so that an `F` file has no word
 -- for the order; m weights from 1 to 9, without a `V` line all of them 1; n names, well formed and all different, and without a `V` line
 -- row 1 is not named `V`; n rows of m codes, each from -999 to 999; in an `F` file an ancestor for each node from 2 to 2n-2, and these are
--- a branching, in a `W` file none; and its file is not too long
-pub record JobWithinLimits (job : Job) : Type 0 where
+-- a branching, in a `W` file none
+pub record JobFormed (job : Job) : Type 0 where
   pub limits : within_limits job.n job.m ≡ true
   pub order_fits : 3 + length (order_fields job.order) ≤ (kind_form job.kind).most_fields
   pub weight_count : length job.weights ≡ job.m
@@ -101,4 +101,9 @@ pub record JobWithinLimits (job : Job) : Type 0 where
   pub codes_in_range : every all_in_range job.rows ≡ true
   pub branches_counted : length job.ancestors ≡ branch_count job.kind job.n
   pub branching_said : branched job.kind job.n job.ancestors ≡ true
+
+-- a job within the limits: it is formed, and its file is not too long
+pub record JobWithinLimits (job : Job) : Type 0 where
+  pub formed : JobFormed job
+  pub open formed use *
   pub short : length (file_of job) ≤ most_bytes

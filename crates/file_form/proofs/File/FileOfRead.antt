@@ -189,23 +189,26 @@ module _ (file : List ℕ) (job : Job) (passed : FilePassed file job) where
       let read = passed.behind.rows in
       let within = read.within in
       record {
-        limits = passed.limits;
-        order_fits = order_fits lines passed.form passed.order;
-        weight_count = said_count header.m fields header.weighed formed;
-        weights_known = said_known header.m fields header.weighed formed;
-        weights_unsaid = said_ones header.m fields header.weighed;
-        name_count = length-map (row_lines header lines) name_in ∙ read.count;
-        names_formed = within.formed;
-        names_differ = within.differ;
-        name_free =
-            ap (λ behind. letter_free header.weighed letter_v (map name_in (take header.n behind)))
-            (sym (drop-behind (lines_taken header.weighed) lines))
-            ∙ name_free header.weighed header.n (drop 1 lines) refl;
-        row_count = length-map (row_lines header lines) codes_in ∙ read.count;
-        rows_full = within.full;
-        codes_in_range = within.near;
-        branches_counted = ancestors-count;
-        branching_said = passed.behind.branching_said;
+        formed =
+            record {
+              limits = passed.limits;
+              order_fits = order_fits lines passed.form passed.order;
+              weight_count = said_count header.m fields header.weighed formed;
+              weights_known = said_known header.m fields header.weighed formed;
+              weights_unsaid = said_ones header.m fields header.weighed;
+              name_count = length-map (row_lines header lines) name_in ∙ read.count;
+              names_formed = within.formed;
+              names_differ = within.differ;
+              name_free =
+                  ap (λ behind. letter_free header.weighed letter_v (map name_in (take header.n behind)))
+                  (sym (drop-behind (lines_taken header.weighed) lines))
+                  ∙ name_free header.weighed header.n (drop 1 lines) refl;
+              row_count = length-map (row_lines header lines) codes_in ∙ read.count;
+              rows_full = within.full;
+              codes_in_range = within.near;
+              branches_counted = ancestors-count;
+              branching_said = passed.behind.branching_said;
+            };
         short = subst (λ text. length text ≤ most_bytes) file_written passed.short;
       }
 

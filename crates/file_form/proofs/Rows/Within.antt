@@ -9,7 +9,7 @@ use lib.ListN.{length}
 use Rattle.matrix_form.specs.Questions.{all_in_range, within_limits}
 use Rattle.matrix_form.specs.Shape.{most_taxa, most_characters}
 use Rattle.lists.specs.Tests.{every}
-use Rattle.file_form.specs.Job.{Job, name_form, differs_from_all, all_differ, has_codes, JobWithinLimits}
+use Rattle.file_form.specs.Job.{Job, name_form, differs_from_all, all_differ, has_codes, JobFormed, JobWithinLimits}
 use Rattle.matrix_form.proofs.Passing.{limits_passed}
 use Rattle.lists.proofs.Both.{and_left, and_right, and_both}
 use Rattle.lists.proofs.Every.{every-head, every-tail, every-cons}
@@ -77,17 +77,21 @@ module _ {m : ℕ} {earlier : List (List ℕ)} {name : List ℕ} {names : List (
         near = every-cons all_in_range codes rows first.near others.near;
       }
 
--- the rows of a job within the limits, with no name before them
-pub job_rows : (job : Job) → JobWithinLimits job → RowsWithin job.m [] job.names job.rows
-job_rows job within =
+-- the rows of a job that is formed, with no name before them
+pub formed_rows : (job : Job) → JobFormed job → RowsWithin job.m [] job.names job.rows
+formed_rows job formed =
     record {
-      count = within.row_count ∙ sym within.name_count;
-      formed = within.names_formed;
+      count = formed.row_count ∙ sym formed.name_count;
+      formed = formed.names_formed;
       apart = apart_none job.names;
-      differ = within.names_differ;
-      full = within.rows_full;
-      near = within.codes_in_range;
+      differ = formed.names_differ;
+      full = formed.rows_full;
+      near = formed.codes_in_range;
     }
+
+-- so are those of a job within the limits
+pub job_rows : (job : Job) → JobWithinLimits job → RowsWithin job.m [] job.names job.rows
+job_rows job within = formed_rows job within.formed
 
 -- n is at most 64, and m at most 128
 pub limits-high : (n m : ℕ) → within_limits n m ≡ true → (n ≤ most_taxa) × (m ≤ most_characters)

@@ -6,17 +6,17 @@ use mathlib.Core.List.{[]}
 use Prim.Native.Nat.{ℕ, zero, suc, ◌-◌, ◌*◌, ◌≤◌, ◌<◌}
 use native.Mathlib.Omega.{arith}
 use native.Mathlib.Decide.{dec_le}
-use lib.IntN.{ℤ, pos, negsuc}
+use lib.IntN.{ℤ}
 use lib.ListN.{length, get_or}
-use borrow.Author.Tests.{leb-true}
 use Rattle.lists.proofs.Every.{every_at}
-use Rattle.matrix_form.specs.Shape.{highest_code, in_range}
+use Rattle.matrix_form.specs.Shape.{in_range}
 use Rattle.difference_form.specs.Rows.{most_difference}
 use Rattle.consistency_form.specs.Index.{thousand}
 use Rattle.text_form.specs.Decimal.{digits_of, decimal}
 use Rattle.file_form.specs.Job.{Job, JobWithinLimits, name_form}
 use Rattle.text_form.specs.Text.{bytes}
 use Rattle.text_form.proofs.Digits.{digits_length}
+use Rattle.file_form.proofs.File.FileLength.{code-length}
 use Rattle.listing_form.specs.Lines.{hyphen, htu_name, node_name}
 use Rattle.listing_form.specs.Kinds.{mark}
 use Rattle.lines.proofs.Fields.{node_taxon, node_htu}
@@ -41,9 +41,7 @@ short_size n h = digits_length n 2 h
 
 -- a code from -999 to 999 has at most 4 bytes
 pub code-size : (z : ℤ) → in_range z ≡ true → length (decimal z) ≤ 4
-unfolding decimal in_range
-code-size (pos n) e = let small = leb-true n highest_code e in omega (arith, short_size n (omega arith))
-code-size (negsuc n) e = let small = leb-true (suc n) highest_code e in omega (arith, short_size (suc n) (omega arith))
+code-size z e = code-length z e
 
 -- a mark has one byte
 pub mark-size : (marked : Bool) → length (mark marked) ≡ 1
