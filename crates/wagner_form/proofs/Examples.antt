@@ -7,13 +7,13 @@ use Prim.Native.Nat.{ℕ, ◌*◌, ◌-◌}
 use lib.IntN.{ℤ, pos, negsuc}
 use lib.ListN.{take, replicate}
 use Rattle.lists.specs.Over.{over, stripes}
-use Rattle.matrix_form.specs.NodeRows.{row_of, with_rows}
+use Rattle.matrix_form.specs.NodeRows.{row_of, rows_of, with_rows}
 use Rattle.matrix_form.proofs.Sample.{rows_abcd}
 use Rattle.difference_form.specs.Rows.{interval_by, apart, part, lower, higher, median, medians, difference, node_difference}
 use Rattle.lists.specs.Numbers.{numbers}
 use Rattle.lists.specs.Least.{first_least, least_of}
 use Rattle.lists.specs.Pairs.{pairs}
-use Rattle.matrix_form.specs.Shape.{last_node, weight_at}
+use Rattle.matrix_form.specs.Shape.{last_node, weight_at, row, matrix_of}
 use Rattle.lists.specs.Tests.{every, same_numbers}
 use Rattle.tree_form.specs.declared.placement.Placement.{Placement}
 use Rattle.tree_form.specs.declared.branch.Branch.{Branch}
@@ -31,7 +31,7 @@ use Rattle.tree_form.specs.declared.order.Order.{Order}
 use Rattle.tree_form.specs.declared.order.Order.TheVariants.{Advance, Closest}
 use Rattle.wagner_form.specs.Next.{hangings, taxon_of, advancement, by_advancement, by_closeness, next_by}
 use Rattle.wagner_form.specs.Build.{Built, build_on, build, wagner, wagner_length, wagner_branches}
-use Rattle.wagner_form.specs.Matrix.{matrix_after}
+use Rattle.wagner_form.specs.Matrix.{matrix_after, wagner_in}
 use Rattle.tree_form.specs.Placing.{AfterPlacing, median_row, from_interval, nearest_interval, link_first, hang, place_on, place}
 
 -- taxon, lower end, upper end, HTU, length added
@@ -248,3 +248,9 @@ matrix-written : matrix_after (replicate 645 (pos 9)) 4 (wagner (difference alik
     ≡ replicate 512 (pos 9) ++ (pos 0 ∷ pos 1 ∷ pos 0 ∷ []) ++ replicate 125 (pos 9) ++ (pos 2 ∷ pos 1 ∷ pos 0 ∷ []) ++ replicate 2 (pos 9)
 unfolding shown_by over stripes with_rows matrix_after
 matrix-written = refl
+
+-- a lent matrix of two taxa with one character, in which they are 5 apart, of weight 3: its build is that of its rows by this weight
+built-lent : wagner_in Closest (matrix_of (pos 2 ∷ replicate 127 (pos 9) ++ pos 7 ∷ []) (3 ∷ [])) 2 1
+    ≡ wagner (difference (3 ∷ [])) Closest 2 ((pos 2 ∷ []) ∷ (pos 7 ∷ []) ∷ [])
+unfolding wagner_in rows_of row numbers
+built-lent = refl
