@@ -34,7 +34,7 @@ use Rattle.wagner_form.specs.Build.{wagner}
 use Rattle.consistency_form.specs.Floor.{floor}
 use Rattle.fit_form.specs.Sets.{In}
 use Rattle.matrix_form.specs.Spans.{only, singles}
-use Rattle.fit_form.proofs.Sets.Single.{only_code}
+use Rattle.fit_form.proofs.Sets.Single.{only_code, code-only}
 use Rattle.fit_form.proofs.Matrix.Proper.{code_of, character-single, singles_proper}
 use Rattle.fit_form.specs.Assignments.{IsAssignment, IsLeast, Occurs, total}
 use Rattle.fit_form.specs.Fit.{chosen_state, range, fitted_length, fitted_total, marked}
@@ -156,10 +156,18 @@ module _ (n m : ℕ) (weights : List ℕ) (rows : List (List ℤ)) (matrix : Acc
     floor_below_every_total = (floor_lowest n m weights rows matrix).least tree whole
 
     -- an assignment gives a taxon its code
-    code_kept : (states : ℕ → ℕ → ℤ) → IsAssignment (singles rows) n m states
+    pub code_kept : (states : ℕ → ℕ → ℤ) → IsAssignment (singles rows) n m states
         → (v j : ℕ) → 1 ≤ v → v ≤ n → 1 ≤ j → j ≤ m → states v j ≡ code_of rows j v
     code_kept states h v j p q r l =
         only_code (states v j) (code_of rows j v) (subst (In (states v j)) (character-single rows j v) (h.keeps v j p q r l))
+
+    -- and states that give each taxon its code are an assignment
+    pub codes_assigned : (states : ℕ → ℕ → ℤ) → ((v j : ℕ) → 1 ≤ v → v ≤ n → 1 ≤ j → j ≤ m → states v j ≡ code_of rows j v)
+        → IsAssignment (singles rows) n m states
+    codes_assigned states kept = record {
+      keeps = λ v j p q r l.
+          subst (In (states v j)) (sym (character-single rows j v)) (code-only (states v j) (code_of rows j v) (kept v j p q r l));
+    }
 
     -- so a taxon's range is its code alone
     pub taxon_range_code : (v j : ℕ) (s : ℤ) → 1 ≤ v → v ≤ n → 1 ≤ j → j ≤ m
